@@ -1,5 +1,4 @@
 /* Code is judged, put into memory by the acts of its creation, and made executable. TRUSTED, NOT PROVED. [1 to 5, 11, 12, 28 to 31] */
-#define NC_FAULT_NAMES
 #include "inner.h"
 
 #include <stdlib.h>
@@ -8,10 +7,9 @@
 
 #define BUNDLES_IN_PAGE (PAGE / NC_BUNDLE)
 
-/* The region is as small as the code allows. The guard is its last bundle, and a segment ends at the end of a page [7]. */
-static uint32_t bundles_for(const Image *image) {
-    uint32_t bundles = (image->code_at + image->code_len - NC_START) / NC_BUNDLE + 1;
-    bundles = (bundles + BUNDLES_IN_PAGE - 1) / BUNDLES_IN_PAGE * BUNDLES_IN_PAGE;
+/* The region is as small as it can be. The guard is its last bundle, and a segment ends at the end of a page. */
+uint32_t ncs_bundles_for(uint32_t bundles) {
+    bundles = (bundles / BUNDLES_IN_PAGE + 1) * BUNDLES_IN_PAGE;
     return bundles < NC_MAX_BUNDLES ? bundles : NC_MAX_BUNDLES;
 }
 
@@ -26,55 +24,39 @@ static void lay_trampoline(uint8_t *text, uint32_t k) {
     memcpy(to + 10, &selector, 2);
 }
 
-/* The puts of a creation, in their order. The memory isn't executable yet, and a thread serializes on its way in, so to settle is to wait
-   for nobody [28, 29, 30, 31]. */
-static void make_acts(uint8_t *text, const Image *image, const NcAct *acts, size_t count) {
-    const uint8_t *code = image->bytes + image->code_offset;
-    size_t i;
-    for (i = 0; i < count; i++) {
-        uint32_t k;
-        for (k = 0; acts[i].kind == NC_PUT_RUN && k < NC_BUNDLE; k++) {
-            if (acts[i].value >> k & 1) {
-                __atomic_store_n(text + acts[i].at + k, code[acts[i].at + k - image->code_at], __ATOMIC_SEQ_CST);
-            }
-        }
-    }
-}
-
-/* Under ncs_lock. Whether the text is there: stops everywhere but for trampolines and code, with no writable mapping of it [1, 2, 3, 4]. */
-static int map_text(NcsModule *m, const NcAct *acts, size_t count) {
-    uint8_t *text;
+void ncs_text_lay(uint8_t *text, uint32_t limit) {
     uint32_t k;
-    m->text_at = ncs_low_new(m->limit, PROT_READ | PROT_WRITE);
-    if (m->text_at == 0) {
-        return 0;
-    }
-    text = (uint8_t *)(uintptr_t)m->text_at;
-    memset(text, NC_STOP, m->limit);
+    memset(text, NC_STOP, limit);
     lay_trampoline(text, OUT_RETURN);
     lay_trampoline(text, OUT_EXIT);
     for (k = OUT_CALLBACK; k < OUT_END; k++) {
         lay_trampoline(text, k);
     }
-    make_acts(text, &m->image, acts, count);
-    m->selector = ncs_segment_code(m->text_at, m->limit);
-    return m->selector != 0 && ncs_low_seal(m->text_at, m->limit);
 }
 
-static int refuse_code(NcsRefusal *why, NcChange judged) {
-    ncs_refuse(why, judged.fault == NC_OUT_OF_MEMORY ? NCS_NO_MEMORY : NCS_BAD_CODE, nc_fault_sentence(judged.fault));
-    if (why != NULL) {
-        why->fault = judged.fault;
-        why->at = judged.at;
+/* Under ncs_lock. Whether the text is there, with no writable mapping of it. The acts of the creation are made in their order. The memory
+   isn't executable yet, and a thread serializes on its way in, so to settle is to wait for nobody [1, 2, 3, 28, 29, 31]. */
+static int map_text(NcsModule *m, const NcAct *acts, size_t count) {
+    uint8_t *text;
+    size_t i;
+    m->text_at = ncs_low_new(m->limit, PROT_READ | PROT_WRITE, -1);
+    if (m->text_at == 0) {
+        return 0;
     }
-    return 0;
+    text = (uint8_t *)(uintptr_t)m->text_at;
+    ncs_text_lay(text, m->limit);
+    for (i = 0; i < count; i++) {
+        ncs_put_act(text, &acts[i], m->image.bytes + m->image.code_offset, m->image.code_at);
+    }
+    m->selector = ncs_segment_code(m->text_at, m->limit);
+    return m->selector != 0 && ncs_low_seal(m->text_at, m->limit);
 }
 
 /* The verdict, and then the acts of the creation. Nothing is ever patched or deleted, so the region isn't needed once they are told, and no
    seat would hold anything back [5, 16, 17, 18]. */
 static int judge(NcsModule *m, NcAct *acts, size_t room, size_t *count, NcsRefusal *why) {
     const Image *image = &m->image;
-    uint32_t bundles = bundles_for(image);
+    uint32_t bundles = ncs_bundles_for((image->code_at + image->code_len - NC_START) / NC_BUNDLE);
     NcRegion region = {0};
     NcChange change = {0, 0, 0};
     change.fault = nc_region_new(bundles, 1, &region);
@@ -87,7 +69,7 @@ static int judge(NcsModule *m, NcAct *acts, size_t room, size_t *count, NcsRefus
     nc_region_free(&region);
     m->limit = NC_LIMIT(bundles);
     *count = change.count;
-    return change.fault == NC_OK || refuse_code(why, change);
+    return change.fault == NC_OK || ncs_refuse_fault(why, NCS_BAD_CODE, change.fault, change.at);
 }
 
 /* Whether the code is accepted, and there. */
@@ -109,8 +91,7 @@ static int load(NcsModule *m, NcsRefusal *why) {
     return made;
 }
 
-/* A module with a copy of these bytes, and no code yet. */
-static NcsModule *module_new(const void *bytes, size_t len, NcsRefusal *why) {
+NcsModule *ncs_module_new(const void *bytes, size_t len, NcsRefusal *why) {
     NcsModule *m = calloc(1, sizeof *m);
     ncs_refuse(why, NCS_OK, "nothing is refused");
     if (m == NULL || (m->image.bytes = malloc(len + 1)) == NULL) {
@@ -126,7 +107,7 @@ static NcsModule *module_new(const void *bytes, size_t len, NcsRefusal *why) {
 }
 
 NcsModule *ncs_module_elf(const void *file, size_t len, NcsRefusal *why) {
-    NcsModule *m = module_new(file, len, why);
+    NcsModule *m = ncs_module_new(file, len, why);
     const char *wrong = m != NULL ? ncs_elf_read(&m->image) : NULL;
     if (wrong != NULL) {
         ncs_refuse(why, NCS_BAD_FILE, wrong);
@@ -141,10 +122,10 @@ NcsModule *ncs_module_elf(const void *file, size_t len, NcsRefusal *why) {
 NcsModule *ncs_module_code(const void *code, size_t len, NcsRefusal *why) {
     NcsModule *m;
     if (len > NC_LIMIT(NC_MAX_BUNDLES)) {
-        ncs_refuse(why, NCS_BAD_CODE, nc_fault_sentence(NC_OUT_OF_RANGE));
+        ncs_refuse_fault(why, NCS_BAD_CODE, NC_OUT_OF_RANGE, 0);
         return NULL;
     }
-    m = module_new(code, len, why);
+    m = ncs_module_new(code, len, why);
     if (m == NULL) {
         return NULL;
     }
@@ -167,6 +148,7 @@ void ncs_module_drop(NcsModule *m) {
     if (--m->users == 0) {
         ncs_segment_free(m->selector);
         ncs_low_free(m->text_at, m->limit);
+        ncs_live_free(m);
         free(m->image.bytes);
         free(m);
     }

@@ -1,4 +1,4 @@
-/* The library of sandbox/ as a host for the kit. */
+/* The library of sandbox/ as a host for the kit; with KIT_LIVE its live code. */
 #define _GNU_SOURCE
 #include "kit.h"
 
@@ -8,10 +8,14 @@
 #include <stdlib.h>
 #include <string.h>
 
+#ifndef KIT_LIVE
+#define KIT_LIVE 0
+#endif
 #define STUB_AT NC_START            /* the function that is called; the code stands behind it */
-#define DATA_AT 0x30000u            /* the stack is below */
-#define MEMORY 0x5F000u             /* no other box begins directly behind it */
+#define DATA_AT (KIT_LIVE ? 0x110000u : 0x30000u) /* the stack is below */
+#define MEMORY (DATA_AT + 0x2F000u) /* no other box begins directly behind it */
 #define FILE_ROOM (KIT_CODE_MAX + 4096)
+#define LIVE_BUNDLES 127u
 
 static uint64_t plain(NcsBox *box, void *user, const uint32_t *args) {
     (void)box;
@@ -49,6 +53,19 @@ static size_t lay_file(uint8_t *to, const uint8_t *code, uint32_t len) {
     return sizeof h + sizeof p + all;
 }
 
+static NcsModule *make_live(const uint8_t *code, uint32_t len) {
+    uint8_t all[NC_BUNDLE + KIT_CODE_MAX];
+    NcsAt at = {STUB_AT};
+    NcsModule *module = ncs_module_live(LIVE_BUNDLES, NULL);
+    lay_stub(all);
+    memcpy(all + NC_BUNDLE, code, len);
+    if (module != NULL && !ncs_create(module, at, all, NC_BUNDLE + len, NULL)) {
+        ncs_module_free(module);
+        return NULL;
+    }
+    return module;
+}
+
 static NcsBox *make_box(NcsModule *module) {
     static const NcsLimits limits = {.memory = MEMORY, .depth = 16, .milliseconds = 1};
     NcsBox *box = module != NULL ? ncs_box_new(module, &limits, NULL) : NULL;
@@ -61,7 +78,7 @@ static NcsBox *make_box(NcsModule *module) {
 /* The box keeps its module. */
 static int load(KitBox *to, const uint8_t *code, uint32_t len) {
     uint8_t file[FILE_ROOM];
-    NcsModule *module = ncs_module_elf(file, lay_file(file, code, len), NULL);
+    NcsModule *module = KIT_LIVE ? make_live(code, len) : ncs_module_elf(file, lay_file(file, code, len), NULL);
     NcsBox *box = make_box(module);
     ncs_module_free(module);
     if (box == NULL) {
@@ -95,8 +112,11 @@ static int renew(KitBox *box) {
     return ncs_reset(box->own);
 }
 
+/* No thread is inside, so a deleted chunk is free at once. */
 static void drop(KitBox *box) {
-    if (!ncs_free(box->own)) {
+    NcsBox *own = box->own;
+    NcsAt at = {STUB_AT};
+    if ((KIT_LIVE && (!ncs_delete(own->module, at, NULL) || ncs_reclaim(own->module) != 1)) || !ncs_free(own)) {
         abort();
     }
 }
@@ -115,5 +135,5 @@ static const char *begin(void) {
 
 static const uint32_t CALLS[] = {NCS_CALLBACK(0), NCS_CALLBACK(1)};
 
-const KitHost kit_host = {.name = "boxes", .way_out = NC_BUNDLE * OUT_RETURN, .calls = CALLS, .call_count = 2, .begin = begin, .load = load,
-                       .run = run, .renew = renew, .drop = drop, .is_trampoline = is_trampoline};
+const KitHost kit_host = {.name = "boxes", .way_out = NC_BUNDLE * OUT_RETURN, .calls = CALLS, .call_count = 2, .live = KIT_LIVE,
+                          .begin = begin, .load = load, .run = run, .renew = renew, .drop = drop, .is_trampoline = is_trampoline};

@@ -30,7 +30,7 @@ typedef struct Told {
 
 static uint8_t file[FILE_ROOM], code[CODE_LEN];
 static size_t file_len;
-static NcsModule *module, *made_module;
+static NcsModule *module, *live, *made_module;
 static NcsBox *box, *made_box;
 static Told *told; /* shared with the children */
 
@@ -75,6 +75,56 @@ static int make_box(unsigned nth, int later, int *which) {
 
 static void undo_box(void) {
     CHECK(ncs_free(made_box));
+}
+
+static int make_live(unsigned nth, int later, int *which) {
+    NcsRefusal why;
+    refusing_begin(nth, later);
+    made_module = ncs_module_live(2, &why);
+    *which = refusing_end();
+    return outcome(made_module != NULL, *which, &why);
+}
+
+/* Changes of a live module, which has a chunk of one bundle while none of them is under way. */
+static const NcsAt CHUNK = {CODE_AT}, NEXT = {CODE_AT + 32};
+
+static int make_creation(unsigned nth, int later, int *which) {
+    NcsRefusal why;
+    int made;
+    refusing_begin(nth, later);
+    made = ncs_create(live, NEXT, code, 32, &why);
+    *which = refusing_end();
+    return outcome(made, *which, &why);
+}
+
+static void undo_creation(void) {
+    CHECK(ncs_delete(live, NEXT, NULL) && ncs_reclaim(live) == 1);
+}
+
+static int make_patch(unsigned nth, int later, int *which) {
+    NcsRefusal why;
+    int made;
+    refusing_begin(nth, later);
+    made = ncs_patch(live, CHUNK, "\x5A", 1, &why); /* pop edx */
+    *which = refusing_end();
+    return outcome(made, *which, &why);
+}
+
+static void undo_patch(void) {
+    CHECK(ncs_patch(live, CHUNK, code, 1, NULL));
+}
+
+static int make_deletion(unsigned nth, int later, int *which) {
+    NcsRefusal why;
+    int made;
+    refusing_begin(nth, later);
+    made = ncs_delete(live, CHUNK, &why);
+    *which = refusing_end();
+    return outcome(made, *which, &why);
+}
+
+static void undo_deletion(void) {
+    CHECK(ncs_reclaim(live) == 1 && ncs_create(live, CHUNK, code, 32, NULL));
 }
 
 static int returns(NcsBox *one) {
@@ -185,7 +235,7 @@ static void refuse_each(const Request *r) {
 
 /* The process's first module takes more. What stays, such as handlers, is as in a child that was refused nothing. */
 static void be_child(const Request *r, unsigned nth, int later, const Holding *wanted) {
-    Told t = {{0, 0, 0, 0}, 0, 0, 0};
+    Told t = {{0, 0, 0, 0, 0}, 0, 0, 0};
     t.ended = r->make(nth, later, &t.which);
     if (t.ended == GRANTED) {
         r->undo();
@@ -249,7 +299,11 @@ int main(void) {
                                        {"a module of code alone", make_code, undo_module},
                                        {"a box", make_box, undo_box},
                                        {"the first call of a thread", make_first_call, undo_nothing},
-                                       {"a reset", make_reset, undo_nothing}};
+                                       {"a reset", make_reset, undo_nothing},
+                                       {"live code", make_live, undo_module},
+                                       {"a creation", make_creation, undo_creation},
+                                       {"a patch", make_patch, undo_patch},
+                                       {"a deletion", make_deletion, undo_deletion}};
     size_t k;
     memset(code, 0x90, sizeof code);
     memcpy(code, returning, sizeof returning);
@@ -261,6 +315,8 @@ int main(void) {
     refuse_first(&first);
     module = testing_module(code);
     box = testing_box(module);
+    live = ncs_module_live(2, NULL);
+    CHECK(live != NULL && ncs_create(live, CHUNK, code, 32, NULL));
     for (k = 0; k < sizeof requests / sizeof *requests; k++) {
         refuse_each(&requests[k]);
     }

@@ -3,6 +3,7 @@
 
 #include <asm/ldt.h>
 #include <errno.h>
+#include <linux/membarrier.h>
 #include <pthread.h>
 #include <signal.h>
 #include <stdarg.h>
@@ -13,7 +14,7 @@
 #include <unistd.h>
 
 int refusing_releases;
-static long blocks, mapped, timers;
+static long blocks, mapped, timers, files;
 static __thread unsigned nth, made;
 static __thread int later, first = -1;
 
@@ -71,6 +72,10 @@ REAL(void *, realloc, void *old, size_t len) {
     return old == NULL ? counted(got) : got;
 }
 
+REAL(void *, aligned_alloc, size_t to, size_t len) {
+    return refuses(REFUSES_aligned_alloc) ? NULL : counted(__real_aligned_alloc(to, len));
+}
+
 REAL(void, free, void *block) {
     count(&blocks, -(block != NULL));
     __real_free(block);
@@ -97,6 +102,26 @@ REAL(int, mprotect, void *at, size_t len, int protection) {
 
 REAL(int, madvise, void *at, size_t len, int advice) {
     return refuses(REFUSES_madvise) ? -1 : __real_madvise(at, len, advice);
+}
+
+REAL(int, memfd_create, const char *name, unsigned flags) {
+    int got = refuses(REFUSES_memfd_create) ? -1 : __real_memfd_create(name, flags);
+    count(&files, got >= 0);
+    return got;
+}
+
+REAL(int, fallocate, int file, int mode, off_t from, off_t len) {
+    return refuses(REFUSES_fallocate) ? -1 : __real_fallocate(file, mode, from, len);
+}
+
+REAL(int, close, int file) {
+    int got = __real_close(file);
+    count(&files, -(got == 0));
+    return got;
+}
+
+REAL(int, pthread_mutex_init, pthread_mutex_t *lock, const pthread_mutexattr_t *how) {
+    return refuses(REFUSES_pthread_mutex_init) ? ENOMEM : __real_pthread_mutex_init(lock, how);
 }
 
 REAL(int, sigaction, int sig, const struct sigaction *to, struct sigaction *was) {
@@ -162,13 +187,15 @@ long __wrap_syscall(long number, ...) {
         refused = is_release(words) ? refusing_releases : refuses(REFUSES_modify_ldt);
     } else if (number == SYS_rt_sigaction) {
         refused = refuses(REFUSES_rt_sigaction);
+    } else if (number == SYS_membarrier && (int)words[0] == MEMBARRIER_CMD_REGISTER_PRIVATE_EXPEDITED_SYNC_CORE) {
+        refused = refuses(REFUSES_membarrier);
     }
     return refused ? -1 : __real_syscall(number, words[0], words[1], words[2], words[3]);
 }
 
 Holding refusing_holding(void) {
     static unsigned long table[LDT_ENTRIES];
-    Holding h = {blocks, mapped, 0, timers};
+    Holding h = {blocks, mapped, 0, timers, files};
     long len = __real_syscall(SYS_modify_ldt, 0L, table, sizeof table, 0L), k;
     for (k = 0; k < len / (long)sizeof *table; k++) {
         h.segments += table[k] != 0;

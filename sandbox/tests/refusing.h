@@ -4,10 +4,12 @@
 
 #include <stddef.h>
 
-/* What is refused: memory; what a process needs before its first module; what a thread needs. modify_ldt and rt_sigaction are system calls
-   that the library makes by `syscall`. What gives something back is refused only where that is asked for. */
-#define REFUSABLE(X) X(malloc) X(calloc) X(realloc) X(mmap) X(mprotect) X(madvise) X(modify_ldt) X(rt_sigaction) X(sigaction) \
-    X(sigaltstack) X(pthread_sigmask) X(pthread_key_create) X(pthread_setspecific) X(pthread_atfork) X(timer_create) X(timer_settime)
+/* What is refused: memory; what a process needs before its first module; what a thread needs. modify_ldt, rt_sigaction and membarrier are
+   system calls that the library makes by `syscall`; of the last, the registration. What gives something back is refused only where that is
+   asked for. */
+#define REFUSABLE(X) X(malloc) X(calloc) X(realloc) X(aligned_alloc) X(mmap) X(mprotect) X(madvise) X(memfd_create) X(fallocate) \
+    X(pthread_mutex_init) X(modify_ldt) X(rt_sigaction) X(membarrier) X(sigaction) X(sigaltstack) X(pthread_sigmask) \
+    X(pthread_key_create) X(pthread_setspecific) X(pthread_atfork) X(timer_create) X(timer_settime)
 #define AS_NUMBER(name) REFUSES_##name,
 enum { REFUSABLE(AS_NUMBER) REFUSABLES };
 
@@ -22,7 +24,7 @@ extern int refusing_releases;
 
 /* What the process has. */
 typedef struct Holding {
-    long blocks, mapped, segments, timers;
+    long blocks, mapped, segments, timers, files;
 } Holding;
 Holding refusing_holding(void);
 

@@ -1,0 +1,24 @@
+/* What the library does, step by step: the text at each settling and at each stamp. And failures of the system's, on demand. */
+#ifndef WATCHING_H
+#define WATCHING_H
+
+#include "codes.h"
+
+#define STEPS 8u
+#define SEEN (2 * BUNDLE) /* bytes from HERE on */
+
+typedef struct Step {
+    int stamp; /* else it is a settling */
+    uint64_t changes;
+    uint8_t bytes[SEEN];
+} Step;
+
+extern NcsModule *watching_module; /* whose steps are noted, or NULL */
+extern Step watching_steps[STEPS];
+extern unsigned watching_count;
+extern unsigned watching_fail_settlings; /* so many settlings fail */
+extern int watching_refuse; /* the number of a call of the system that is refused, with watching_errno; 0 for none */
+extern int watching_errno;
+extern long watching_fail_after; /* so many allocations succeed, and one fails; below 0 none does */
+
+#endif
