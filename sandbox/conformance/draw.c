@@ -1,4 +1,4 @@
-/* Random code: docs/EMBEDDING.md says what an instruction in a chunk has to be like, and the host judges each chunk when it loads it. */
+/* Random code. It is made so that it is permitted, and the host judges it when it is loaded. */
 #include "draw.h"
 
 #include <string.h>
@@ -29,9 +29,9 @@ uint32_t draw_number(Draw *d, const KitBox *box) {
                                 kit_other.data_base + kit_other.data_at - box->data_base,
                                 box->code_base + box->code_at - box->data_base, kit_host.way_out};
     uint32_t kind = draw(d, 10), near = draw(d, 3) == 0 ? draw(d, 2 * KIT_PAGE) - KIT_PAGE : draw(d, 17) - 8;
-    return kind == 9       ? word(d)
+    return kind == 9      ? word(d)
          : kind < d->tame ? box->data_at + draw(d, box->data_limit - box->data_at)
-                     : numbers[draw(d, sizeof numbers / sizeof *numbers)] + near;
+                          : numbers[draw(d, sizeof numbers / sizeof *numbers)] + near;
 }
 
 /* The place of some bundle of the code, mostly one behind this one, or the one behind the code. Few runs are to be loops. */
@@ -71,7 +71,7 @@ static int put_with(Bundle *b, uint8_t opcode, uint32_t number) {
     return put(b, bytes, sizeof bytes);
 }
 
-/* Any instruction that the decoder permits, and that transfers nowhere. Four bytes or more that end it are a number. */
+/* Any instruction that the decoder permits, and that transfers nowhere. In a long one, the last four bytes are a number of 32 bits. */
 static int put_any(Draw *d, Bundle *b) {
     static const uint8_t prefixes[] = {0x66, 0xF0, 0xF2, 0xF3};
     uint32_t number = draw(d, 2) == 0 ? draw_number(d, d->like) : draw(d, 256) - 128, k = 0, at;
@@ -168,7 +168,7 @@ static int put_masked(Draw *d, Bundle *b) {
     return put(b, pair, sizeof pair);
 }
 
-/* A jump to a call of the host: with any stack pointer; or mostly on a stack of the box's, with an argument and an address to return to. */
+/* A jump to a call of the host, mostly on a stack of the box's with an argument and an address to return to; or with any stack pointer. */
 static int put_call(Draw *d, Bundle *b) {
     uint32_t call = kit_host.call_count != 0 ? kit_host.calls[draw(d, kit_host.call_count)] : kit_host.way_out;
     uint32_t esp = d->like->data_at + 16 + draw(d, d->like->data_limit - d->like->data_at - 16), kind = draw(d, 8);

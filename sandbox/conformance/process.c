@@ -18,7 +18,7 @@
 typedef struct Map {
     uint64_t from, to;
     char can[5];
-    char file[32]; /* offset, device and number */
+    char file[32]; /* its device and number; a blank begins the one of memory without a file */
     int named;     /* a file of the file system, as the host's own code is */
 } Map;
 

@@ -9,8 +9,8 @@
 
 #define BUNDLES 12u
 #define LEN (BUNDLES * NC_BUNDLE)
-#define RUNS 24u         /* of a chunk */
-#define LOOKS_EACH 32u   /* chunks to one look at the process */
+#define RUNS 24u       /* of a chunk */
+#define LOOKS_EACH 32u /* chunks to one look at the process */
 
 typedef struct Counts {
     unsigned long chunks, runs, ends[KIT_OTHERWISE + 1];
@@ -35,11 +35,12 @@ static int may_stand(const KitBox *box, const uint8_t *marks, uint32_t place) {
 static const char *judge(const KitBox *box, const uint8_t *code, const uint8_t *marks, KitEnd end) {
     uint32_t at = end.place - box->code_at;
     int stands = end.how == KIT_STOPPED || end.how == KIT_FAULTED || end.how == KIT_LATE;
-    return end.how >= KIT_OTHERWISE                                                ? "ANOTHER END"
-         : stands && !may_stand(box, marks, end.place)                         ? "NO INSTRUCTION IS AT ITS PLACE"
-         : end.how == KIT_STOPPED && at < box->code_len && code[at] != NC_STOP     ? "NO STOP IS AT ITS PLACE"
-         : kit_missed_limit(box, end)                                          ? "A PAGE FAULT BEYOND A LIMIT"
-                                                                               : kit_harm;
+    int is_no_stop = end.how == KIT_STOPPED && at < box->code_len && code[at] != NC_STOP;
+    return end.how >= KIT_OTHERWISE                    ? "ANOTHER END"
+         : stands && !may_stand(box, marks, end.place) ? "NO INSTRUCTION IS AT ITS PLACE"
+         : is_no_stop                                  ? "NO STOP IS AT ITS PLACE"
+         : kit_missed_limit(box, end)                  ? "A PAGE FAULT BEYOND A LIMIT"
+                                                       : kit_harm;
 }
 
 static const char *run_chunk(Draw *d, KitBox *box, const uint8_t *code, Counts *counts) {
@@ -65,7 +66,7 @@ static const char *run_chunk(Draw *d, KitBox *box, const uint8_t *code, Counts *
     return wrong;
 }
 
-/* One that is wrong is written out. The canaries behind the limits have no access: what comes there is a page fault. */
+/* A chunk that goes wrong is written out. Nothing may access the pages behind the limits: what comes there is a page fault. */
 static const char *try_chunk(Draw *d, uint64_t seed, Counts *counts) {
     uint8_t code[LEN];
     const char *wrong;
@@ -74,7 +75,7 @@ static const char *try_chunk(Draw *d, uint64_t seed, Counts *counts) {
     d->random = (seed + 1) * 0x9E3779B97F4A7C15ull;
     draw_code(d, code, LEN);
     if (!kit_load(&box, code, LEN, PROT_NONE)) {
-        wrong = "CODE IS KIT_REFUSED THAT IS PERMITTED";
+        wrong = "CODE IS REFUSED THAT IS PERMITTED";
     } else {
         wrong = run_chunk(d, &box, code, counts);
         wrong = wrong == NULL && counts->chunks % LOOKS_EACH == LOOKS_EACH - 1 ? kit_judge_process(&box) : wrong;

@@ -16,6 +16,7 @@
 #define ROOM 0x120000u
 #define STEP 37u       /* microseconds from one kill to the next, modulo LONGEST: in time each number of them */
 #define LONGEST 20011u /* two ticks */
+#define LEAST 50u      /* rounds of kills, and calls of a worker, however busy the machine is */
 #define AT(bundle) (CODE_AT + 32u * (bundle))
 
 /* Functions, by their bundles. */
@@ -153,7 +154,7 @@ static unsigned try_kills(double until) {
     for (k = 0; k < 3; k++) {
         begin_victim(&victims[k], module, functions[k]);
     }
-    for (rounds = 0; now() < until; rounds++) {
+    for (rounds = 0; now() < until || rounds < LEAST; rounds++) {
         double end = now() + 1e-6 * (rounds * STEP % LONGEST);
         for (k = 0; k < 3; k++) {
             CHECK(sem_post(&victims[k].begins) == 0);
@@ -208,7 +209,7 @@ static void *work(void *given) {
     NcsBox *last;
     unsigned calls = 0;
     replace_box(w, &module, &calls);
-    while (now() < w->until) {
+    while (now() < w->until || w->calls < LEAST) {
         uint32_t drawn = next_random(&w->random);
         unsigned function = functions[drawn % (sizeof functions / sizeof *functions)];
         int killed = call_one(w->box, function, drawn);
