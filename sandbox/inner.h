@@ -168,7 +168,7 @@ struct NcsBox {
 
 NcsModule *ncs_module_new(const void *bytes, size_t len, NcsRefusal *why); /* with a copy of these bytes, and no text yet */
 uint32_t ncs_bundles_for(uint32_t bundles); /* of the region whose guard is behind so many [7] */
-void ncs_text_lay(uint8_t *text, uint32_t limit); /* stops everywhere but for trampolines [4, 11] */
+void ncs_text_lay(const NcsModule *module, uint8_t *text); /* stops everywhere but for trampolines [4, 11] */
 void ncs_module_drop(NcsModule *module); /* one user less; under ncs_lock */
 int ncs_box_claim(NcsBox *box, Thread *thread);
 void ncs_box_release(NcsBox *box);

@@ -11,6 +11,10 @@
 #include <sys/syscall.h>
 #include <unistd.h>
 
+#ifndef MFD_NOEXEC_SEAL
+#define MFD_NOEXEC_SEAL 8u
+#endif
+
 /* ---- Seats. A thread has one while it is inside, from just before its way in. Of seats that no thread has whoever reclaims checks in, so
    they hold nothing back. */
 
@@ -95,9 +99,16 @@ uint32_t ncs_seats_reclaim(Live *live) {
 
 /* ---- The module */
 
-/* The text as a file without a name, or -1. Its pages are taken now, so no later store finds no memory. */
+/* A file without a name. It is no program, which some systems ask for; its pages may be executed all the same. Older kernels don't know
+   this. */
+static int nameless_file(void) {
+    int file = memfd_create("nc_sandbox", MFD_CLOEXEC | MFD_NOEXEC_SEAL);
+    return file < 0 && errno == EINVAL ? memfd_create("nc_sandbox", MFD_CLOEXEC) : file;
+}
+
+/* A file for the text, or -1. Its pages are taken now, so no later store finds no memory. */
 static int make_file(uint32_t len, NcsRefusal *why) {
-    int file = memfd_create("nc_sandbox", MFD_CLOEXEC);
+    int file = nameless_file();
     if (file < 0 && errno != EMFILE && errno != ENFILE && errno != ENOMEM) {
         ncs_refuse(why, NCS_BAD_SYSTEM, "the system has no files in memory");
     } else if (file < 0 || fallocate(file, 0, 0, len) != 0) {
@@ -130,7 +141,7 @@ static int map_twice(NcsModule *m, int file) {
     if (m->live->writable == NULL) {
         return 0;
     }
-    ncs_text_lay(m->live->writable, m->limit);
+    ncs_text_lay(m, m->live->writable);
     m->text_at = ncs_low_new(m->limit, PROT_READ | PROT_EXEC, file);
     m->selector = m->text_at != 0 ? ncs_segment_code(m->text_at, m->limit) : 0;
     return m->selector != 0;

@@ -24,9 +24,9 @@ static void lay_trampoline(uint8_t *text, uint32_t k) {
     memcpy(to + 10, &selector, 2);
 }
 
-void ncs_text_lay(uint8_t *text, uint32_t limit) {
+void ncs_text_lay(const NcsModule *m, uint8_t *text) {
     uint32_t k;
-    memset(text, NC_STOP, limit);
+    memset(text, NC_STOP, m->limit);
     lay_trampoline(text, OUT_RETURN);
     lay_trampoline(text, OUT_EXIT);
     for (k = OUT_CALLBACK; k < OUT_END; k++) {
@@ -44,7 +44,7 @@ static int map_text(NcsModule *m, const NcAct *acts, size_t count) {
         return 0;
     }
     text = (uint8_t *)(uintptr_t)m->text_at;
-    ncs_text_lay(text, m->limit);
+    ncs_text_lay(m, text);
     for (i = 0; i < count; i++) {
         ncs_put_act(text, &acts[i], m->image.bytes + m->image.code_offset, m->image.code_at);
     }
@@ -92,8 +92,12 @@ static int load(NcsModule *m, NcsRefusal *why) {
 }
 
 NcsModule *ncs_module_new(const void *bytes, size_t len, NcsRefusal *why) {
-    NcsModule *m = calloc(1, sizeof *m);
+    NcsModule *m;
+    if (ncs_forked) { /* nothing of nc_host's may be called there [27] */
+        return ncs_refuse(why, NCS_BAD_SYSTEM, "this is a forked child");
+    }
     ncs_refuse(why, NCS_OK, "nothing is refused");
+    m = calloc(1, sizeof *m);
     if (m == NULL || (m->image.bytes = malloc(len + 1)) == NULL) {
         free(m);
         return ncs_refuse(why, NCS_NO_MEMORY, "out of memory");

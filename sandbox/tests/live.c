@@ -155,6 +155,17 @@ static void try_faults(NcsModule *m, NcsBox *box) {
     fault_in(m, box, code, THERE + JUMP, GENERAL_PROTECTION);
 }
 
+/* What is put was judged, even if another thread changes the lent code meanwhile. */
+static void create_lent(NcsModule *m) {
+    uint8_t code[BUNDLE], judged[BUNDLE];
+    codes_number(code, 6);
+    memcpy(judged, code, sizeof judged);
+    watching_lent = code + BUNDLE - 1;
+    CHECK(codes_create(m, THERE, code, sizeof code) && memcmp(code, judged, sizeof code) != 0);
+    watching_lent = NULL;
+    CHECK(memcmp(codes_text(m, THERE), judged, sizeof judged) == 0 && codes_delete(m, THERE) && ncs_reclaim(m) == 1);
+}
+
 static void try_changes(void) {
     NcsModule *m = codes_module(BUNDLES);
     NcsBox *box = codes_box(m, SHORT);
@@ -169,6 +180,7 @@ static void try_changes(void) {
     CHECK(ncs_reclaim(m) == 1 && ncs_reclaim(m) == 0 && codes_create_number(m, HERE, 9) && codes_returns(box, HERE, 9));
     CHECK(codes_create_number(m, THERE, 3) && codes_create_number(m, THERE + BUNDLE, 4));
     CHECK(codes_delete(m, THERE) && codes_delete(m, THERE + BUNDLE) && ncs_reclaim(m) == 2 && codes_returns(box, HERE, 9));
+    create_lent(m);
     try_faults(m, box);
     CHECK(codes_returns(box, HERE, 9));
     codes_end(m, box);
@@ -294,6 +306,7 @@ static void refuse_module(int number, int error, uint32_t kind) {
     Maps before_it = read_maps(), maps;
     NcsRefusal why;
     watching_refuse = number;
+    watching_times = 100;
     watching_errno = error;
     CHECK(ncs_module_live(BUNDLES, &why) == NULL && why.kind == kind && why.fault == 0 && why.sentence != NULL);
     watching_refuse = 0;
@@ -308,7 +321,12 @@ static void try_system(void) {
     refuse_module(SYS_fallocate, ENOSPC, NCS_NO_MEMORY);
     refuse_module(SYS_madvise, EINVAL, NCS_NO_MEMORY);
     refuse_module(SYS_modify_ldt, ENOMEM, NCS_NO_MEMORY);
+    watching_refuse = SYS_memfd_create; /* as an older kernel does, which doesn't know all flags */
+    watching_times = 1;
+    watching_errno = EINVAL;
     ncs_module_free(codes_module(BUNDLES));
+    CHECK(watching_times == 0);
+    watching_refuse = 0;
     puts("refusals of the system");
 }
 

@@ -12,13 +12,15 @@
 NcsModule *watching_module;
 Step watching_steps[STEPS];
 unsigned watching_count, watching_fail_settlings;
-int watching_refuse, watching_errno;
+uint8_t *watching_lent;
+int watching_refuse, watching_times, watching_errno;
 long watching_fail_after = -1;
 
 long __real_syscall(long number, ...);
 int __real_memfd_create(const char *name, unsigned flags);
 int __real_fallocate(int file, int mode, off_t from, off_t len);
 int __real_madvise(void *at, size_t len, int advice);
+NcChange __real_nc_region_load(NcRegion *region, NcVetted *vetted, NcAct *acts, size_t acts_len);
 NcStamp __real_nc_region_end_delete(NcRegion *region);
 void *__real_malloc(size_t len);
 void *__real_calloc(size_t count, size_t len);
@@ -28,6 +30,7 @@ long __wrap_syscall(long number, ...);
 int __wrap_memfd_create(const char *name, unsigned flags);
 int __wrap_fallocate(int file, int mode, off_t from, off_t len);
 int __wrap_madvise(void *at, size_t len, int advice);
+NcChange __wrap_nc_region_load(NcRegion *region, NcVetted *vetted, NcAct *acts, size_t acts_len);
 NcStamp __wrap_nc_region_end_delete(NcRegion *region);
 void *__wrap_malloc(size_t len);
 void *__wrap_calloc(size_t count, size_t len);
@@ -45,9 +48,10 @@ static void note(int stamp) {
 }
 
 static int refuses(long number) {
-    if (watching_refuse != number) {
+    if (watching_refuse != number || watching_times == 0) {
         return 0;
     }
+    watching_times--;
     errno = watching_errno;
     return 1;
 }
@@ -86,6 +90,13 @@ long __wrap_syscall(long number, ...) {
         note(0);
     }
     return __real_syscall(number, a, b, c, d);
+}
+
+NcChange __wrap_nc_region_load(NcRegion *region, NcVetted *vetted, NcAct *acts, size_t acts_len) {
+    if (watching_lent != NULL) {
+        *watching_lent = 0xC3;
+    }
+    return __real_nc_region_load(region, vetted, acts, acts_len);
 }
 
 NcStamp __wrap_nc_region_end_delete(NcRegion *region) {

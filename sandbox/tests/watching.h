@@ -17,8 +17,9 @@ extern NcsModule *watching_module; /* whose steps are noted, or NULL */
 extern Step watching_steps[STEPS];
 extern unsigned watching_count;
 extern unsigned watching_fail_settlings; /* so many settlings fail */
-extern int watching_refuse; /* the number of a call of the system that is refused, with watching_errno; 0 for none */
-extern int watching_errno;
+extern uint8_t *watching_lent; /* a byte of code that becomes a return once the code was judged, or NULL */
+extern int watching_refuse; /* the number of a call of the system that is refused so many times, with this error; 0 for none */
+extern int watching_times, watching_errno;
 extern long watching_fail_after; /* so many allocations succeed, and one fails; below 0 none does */
 
 #endif
