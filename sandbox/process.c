@@ -65,7 +65,7 @@ void *ncs_refuse(NcsRefusal *why, uint32_t kind, const char *sentence) {
 
 int ncs_refuse_fault(NcsRefusal *why, uint32_t kind, uint32_t fault, uint32_t at) {
     ncs_refuse(why, fault == NC_OUT_OF_MEMORY ? NCS_NO_MEMORY : kind, nc_fault_sentence(fault));
-    if (why != NULL) {
+    if (why != NULL && fault != NC_OUT_OF_MEMORY) {
         why->fault = fault;
         why->at = at;
     }

@@ -119,12 +119,16 @@ static void *guest(void *one) {
 static unsigned long change(unsigned seconds) {
     time_t end = time(NULL) + (time_t)seconds;
     unsigned long n;
+    int stands = 1;
     for (n = 1; time(NULL) < end; n++) {
         uint32_t number = (uint32_t)(n & 0xFF) * 0x01010101u;
         patch(PATCHED, number);
-        if (n % 8 == 0 && ncs_reclaim(live) != 0) {
-            create(REPLACED, 1 + (uint32_t)(n / 8 % MOST), number);
+        if (n % 16 == 0 && stands) {
             must(ncs_delete(live, (NcsAt){REPLACED}, NULL), "a deletion was refused");
+            stands = 0;
+        } else if (n % 16 == 0 && ncs_reclaim(live) != 0) {
+            create(REPLACED, 1 + (uint32_t)(n / 16 % MOST), number);
+            stands = 1;
         }
     }
     return n;
@@ -137,7 +141,6 @@ static int run_threads(unsigned seconds) {
     unsigned k;
     create(PATCHED, 1, 0);
     create(REPLACED, MOST, 0);
-    must(ncs_delete(live, (NcsAt){REPLACED}, NULL), "a deletion was refused");
     for (k = 0; k < THREADS; k++) {
         must(pthread_create(&guests[k].thread, NULL, guest, &guests[k]) == 0, "no thread");
     }
@@ -155,7 +158,9 @@ static int run_threads(unsigned seconds) {
 }
 
 int main(int argc, char **argv) {
-    int refused = argc == 2 || argc == 3 ? run_program(argv[1]) : 2;
+    int refused;
+    must(argc == 2 || argc == 3, "usage: sandbox PROGRAM [SECONDS]");
+    refused = run_program(argv[1]);
     if (refused == 0) {
         live = ncs_module_live(MOST * 3, NULL);
         must(live != NULL, "no live code");

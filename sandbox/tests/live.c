@@ -363,7 +363,7 @@ static unsigned run_short(int (*call)(NcsRefusal *why), int (*undo)(void)) {
         made = call(&why);
         failed = watching_fail_after < 0;
         watching_fail_after = -1;
-        CHECK(made ? why.kind == NCS_OK && undo() : is_refused(scarce, 0, &why, NCS_NO_MEMORY, why.fault));
+        CHECK(made ? why.kind == NCS_OK && undo() : is_refused(scarce, 0, &why, NCS_NO_MEMORY, 0));
         CHECK(made || failed);
         times += !made;
     }

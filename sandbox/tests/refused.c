@@ -304,6 +304,7 @@ int main(void) {
                                        {"a creation", make_creation, undo_creation},
                                        {"a patch", make_patch, undo_patch},
                                        {"a deletion", make_deletion, undo_deletion}};
+    NcsRefusal why;
     size_t k;
     memset(code, 0x90, sizeof code);
     memcpy(code, returning, sizeof returning);
@@ -315,7 +316,11 @@ int main(void) {
     refuse_first(&first);
     module = testing_module(code);
     box = testing_box(module);
-    live = ncs_module_live(2, NULL);
+    live = ncs_module_live(2, &why);
+    if (live == NULL && why.kind == NCS_BAD_SYSTEM) {
+        printf("skipped: requests that are refused: %s\n", why.sentence);
+        return SKIPPED;
+    }
     CHECK(live != NULL && ncs_create(live, CHUNK, code, 32, NULL));
     for (k = 0; k < sizeof requests / sizeof *requests; k++) {
         refuse_each(&requests[k]);
