@@ -140,10 +140,19 @@ void kit_try_stacks(void) {
     kit_drop(&box);
 }
 
+static int is_call(uint32_t place) {
+    unsigned k = 0;
+    while (k < kit_host.call_count && kit_host.calls[k] != place) {
+        k++;
+    }
+    return k < kit_host.call_count;
+}
+
 /* A call of the host may go back to some place, and stop there. */
 static const char *judge_jump(const KitBox *box, uint32_t place, uint32_t how, KitEnd end) {
     if (kit_host.is_trampoline(place)) {
-        return end.how == KIT_CAME_OUT || end.how == KIT_REFUSED || end.how == KIT_STOPPED ? kit_harm : "ANOTHER END";
+        int comes_back = end.how == KIT_STOPPED && is_call(place), goes_out = end.how == KIT_CAME_OUT || place != kit_host.way_out;
+        return comes_back || (goes_out && (end.how == KIT_CAME_OUT || end.how == KIT_REFUSED)) ? kit_harm : "ANOTHER END";
     }
     return end.how != how || end.trap != KIT_GENERAL_PROTECTION               ? "ANOTHER END"
          : end.place != (how == KIT_STOPPED ? place : box->code_at + JUMP_AT) ? "ANOTHER PLACE"

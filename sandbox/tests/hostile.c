@@ -111,15 +111,19 @@ static void try_case(const Case *c) {
 
 /* What is told of code that nc_host refuses. */
 static void try_refused(void) {
-    static const Case returns = {"a return instruction", BYTES(0xC3)}, bare = {"a jump that isn't masked", BYTES(0xFF, 0xE0)};
-    const Case *cases[] = {&returns, &bare};
+    static const Case cases[] = {{"a return instruction", BYTES(0xC3)},
+                                 {"a system call", BYTES(0xCD, 0x80)},
+                                 {"a far jump", BYTES(0xEA, WORD(0), 0x33, 0)},
+                                 {"another segment", BYTES(0x65, 0xA1, WORD(0))},
+                                 {"a jump that isn't masked", BYTES(0xFF, 0xE0)},
+                                 {"a jump into the second half of a pair", BYTES(0xEB, 3, JMP_EAX)}};
     size_t k;
-    for (k = 0; k < 2; k++) {
+    for (k = 0; k < sizeof cases / sizeof *cases; k++) {
         uint8_t code[CODE_LEN];
         NcsRefusal why;
-        lay(code, cases[k]);
+        lay(code, &cases[k]);
         CHECK(ncs_module_code(code, CODE_LEN, &why) == NULL && why.kind == NCS_BAD_CODE);
-        printf("%s: refused, fault %u at %08x\n", cases[k]->name, (unsigned)why.fault, (unsigned)why.at);
+        printf("%s: refused, fault %u at %08x\n", cases[k].name, (unsigned)why.fault, (unsigned)why.at);
     }
 }
 
