@@ -146,7 +146,7 @@ static NcsEnd call(NcsBox *b, Thread *t, uint32_t place) {
     t->deadline = t->depth != 0 && outer < own ? outer : own;
     t->depth++;
     t->place = place;
-    end = ncs_thread_watch(t) ? run(b, t) : ended(b, t, NCS_HOST);
+    end = ncs_thread_watch(t) ? run(b, t) : refused(NCS_HOST);
     t->box = outer_box;
     t->deadline = outer;
     t->depth--;

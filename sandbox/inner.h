@@ -82,7 +82,7 @@ int ncs_threads_begin(void);
 #define TICK_MILLISECONDS 10u
 int ncs_signals_begin(void);
 int ncs_signals_unblock(void); /* those of this library, in this thread [24] */
-int ncs_bad_handler(void);     /* the number of a signal whose handler lacks SA_ONSTACK, or 0 [21] */
+int ncs_bad_handler(void);     /* the number of a signal whose handler lacks SA_ONSTACK; 0, or -1 if the system doesn't tell [21] */
 
 /* ---- elf.c */
 

@@ -83,13 +83,12 @@ static int begin_once(void) {
 }
 
 int ncs_prepare(NcsRefusal *why) {
-    int refused = begin_once(), sig;
-    if (refused != NCS_OK) {
-        ncs_refuse(why, (uint32_t)refused,
+    int refused = begin_once(), sig = refused == NCS_OK ? ncs_bad_handler() : 0;
+    if (refused != NCS_OK || sig < 0) {
+        ncs_refuse(why, refused != NCS_OK ? (uint32_t)refused : NCS_BAD_SYSTEM,
                    refused == NCS_NO_MEMORY ? "there is no room below 4 GiB" : "the system refuses what boxes need");
         return 0;
     }
-    sig = ncs_bad_handler();
     if (sig != 0) {
         ncs_refuse(why, NCS_BAD_HANDLER, "a signal has a handler without SA_ONSTACK");
         if (why != NULL) {

@@ -118,16 +118,19 @@ static int handle(int sig, void (*handler)(int, siginfo_t *, void *)) {
     return sigemptyset(&action.sa_mask) == 0 && sigaction(sig, &action, NULL) == 0;
 }
 
-/* The signal of the ticks must be free. */
+/* The signal of the ticks must be free. A later attempt goes on where one was refused, so no handler of this file is taken for one that was
+   there before. */
 int ncs_signals_begin(void) {
+    static int has_ticks;
+    static size_t faults;
     struct sigaction tick;
-    size_t i;
-    if (sigaction(TICK_SIGNAL, NULL, &tick) != 0 || (tick.sa_flags & SA_SIGINFO) || tick.sa_handler != SIG_DFL ||
-        !handle(TICK_SIGNAL, on_tick)) {
+    if (!has_ticks && (sigaction(TICK_SIGNAL, NULL, &tick) != 0 || (tick.sa_flags & SA_SIGINFO) || tick.sa_handler != SIG_DFL ||
+                       !handle(TICK_SIGNAL, on_tick))) {
         return 0;
     }
-    for (i = 0; i < FAULT_COUNT; i++) {
-        if (sigaction(FAULTS[i], NULL, &before[FAULTS[i]]) != 0 || !handle(FAULTS[i], on_fault)) {
+    has_ticks = 1;
+    for (; faults < FAULT_COUNT; faults++) {
+        if (sigaction(FAULTS[faults], NULL, &before[FAULTS[faults]]) != 0 || !handle(FAULTS[faults], on_fault)) {
             return 0;
         }
     }
@@ -162,7 +165,7 @@ int ncs_bad_handler(void) {
     for (sig = 1; sig < SIGNALS; sig++) {
         KernelAction action;
         if (syscall(SYS_rt_sigaction, sig, NULL, &action, sizeof action.mask) != 0) {
-            return sig;
+            return -1;
         }
         if (action.handler <= (uintptr_t)SIG_IGN || (action.flags & SA_ONSTACK)) {
             continue;

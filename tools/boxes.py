@@ -16,6 +16,8 @@ FLAGS = ["-std=gnu11", "-O2", "-Wall", "-Wextra", "-pthread", "-I" + INCLUDE, "-
 CHECKED = ["-g1", "-fsanitize=address,undefined", "-fno-sanitize-recover=all"]
 FAULT = re.compile(r"^([\w-]+) (\S+) (\S+) (.+)\n    (.*)\n", re.M)
 SYSTEM_LACKS = 123  # a status of nc-run
+# Calls without end fill a stack of 1 MiB long before their time is over.
+LIMITS = 'ulimit -c 0 && ulimit -s 1024 && ulimit -St "$0" && ulimit -Ht $(($0 + 1)) && exec "$@"'
 
 
 class Fault(NamedTuple):
@@ -27,13 +29,14 @@ class Fault(NamedTuple):
 
 
 def faults(path):
-    """The faults of a faults.txt."""
+    """Those of a faults.txt. One with several tests, and as many lines between bars, is found by each of them."""
     with open(path, encoding="utf-8") as file:
         text = file.read()
     other = [line for line in FAULT.sub("", text).splitlines() if line and not line.startswith("#")]
     if other:
         sys.exit("%s: neither a fault nor its line: %s" % (path, other[0]))
-    return [Fault(*found) for found in FAULT.findall(text)]
+    return [Fault(name, source, test, edit, line) for name, source, tests, edit, lines in FAULT.findall(text)
+            for test, line in zip(tests.split(","), lines.split(" | "))]
 
 
 def sources(*folder):
@@ -64,6 +67,22 @@ def link(objects, made, flags=(), over=None):
     return made
 
 
+def run(line, folder, seconds):
+    """The status, the output and the errors of a program that may use so many seconds of a processor."""
+    words = ["sh", "-c", LIMITS, str(seconds)] + line
+    limit = 300 + 2 * seconds
+    done = subprocess.run(words, cwd=folder, stdin=subprocess.DEVNULL, capture_output=True, text=True, errors="replace", timeout=limit)
+    return done.returncode, done.stdout, done.stderr
+
+
+def has_sanitizers(folder, flags=()):
+    """Whether the compiler has them, with their libraries."""
+    made = os.path.join(folder, "nothing")
+    words = [compiler(), *(flags or CHECKED), "-x", "c", "-", "-o", made]
+    built = subprocess.run(words, input="int main(void) { return 0; }\n", capture_output=True, text=True)
+    return built.returncode == 0 and subprocess.run([made], capture_output=True).returncode == 0
+
+
 def plant(fault, folder, library, flags=()):
     """The objects of the library with this fault."""
     source = os.path.join(SANDBOX, fault.source)
@@ -75,6 +94,17 @@ def plant(fault, folder, library, flags=()):
     with open(planted, "w", encoding="utf-8") as file:
         file.write(text)
     return dict(library, **{source: compile_one(planted, planted + ".o", ["-w", *flags])})
+
+
+def try_fault(fault, wanted, ended):
+    """Whether the test doesn't find the fault where faults.txt says: the first of the lines it has to print that it doesn't print."""
+    status, output, _ = ended
+    found = output.splitlines()
+    first = next((line for k, line in enumerate(wanted) if k >= len(found) or found[k] != line), "")
+    right = first.split(":")[0] == fault.line
+    told = "found" if right else "DIFFERS, with status %d, at %r\n%s" % (status, first, output)
+    print("a library with the fault %s, by %s: %s" % (fault.name, fault.test, told), flush=True)
+    return not right
 
 
 def nc_run(folder):
@@ -92,11 +122,3 @@ def no_boxes(program, folder):
     call([NC_CC, os.path.join(TOP, "examples", "run", "hello.c"), "-o", made])
     done = subprocess.run([program, made], stdin=subprocess.DEVNULL, capture_output=True, text=True)
     return done.stderr.strip() if done.returncode == SYSTEM_LACKS else None
-
-
-def has_sanitizers(folder):
-    """Whether the compiler has them, with their libraries."""
-    made = os.path.join(folder, "nothing")
-    words = [compiler(), *CHECKED, "-x", "c", "-", "-o", made]
-    built = subprocess.run(words, input="int main(void) { return 0; }\n", capture_output=True, text=True)
-    return built.returncode == 0 and subprocess.run([made], capture_output=True).returncode == 0

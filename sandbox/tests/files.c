@@ -100,20 +100,6 @@ static void damage(uint64_t *random) {
     }
 }
 
-static unsigned lines_of_maps(void) {
-    FILE *maps = fopen("/proc/self/maps", "r");
-    unsigned low = 0;
-    char line[512];
-    while (maps != NULL && fgets(line, sizeof line, maps) != NULL) {
-        uint64_t from = strtoull(line, NULL, 16);
-        low += from >= 0x20000000 && from >> 32 == 0; /* where boxes and modules are */
-    }
-    if (maps != NULL) {
-        fclose(maps);
-    }
-    return low;
-}
-
 int main(int argc, char **argv) {
     uint64_t random = 0x9E3779B97F4A7C15ull * (argc > 3 ? strtoull(argv[3], NULL, 0) | 1 : 1);
     unsigned count = argc > 2 ? (unsigned)strtoul(argv[2], NULL, 0) : 3000, k, before;
@@ -129,7 +115,7 @@ int main(int argc, char **argv) {
         return why.kind == NCS_BAD_SYSTEM ? SKIPPED : 2;
     }
     ncs_module_free(module);
-    before = lines_of_maps();
+    before = testing_low_maps();
     for (k = 0; k < good_len; k += 1 + k / 64) {
         try_file(good, k);
     }
@@ -138,7 +124,7 @@ int main(int argc, char **argv) {
         try_file(bad, good_len);
     }
     CHECK(refused != 0 && accepted != 0 && kinds[NCS_BAD_FILE] != 0 && kinds[NCS_BAD_CODE] != 0);
-    CHECK(lines_of_maps() == before);
+    CHECK(testing_low_maps() == before);
     printf("%u wrong\n", testing_wrong);
     return testing_wrong != 0;
 }

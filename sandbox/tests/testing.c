@@ -1,10 +1,14 @@
 /* What the tests share. */
+#define _GNU_SOURCE
 #include "testing.h"
 
+#include <asm/ldt.h>
 #include <elf.h>
 #include <stdio.h>
 #include <stdlib.h>
 #include <string.h>
+#include <sys/syscall.h>
+#include <unistd.h>
 
 unsigned testing_wrong;
 
@@ -49,9 +53,33 @@ NcsBox *testing_box(NcsModule *module) {
     return box;
 }
 
+unsigned testing_low_maps(void) {
+    FILE *maps = fopen("/proc/self/maps", "r");
+    unsigned low = 0;
+    char line[512];
+    while (maps != NULL && fgets(line, sizeof line, maps) != NULL) {
+        uint64_t from = strtoull(line, NULL, 16);
+        low += from >= 0x20000000 && from >> 32 == 0; /* where boxes and modules are */
+    }
+    if (maps != NULL) {
+        fclose(maps);
+    }
+    return low;
+}
+
+unsigned testing_segments(void) {
+    static uint64_t table[LDT_ENTRIES];
+    long len = syscall(SYS_modify_ldt, 0, table, sizeof table), k;
+    unsigned count = 0;
+    for (k = 0; k < len / (long)sizeof *table; k++) {
+        count += table[k] != 0;
+    }
+    return count;
+}
+
 void testing_check(int good, const char *what, const char *file, int line) {
     if (!good) {
-        testing_wrong++;
+        __atomic_add_fetch(&testing_wrong, 1, __ATOMIC_SEQ_CST);
         printf("WRONG: %s, at %s:%d\n", what, strrchr(file, '/') != NULL ? strrchr(file, '/') + 1 : file, line);
     }
 }

@@ -24,6 +24,10 @@ size_t testing_elf(uint8_t *to, const uint8_t *code, uint32_t len);
 NcsBox *testing_box(NcsModule *module);
 NcsModule *testing_module(const uint8_t code[CODE_LEN]);
 
+/* What the process has of what modules and boxes take: mappings where they are, and segments. */
+unsigned testing_low_maps(void);
+unsigned testing_segments(void);
+
 /* Counts what is wrong, and says where. */
 extern unsigned testing_wrong;
 #define CHECK(good) testing_check((good) != 0, #good, __FILE__, __LINE__)

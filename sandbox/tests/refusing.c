@@ -1,0 +1,204 @@
+#define _GNU_SOURCE
+#include "refusing.h"
+
+#include <asm/ldt.h>
+#include <errno.h>
+#include <linux/membarrier.h>
+#include <pthread.h>
+#include <signal.h>
+#include <stdarg.h>
+#include <string.h>
+#include <sys/mman.h>
+#include <sys/syscall.h>
+#include <time.h>
+#include <unistd.h>
+
+int refusing_releases;
+static long blocks, mapped, timers, files;
+static __thread unsigned nth, made;
+static __thread int later, first = -1;
+
+void refusing_begin(unsigned from, int all) {
+    nth = from;
+    later = all;
+    made = 0;
+    first = -1;
+}
+
+int refusing_end(void) {
+    nth = 0;
+    return first;
+}
+
+const char *refusing_name(int which) {
+#define AS_TEXT(name) #name,
+    static const char *const names[] = {REFUSABLE(AS_TEXT)};
+    return which < 0 ? "nothing" : names[which];
+}
+
+/* Whether this call is refused. */
+static int refuses(int which) {
+    int now = nth != 0 && ++made >= nth && (later || made == nth);
+    if (now && first < 0) {
+        first = which;
+    }
+    if (now) {
+        errno = ENOMEM;
+    }
+    return now;
+}
+
+static void count(long *what, long by) {
+    (void)__atomic_add_fetch(what, by, __ATOMIC_SEQ_CST);
+}
+
+static void *counted(void *block) {
+    count(&blocks, block != NULL);
+    return block;
+}
+
+#define REAL(result, name, ...) result __real_##name(__VA_ARGS__); result __wrap_##name(__VA_ARGS__); result __wrap_##name(__VA_ARGS__)
+
+REAL(void *, malloc, size_t len) {
+    return refuses(REFUSES_malloc) ? NULL : counted(__real_malloc(len));
+}
+
+REAL(void *, calloc, size_t many, size_t len) {
+    return refuses(REFUSES_calloc) ? NULL : counted(__real_calloc(many, len));
+}
+
+REAL(void *, realloc, void *old, size_t len) {
+    void *got = refuses(REFUSES_realloc) ? NULL : __real_realloc(old, len);
+    return old == NULL ? counted(got) : got;
+}
+
+REAL(void *, aligned_alloc, size_t to, size_t len) {
+    return refuses(REFUSES_aligned_alloc) ? NULL : counted(__real_aligned_alloc(to, len));
+}
+
+REAL(void, free, void *block) {
+    count(&blocks, -(block != NULL));
+    __real_free(block);
+}
+
+REAL(void *, mmap, void *at, size_t len, int protection, int flags, int file, off_t offset) {
+    void *got = refuses(REFUSES_mmap) ? MAP_FAILED : __real_mmap(at, len, protection, flags, file, offset);
+    count(&mapped, got != MAP_FAILED ? (long)len : 0);
+    return got;
+}
+
+REAL(int, munmap, void *at, size_t len) {
+    int got = -1;
+    if (!refusing_releases) {
+        got = __real_munmap(at, len);
+        count(&mapped, got == 0 ? -(long)len : 0);
+    }
+    return got;
+}
+
+REAL(int, mprotect, void *at, size_t len, int protection) {
+    return refuses(REFUSES_mprotect) ? -1 : __real_mprotect(at, len, protection);
+}
+
+REAL(int, madvise, void *at, size_t len, int advice) {
+    return refuses(REFUSES_madvise) ? -1 : __real_madvise(at, len, advice);
+}
+
+REAL(int, memfd_create, const char *name, unsigned flags) {
+    int got = refuses(REFUSES_memfd_create) ? -1 : __real_memfd_create(name, flags);
+    count(&files, got >= 0);
+    return got;
+}
+
+REAL(int, fallocate, int file, int mode, off_t from, off_t len) {
+    return refuses(REFUSES_fallocate) ? -1 : __real_fallocate(file, mode, from, len);
+}
+
+REAL(int, close, int file) {
+    int got = __real_close(file);
+    count(&files, -(got == 0));
+    return got;
+}
+
+REAL(int, pthread_mutex_init, pthread_mutex_t *lock, const pthread_mutexattr_t *how) {
+    return refuses(REFUSES_pthread_mutex_init) ? ENOMEM : __real_pthread_mutex_init(lock, how);
+}
+
+REAL(int, sigaction, int sig, const struct sigaction *to, struct sigaction *was) {
+    return refuses(REFUSES_sigaction) ? -1 : __real_sigaction(sig, to, was);
+}
+
+/* To give up a stack isn't refused. */
+REAL(int, sigaltstack, const stack_t *to, stack_t *was) {
+    int gives_up = to != NULL && (to->ss_flags & SS_DISABLE) != 0;
+    return !gives_up && refuses(REFUSES_sigaltstack) ? -1 : __real_sigaltstack(to, was);
+}
+
+REAL(int, pthread_sigmask, int how, const sigset_t *to, sigset_t *was) {
+    return refuses(REFUSES_pthread_sigmask) ? EINVAL : __real_pthread_sigmask(how, to, was);
+}
+
+REAL(int, pthread_key_create, pthread_key_t *key, void (*end)(void *)) {
+    return refuses(REFUSES_pthread_key_create) ? EAGAIN : __real_pthread_key_create(key, end);
+}
+
+REAL(int, pthread_setspecific, pthread_key_t key, const void *value) {
+    return refuses(REFUSES_pthread_setspecific) ? ENOMEM : __real_pthread_setspecific(key, value);
+}
+
+REAL(int, pthread_atfork, void (*prepare)(void), void (*parent)(void), void (*child)(void)) {
+    return refuses(REFUSES_pthread_atfork) ? ENOMEM : __real_pthread_atfork(prepare, parent, child);
+}
+
+REAL(int, timer_create, clockid_t clock, struct sigevent *event, timer_t *timer) {
+    int got = refuses(REFUSES_timer_create) ? -1 : __real_timer_create(clock, event, timer);
+    count(&timers, got == 0);
+    return got;
+}
+
+REAL(int, timer_delete, timer_t timer) {
+    int got = __real_timer_delete(timer);
+    count(&timers, -(got == 0));
+    return got;
+}
+
+REAL(int, timer_settime, timer_t timer, int flags, const struct itimerspec *to, struct itimerspec *was) {
+    return refuses(REFUSES_timer_settime) ? -1 : __real_timer_settime(timer, flags, to, was);
+}
+
+/* Of a modify_ldt that empties an entry. */
+static int is_release(const long *words) {
+    const struct user_desc *d = (const struct user_desc *)words[1];
+    return words[0] == 0x11 && d->seg_not_present;
+}
+
+long __real_syscall(long number, ...);
+long __wrap_syscall(long number, ...);
+long __wrap_syscall(long number, ...) {
+    long words[4];
+    int k, refused = 0;
+    va_list more;
+    va_start(more, number);
+    for (k = 0; k < 4; k++) {
+        words[k] = va_arg(more, long);
+    }
+    va_end(more);
+    if (number == SYS_modify_ldt) {
+        refused = is_release(words) ? refusing_releases : refuses(REFUSES_modify_ldt);
+    } else if (number == SYS_rt_sigaction) {
+        refused = refuses(REFUSES_rt_sigaction);
+    } else if (number == SYS_membarrier && (int)words[0] == MEMBARRIER_CMD_REGISTER_PRIVATE_EXPEDITED_SYNC_CORE) {
+        refused = refuses(REFUSES_membarrier);
+    }
+    return refused ? -1 : __real_syscall(number, words[0], words[1], words[2], words[3]);
+}
+
+Holding refusing_holding(void) {
+    static unsigned long table[LDT_ENTRIES];
+    Holding h = {blocks, mapped, 0, timers, files};
+    long len = __real_syscall(SYS_modify_ldt, 0L, table, sizeof table, 0L), k;
+    for (k = 0; k < len / (long)sizeof *table; k++) {
+        h.segments += table[k] != 0;
+    }
+    return h;
+}

@@ -1,0 +1,31 @@
+/* Calls of the system and of the C library that can be refused. The linker leads each call of them here (--wrap). */
+#ifndef REFUSING_H
+#define REFUSING_H
+
+#include <stddef.h>
+
+/* What is refused: memory; what a process needs before its first module; what a thread needs. modify_ldt, rt_sigaction and membarrier are
+   system calls that the library makes by `syscall`; of the last, the registration. What gives something back is refused only where that is
+   asked for. */
+#define REFUSABLE(X) X(malloc) X(calloc) X(realloc) X(aligned_alloc) X(mmap) X(mprotect) X(madvise) X(memfd_create) X(fallocate) \
+    X(pthread_mutex_init) X(modify_ldt) X(rt_sigaction) X(membarrier) X(sigaction) X(sigaltstack) X(pthread_sigmask) \
+    X(pthread_key_create) X(pthread_setspecific) X(pthread_atfork) X(timer_create) X(timer_settime)
+#define AS_NUMBER(name) REFUSES_##name,
+enum { REFUSABLE(AS_NUMBER) REFUSABLES };
+
+/* Refuses this thread's nth call from now on, counted from 1, and each later one where `later` says so. */
+void refusing_begin(unsigned nth, int later);
+/* Which call was refused first since then, or -1. No more are refused. */
+int refusing_end(void);
+const char *refusing_name(int which);
+
+/* From now on this process's calls that give back memory or a segment are refused, or not. */
+extern int refusing_releases;
+
+/* What the process has. */
+typedef struct Holding {
+    long blocks, mapped, segments, timers, files;
+} Holding;
+Holding refusing_holding(void);
+
+#endif
