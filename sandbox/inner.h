@@ -81,13 +81,16 @@ int ncs_bad_handler(void);     /* the number of a signal whose handler lacks SA_
 
 /* ---- elf.c */
 
+#define SEGMENTS 32u /* of a file, at most */
+
 /* A module's file, or its code alone. The file's numbers were judged, so that all of this is within it. */
 typedef struct Image {
     uint8_t *bytes; /* a copy */
     size_t len;
     uint32_t code_at, code_len;
     size_t code_offset;
-    unsigned segment_count; /* of a file; code alone has none */
+    NcSegment segments[SEGMENTS];
+    size_t segment_count; /* of a file; code alone has none */
     uint32_t data_begin, data_end;
     size_t symbols, symbol_count, names, names_len; /* where they are in the file */
 } Image;
