@@ -50,7 +50,7 @@ static int map_memory(NcsBox *b) {
     uint32_t memory = b->limits.memory;
     int mapped;
     (void)pthread_mutex_lock(&ncs_lock);
-    b->data_at = ncs_low_new(memory, PROT_NONE);
+    b->data_at = ncs_low_new(memory, PROT_NONE, -1);
     b->selector = b->data_at != 0 ? ncs_segment_data(b->data_at, memory) : 0;
     (void)pthread_mutex_unlock(&ncs_lock);
     mapped = b->selector != 0;

@@ -26,11 +26,8 @@ static NcsEnd ended(NcsBox *b, const Thread *t, uint32_t how) {
     return b->end;
 }
 
-/* A stop is a general protection at F4. Each place below the limit can be read. */
 static NcsEnd trapped(NcsBox *b, const Thread *t) {
-    const volatile uint8_t *text = (const uint8_t *)(uintptr_t)b->module->text_at;
-    int at_stop = t->trap == GENERAL_PROTECTION && t->place < b->module->limit && text[t->place] == NC_STOP;
-    ended(b, t, at_stop ? NCS_STOPPED : NCS_FAULTED);
+    ended(b, t, t->at_stop ? NCS_STOPPED : NCS_FAULTED);
     b->end.trap = t->trap;
     b->end.data = t->trap == PAGE_FAULT ? t->fault_at - b->data_at : 0;
     return b->end;
@@ -100,6 +97,21 @@ static uint32_t refuses(NcsBox *b, const Thread *t) {
          : t->ticks >= t->deadline ? NCS_LATE : NCS_RETURNED;
 }
 
+/* A thread has a seat just while it is inside. So a call-back holds no reclaim back, however long it takes. */
+static void go_inside(NcsBox *b, Thread *t) {
+    Live *live = b->module->live;
+    t->box = b;
+    t->code_selector = b->module->selector;
+    t->data_selector = b->selector;
+    if (live != NULL) {
+        ncs_seat_take(live, t);
+    }
+    ncs_switch_in(t);
+    if (live != NULL) {
+        ncs_seat_leave(live, t);
+    }
+}
+
 /* In and out until the call has ended. */
 static NcsEnd run(NcsBox *b, Thread *t) {
     for (;;) {
@@ -107,10 +119,7 @@ static NcsEnd run(NcsBox *b, Thread *t) {
         if (how != NCS_RETURNED) {
             return ended(b, t, how);
         }
-        t->box = b;
-        t->code_selector = b->module->selector;
-        t->data_selector = b->selector;
-        ncs_switch_in(t);
+        go_inside(b, t);
         if (t->why == OUT_RETURN) {
             NcsEnd end = refused(NCS_RETURNED);
             end.result = t->reg[EAX];
@@ -144,6 +153,33 @@ static NcsEnd call(NcsBox *b, Thread *t, uint32_t place) {
     return end;
 }
 
+/* The box is the thread's, and lives. Its stack begins at `top`. */
+static NcsEnd begin(NcsBox *b, Thread *t, uint32_t place, uint32_t top, unsigned count, const uint32_t *args) {
+    Live *live = b->module->live;
+    uint32_t how;
+    NcsEnd end;
+    if (t->depth >= b->limits.depth) {
+        return refused(NCS_TOO_DEEP);
+    }
+    if (!can_enter(b, place)) {
+        return refused(NCS_BAD_ENTRY);
+    }
+    how = live != NULL ? ncs_live_begin(live) : NCS_RETURNED;
+    if (how != NCS_RETURNED) {
+        return refused(how);
+    }
+    if (lay_frame(b, t, top, count, args)) {
+        end = call(b, t, place);
+    } else {
+        t->place = 0;
+        end = ended(b, t, NCS_BAD_CALL);
+    }
+    if (live != NULL) {
+        ncs_live_end(live);
+    }
+    return end;
+}
+
 NcsEnd ncs_call(NcsBox *b, NcsAt function, unsigned count, const uint32_t *args) {
     Thread *t = ncs_thread_get();
     NcsEnd end;
@@ -155,18 +191,7 @@ NcsEnd ncs_call(NcsBox *b, NcsAt function, unsigned count, const uint32_t *args)
     if (!nested && !ncs_box_claim(b, t)) {
         return refused(NCS_BUSY);
     }
-    if (b->dead) {
-        end = refused(NCS_DEAD);
-    } else if (t->depth >= b->limits.depth) {
-        end = refused(NCS_TOO_DEEP);
-    } else if (!can_enter(b, function.at)) {
-        end = refused(NCS_BAD_ENTRY);
-    } else if (!lay_frame(b, t, nested ? b->nest_at : b->module->image.data_begin, count, args)) {
-        t->place = 0;
-        end = ended(b, t, NCS_BAD_CALL);
-    } else {
-        end = call(b, t, function.at);
-    }
+    end = b->dead ? refused(NCS_DEAD) : begin(b, t, function.at, nested ? b->nest_at : b->module->image.data_begin, count, args);
     if (!nested) {
         ncs_box_release(b);
     }

@@ -35,6 +35,7 @@ typedef struct Thread {
     uint64_t host_stack;
     uint32_t code_selector, data_selector;
     uint32_t trap, fault_at; /* of OUT_TRAP: its interrupt, and the linear address of a page fault, else 0 */
+    uint32_t at_stop;        /* of OUT_TRAP: whether it was a stop of the code's own */
     volatile uint64_t ticks; /* counted by the handler alone, while calls are under way */
     volatile uint64_t deadline; /* of the innermost call, in ticks */
     NcsBox *volatile box;    /* of the innermost call */
@@ -42,6 +43,9 @@ typedef struct Thread {
     volatile int ticking;
     timer_t timer;
     void *stack; /* the alternate stack that the library made, or NULL */
+    unsigned seat;       /* the one that it had last in live code, and tries first */
+    uint32_t met_at;     /* where it went back to an instruction whose stop was gone, since it went in; else 0 */
+    uint64_t met_changes, met_stops; /* the count of changes then; and how often that has happened */
 } Thread;
 
 extern __attribute__((tls_model("initial-exec"))) __thread Thread *ncs_thread;
@@ -56,7 +60,7 @@ int ncs_segments_begin(void); /* whether the system has segments, and which are 
 uint32_t ncs_segment_code(uint32_t base, uint32_t len);
 uint32_t ncs_segment_data(uint32_t base, uint32_t len); /* both: a selector, or 0 if none is left; a length is whole pages [7, 8] */
 void ncs_segment_free(uint32_t selector);
-uint32_t ncs_low_new(uint32_t len, int protection); /* its address, or 0 */
+uint32_t ncs_low_new(uint32_t len, int protection, int file); /* its address, or 0; of a file, or with -1 of zeros */
 void ncs_low_free(uint32_t at, uint32_t len);
 int ncs_low_seal(uint32_t at, uint32_t len); /* makes it executable, and no longer writable */
 
@@ -67,6 +71,7 @@ extern uint32_t ncs_landing_at; /* a page below 4 GiB that leads to ncs_switch_l
 
 int ncs_prepare(NcsRefusal *why); /* whether this process can have a module or a box now */
 void *ncs_refuse(NcsRefusal *why, uint32_t kind, const char *sentence); /* NULL */
+int ncs_refuse_fault(NcsRefusal *why, uint32_t kind, uint32_t fault, uint32_t at); /* 0; NCS_NO_MEMORY where the fault says so */
 Thread *ncs_thread_get(void); /* the calling thread, prepared; NULL if it can't be */
 int ncs_thread_watch(Thread *thread); /* starts the ticks, once depth is above 0; whether they run */
 int ncs_threads_begin(void);
@@ -99,12 +104,51 @@ const char *ncs_elf_read(Image *image); /* NULL, or what is wrong */
 uint32_t ncs_elf_symbol(const Image *image, const char *name); /* 0 if there is none */
 void ncs_elf_copy_data(const Image *image, uint8_t *to); /* each segment of data to its address, counted from `to` */
 
+/* ---- changes.c: code that changes while boxes run it */
+
+#define SEATS 256u
+
+/* Aligned to lines of the cache, so that threads that go in and out don't slow each other down. */
+typedef struct Seat {
+    NcSeat handle;
+    int taken; /* by a thread that is inside, or that checks in for it; atomic */
+} __attribute__((aligned(64))) Seat;
+
+typedef struct Live {
+    NcRegion region;      /* under the lock */
+    pthread_mutex_t lock; /* around a call on the region with its acts [28] */
+    uint8_t *writable;    /* the text, from place 0, mapped a second time */
+    uint64_t changes;     /* odd while acts are being made; atomic [25] */
+    unsigned calls;       /* how many are under way; atomic */
+    unsigned given;       /* seats; written under the lock, atomic */
+    Seat seats[SEATS];
+} Live;
+
+void ncs_put_act(uint8_t *text, const NcAct *act, const uint8_t *code, uint32_t base); /* its stores [30]; of a chunk at this base */
+
+void ncs_live_lock(Live *live);
+void ncs_live_unlock(Live *live);
+
+/* What a thread that is inside has met at a place where the processor says that a stop may be. */
+enum { MET_STOP, MET_FAULT, MET_NOTHING }; /* the last: it goes back to its instruction */
+int ncs_live_meet(Live *live, Thread *thread, uint32_t place);
+
+/* ---- livecode.c */
+
+uint32_t ncs_live_begin(Live *live); /* NCS_RETURNED where one more call is under way now, or why it isn't */
+void ncs_live_end(Live *live);
+void ncs_seat_take(Live *live, Thread *thread); /* and checks in: directly before the way in, in a call that was begun [16, 17, 18] */
+void ncs_seat_leave(Live *live, Thread *thread);
+uint32_t ncs_seats_reclaim(Live *live); /* under its lock */
+void ncs_live_free(NcsModule *module); /* NULL is allowed in it */
+
 /* ---- modules.c and boxes.c */
 
 struct NcsModule {
     Image image;
     int users; /* itself and its boxes; under ncs_lock */
     uint32_t text_at, limit, selector; /* the linear address of place 0, and the limit of the code */
+    Live *live; /* NULL where the text never changes */
 };
 
 struct NcsBox {
@@ -125,6 +169,9 @@ struct NcsBox {
     } callbacks[NCS_CALLBACKS];
 };
 
+NcsModule *ncs_module_new(const void *bytes, size_t len, NcsRefusal *why); /* with a copy of these bytes, and no text yet */
+uint32_t ncs_bundles_for(uint32_t bundles); /* of the region whose guard is behind so many [7] */
+void ncs_text_lay(const NcsModule *module, uint8_t *text); /* stops everywhere but for trampolines [4, 11] */
 void ncs_module_drop(NcsModule *module); /* one user less; under ncs_lock */
 int ncs_box_claim(NcsBox *box, Thread *thread);
 void ncs_box_release(NcsBox *box);

@@ -1,5 +1,4 @@
 /* Code is judged, put into memory with stops around it, and made executable. TRUSTED, NOT PROVED. [1 to 5, 11, 12, 16 to 19, 28 to 32] */
-#define NC_FAULT_NAMES
 #include "inner.h"
 
 #include <stdlib.h>
@@ -8,10 +7,9 @@
 
 #define BUNDLES_IN_PAGE (PAGE / NC_BUNDLE)
 
-/* The region is as small as the code allows. The guard is its last bundle, and a segment ends at the end of a page [7]. */
-static uint32_t bundles_for(const Image *image) {
-    uint32_t bundles = (image->code_at + image->code_len - NC_START) / NC_BUNDLE + 1;
-    bundles = (bundles + BUNDLES_IN_PAGE - 1) / BUNDLES_IN_PAGE * BUNDLES_IN_PAGE;
+/* The region is as small as it can be. The guard is its last bundle, and a segment ends at the end of a page. */
+uint32_t ncs_bundles_for(uint32_t bundles) {
+    bundles = (bundles / BUNDLES_IN_PAGE + 1) * BUNDLES_IN_PAGE;
     return bundles < NC_MAX_BUNDLES ? bundles : NC_MAX_BUNDLES;
 }
 
@@ -26,13 +24,14 @@ static void lay_trampoline(uint8_t *text, uint32_t k) {
     memcpy(to + 10, &selector, 2);
 }
 
-static int refuse_code(NcsRefusal *why, NcVerdict judged) {
-    ncs_refuse(why, judged.fault == NC_OUT_OF_MEMORY ? NCS_NO_MEMORY : NCS_BAD_CODE, nc_fault_sentence(judged.fault));
-    if (why != NULL) {
-        why->fault = judged.fault;
-        why->at = judged.at;
+void ncs_text_lay(const NcsModule *m, uint8_t *text) {
+    uint32_t k;
+    memset(text, NC_STOP, m->limit);
+    lay_trampoline(text, OUT_RETURN);
+    lay_trampoline(text, OUT_EXIT);
+    for (k = OUT_CALLBACK; k < OUT_END; k++) {
+        lay_trampoline(text, k);
     }
-    return 0;
 }
 
 /* Fills the text with stops, trampolines and the code, if that is accepted. Whether it is. Nobody can enter before the text is sealed, so
@@ -41,25 +40,17 @@ static int fill_text(const NcsModule *m, NcsRefusal *why) {
     const Image *image = &m->image;
     const uint8_t *code = image->bytes + image->code_offset;
     uint8_t *text = (uint8_t *)(uintptr_t)m->text_at;
-    NcVerdict judged = nc_host_image(image->code_at, code, image->code_len, text + NC_START, m->limit - NC_START);
-    uint32_t k;
-    if (judged.fault != NC_OK) {
-        return refuse_code(why, judged);
-    }
-    memset(text, NC_STOP, NC_START);
-    lay_trampoline(text, OUT_RETURN);
-    lay_trampoline(text, OUT_EXIT);
-    for (k = OUT_CALLBACK; k < OUT_END; k++) {
-        lay_trampoline(text, k);
-    }
-    return 1;
+    NcVerdict judged;
+    ncs_text_lay(m, text);
+    judged = nc_host_image(image->code_at, code, image->code_len, text + NC_START, m->limit - NC_START);
+    return judged.fault == NC_OK || ncs_refuse_fault(why, NCS_BAD_CODE, judged.fault, judged.at);
 }
 
 /* Memory for the text. Whether there is some. */
 static int take_text(NcsModule *m) {
     (void)pthread_mutex_lock(&ncs_lock);
-    m->limit = NC_LIMIT(bundles_for(&m->image));
-    m->text_at = ncs_low_new(m->limit, PROT_READ | PROT_WRITE);
+    m->limit = NC_LIMIT(ncs_bundles_for((m->image.code_at + m->image.code_len - NC_START) / NC_BUNDLE));
+    m->text_at = ncs_low_new(m->limit, PROT_READ | PROT_WRITE, -1);
     (void)pthread_mutex_unlock(&ncs_lock);
     return m->text_at != 0;
 }
@@ -91,10 +82,13 @@ static int load(NcsModule *m, NcsRefusal *why) {
     return 1;
 }
 
-/* A module with a copy of these bytes, and no code yet. */
-static NcsModule *module_new(const void *bytes, size_t len, NcsRefusal *why) {
-    NcsModule *m = calloc(1, sizeof *m);
+NcsModule *ncs_module_new(const void *bytes, size_t len, NcsRefusal *why) {
+    NcsModule *m;
+    if (ncs_forked) { /* nothing of nc_host's may be called there [27] */
+        return ncs_refuse(why, NCS_BAD_SYSTEM, "this is a forked child");
+    }
     ncs_refuse(why, NCS_OK, "nothing is refused");
+    m = calloc(1, sizeof *m);
     if (m == NULL || (m->image.bytes = malloc(len + 1)) == NULL) {
         free(m);
         return ncs_refuse(why, NCS_NO_MEMORY, "out of memory");
@@ -108,7 +102,7 @@ static NcsModule *module_new(const void *bytes, size_t len, NcsRefusal *why) {
 }
 
 NcsModule *ncs_module_elf(const void *file, size_t len, NcsRefusal *why) {
-    NcsModule *m = module_new(file, len, why);
+    NcsModule *m = ncs_module_new(file, len, why);
     const char *wrong = m != NULL ? ncs_elf_read(&m->image) : NULL;
     if (wrong != NULL) {
         ncs_refuse(why, NCS_BAD_FILE, wrong);
@@ -123,10 +117,10 @@ NcsModule *ncs_module_elf(const void *file, size_t len, NcsRefusal *why) {
 NcsModule *ncs_module_code(const void *code, size_t len, NcsRefusal *why) {
     NcsModule *m;
     if (len > NC_LIMIT(NC_MAX_BUNDLES)) {
-        ncs_refuse(why, NCS_BAD_CODE, nc_fault_sentence(NC_OUT_OF_RANGE));
+        ncs_refuse_fault(why, NCS_BAD_CODE, NC_OUT_OF_RANGE, 0);
         return NULL;
     }
-    m = module_new(code, len, why);
+    m = ncs_module_new(code, len, why);
     if (m == NULL) {
         return NULL;
     }
@@ -149,6 +143,7 @@ void ncs_module_drop(NcsModule *m) {
     if (--m->users == 0) {
         ncs_segment_free(m->selector);
         ncs_low_free(m->text_at, m->limit);
+        ncs_live_free(m);
         free(m->image.bytes);
         free(m);
     }

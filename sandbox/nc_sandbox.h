@@ -36,7 +36,7 @@ typedef struct NcsAt {
 
 /* ---- Refusals */
 
-/* Why there is no module or no box. */
+/* Why there is no module, no box or no change of live code. */
 enum {
     NCS_OK,
     NCS_BAD_FILE,    /* it isn't an ELF file as nc-cc makes it */
@@ -44,13 +44,15 @@ enum {
     NCS_BAD_LIMITS,  /* a limit is 0 or too large, or there is less memory than the data needs */
     NCS_BAD_HANDLER, /* a signal has a handler without SA_ONSTACK: `at` is its number */
     NCS_NO_MEMORY,   /* there is no memory, no room below 4 GiB, or no segment left */
-    NCS_BAD_SYSTEM   /* the system refuses what boxes need, or this is a forked child */
+    NCS_BAD_SYSTEM,  /* the system refuses what boxes need, or this is a forked child */
+    NCS_NOT_LIVE,    /* the module isn't one of ncs_module_live, so its code never changes */
+    NCS_BAD_CHANGE   /* nc_host refuses a change of live code: `fault` says why */
 };
 
 /* Nothing was entered, and everything is as it was. */
 typedef struct NcsRefusal {
     uint32_t kind;        /* one of these, NCS_OK if nothing was refused */
-    uint32_t fault;       /* of refused code, one of nc_host.h; else 0 */
+    uint32_t fault;       /* of refused code or a refused change, one of nc_host.h; else 0 */
     uint32_t at;          /* the address of that fault, or the number of a signal; else 0 */
     const char *sentence; /* what is wrong, in a constant text */
 } NcsRefusal;
@@ -73,6 +75,39 @@ NcsAt ncs_symbol(const NcsModule *module, const char *name);
 
 /* Frees a module, once its last box is freed. Null is allowed. */
 void ncs_module_free(NcsModule *module);
+
+/* ---- Live code */
+
+/*
+ * A module whose code is created, patched and deleted while its boxes run. Its text has room for `bundles` bundles of 32 bytes, 1 to
+ * 2097151, from 00010000 on; it may be up to a page longer. At first all of it is stops. Its boxes have a stack of 1 MiB, below 00110000.
+ * At most NCS_LIVE_CALLS calls of its boxes may be under way at once, those within calls counted. Null if it is refused.
+ */
+#define NCS_LIVE_CALLS 255u
+NcsModule *ncs_module_live(uint32_t bundles, NcsRefusal *why);
+
+/*
+ * The changes. Any thread may make them, also in a call-back. They wait for each other, and never for a thread inside. 1, and the change is
+ * made; or 0, and nothing is changed, and `why`, which may be null, has the refusal. Code is copied before it is judged, so it may lie in
+ * memory of a box.
+ *   ncs_create  puts a chunk of whole bundles at a multiple of 32, where no chunk is, live or deleted and not yet reclaimed.
+ *   ncs_patch   replaces whole instructions of a chunk, within a bundle, by others of the same lengths.
+ *   ncs_delete  removes the chunk that begins at `base`. A thread in it stops at its next instruction. Its span can't be used yet.
+ * A thread inside that meets a change under way waits until that is made, and goes on. The wait counts as its time. The process is aborted
+ * if the system refuses, in the midst of a change, a barrier that it had granted.
+ */
+int ncs_create(NcsModule *module, NcsAt base, const void *code, size_t len, NcsRefusal *why);
+int ncs_patch(NcsModule *module, NcsAt at, const void *code, size_t len, NcsRefusal *why);
+int ncs_delete(NcsModule *module, NcsAt base, NcsRefusal *why);
+
+/*
+ * Frees the spans of deleted chunks in which no thread can be any more, and returns how many chunks it freed. It waits for nobody inside. A
+ * chunk is freed once each thread that was inside when it was deleted has come out: by a return, a call-back, a stop, a kill or its time
+ * limit. So the longest time limit of the module's boxes, in processor time of each thread inside, bounds how long that takes. In a
+ * call-back a thread is outside, however slow that is.
+ *   A call on its way to a chunk that is meanwhile deleted, reclaimed and replaced may run the new one, from a bundle start on.
+ */
+uint32_t ncs_reclaim(NcsModule *module);
 
 /* ---- Boxes */
 
@@ -115,7 +150,7 @@ enum {
     NCS_DENIED,    /* * by ncs_deny */
     NCS_TOO_DEEP,  /* the thread has too many calls under way, and nothing was entered */
     NCS_DEAD,      /* an earlier call has left the box dead, and nothing was entered */
-    NCS_BUSY,      /* another thread is in a call of the box, and nothing was entered */
+    NCS_BUSY,      /* another thread is in a call of the box, or NCS_LIVE_CALLS of its module are under way; nothing was entered */
     NCS_HOST       /* too many arguments, a thread that can't be prepared, or a forked child; * a call-back forked, and this is the child */
 };
 

@@ -1,5 +1,6 @@
 /* What a process needs before its first module: segments, handlers, and a page that leads out. TRUSTED, NOT PROVED. */
 #define _GNU_SOURCE
+#define NC_FAULT_NAMES
 #include "inner.h"
 
 #include <string.h>
@@ -18,7 +19,7 @@ static void in_child(void) {
 static int make_landing(void) {
     static const uint8_t jump[] = {0xFF, 0x25, 0, 0, 0, 0};
     uint64_t to = (uint64_t)(uintptr_t)ncs_switch_landing;
-    uint32_t at = ncs_low_new(PAGE, PROT_READ | PROT_WRITE);
+    uint32_t at = ncs_low_new(PAGE, PROT_READ | PROT_WRITE, -1);
     uint8_t *page = (uint8_t *)(uintptr_t)at;
     if (at == 0) {
         return 0;
@@ -60,6 +61,15 @@ void *ncs_refuse(NcsRefusal *why, uint32_t kind, const char *sentence) {
         why->sentence = sentence;
     }
     return NULL;
+}
+
+int ncs_refuse_fault(NcsRefusal *why, uint32_t kind, uint32_t fault, uint32_t at) {
+    ncs_refuse(why, fault == NC_OUT_OF_MEMORY ? NCS_NO_MEMORY : kind, nc_fault_sentence(fault));
+    if (why != NULL && fault != NC_OUT_OF_MEMORY) {
+        why->fault = fault;
+        why->at = at;
+    }
+    return 0;
 }
 
 static int begin_once(void) {

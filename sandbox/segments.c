@@ -75,9 +75,9 @@ void ncs_segment_free(uint32_t selector) {
     }
 }
 
-uint32_t ncs_low_new(uint32_t len, int protection) {
+uint32_t ncs_low_new(uint32_t len, int protection, int file) {
     static uint32_t from = LOW_BEGIN;
-    int flags = MAP_PRIVATE | MAP_ANONYMOUS | MAP_NORESERVE | MAP_FIXED_NOREPLACE;
+    int flags = (file < 0 ? MAP_PRIVATE | MAP_ANONYMOUS | MAP_NORESERVE : MAP_SHARED) | MAP_FIXED_NOREPLACE;
     uint64_t at = from;
     unsigned tries;
     for (tries = 0; tries < (LOW_END - LOW_BEGIN) / STEP; tries++, at += STEP) {
@@ -85,7 +85,7 @@ uint32_t ncs_low_new(uint32_t len, int protection) {
         if (at + len > LOW_END) {
             at = LOW_BEGIN;
         }
-        got = mmap((void *)(uintptr_t)at, len, protection, flags, -1, 0);
+        got = mmap((void *)(uintptr_t)at, len, protection, flags, file, 0);
         if (got == (void *)(uintptr_t)at) {
             from = (uint32_t)(at + len + STEP - 1) & ~(STEP - 1);
             return (uint32_t)at;

@@ -51,17 +51,42 @@ static void hand_on(int sig, siginfo_t *info, void *context) {
     }
 }
 
-/* The text never changes while a thread is inside, so no stop is transient [25]. */
+/* Whether the innermost call is to end. */
+static int is_over(const Thread *t) {
+    return t->ticks >= t->deadline || __atomic_load_n(&t->box->killed, __ATOMIC_SEQ_CST);
+}
+
+/* A stop is a general protection at F4. In live code it may be one of a change that is under way, and gone by now [25]. */
+static int meet(Thread *t, uint32_t place) {
+    const NcsModule *m = t->box->module;
+    if (t->trap != GENERAL_PROTECTION || place >= m->limit) {
+        return MET_FAULT;
+    }
+    if (m->live != NULL) {
+        return ncs_live_meet(m->live, t, place);
+    }
+    return *(const volatile uint8_t *)((uintptr_t)m->text_at + place) == NC_STOP ? MET_STOP : MET_FAULT;
+}
+
+/* A thread that goes back to its instruction may trap there again, as long as changes are made. It goes back no more when its time is
+   over. */
 static void on_fault(int sig, siginfo_t *info, void *context) {
     greg_t *reg = ((ucontext_t *)context)->uc_mcontext.gregs;
     Thread *t = ncs_thread;
+    int met;
     if (!is_inside(t, reg) || info->si_code <= 0) {
         hand_on(sig, info, context);
         return;
     }
     t->trap = (uint32_t)reg[REG_TRAPNO];
     t->fault_at = t->trap == PAGE_FAULT ? (uint32_t)(uintptr_t)info->si_addr : 0;
-    come_out(t, reg, OUT_TRAP);
+    met = meet(t, (uint32_t)reg[REG_RIP]);
+    t->at_stop = met == MET_STOP;
+    if (met != MET_NOTHING) {
+        come_out(t, reg, OUT_TRAP);
+    } else if (is_over(t)) {
+        come_out(t, reg, OUT_TICK);
+    }
 }
 
 /* Where the thread is in the host it comes out by a later tick, or doesn't go in any more. Without a call under way the ticks end. */
@@ -78,7 +103,7 @@ static void on_tick(int sig, siginfo_t *info, void *context) {
         t->ticking = timer_settime(t->timer, 0, &never, NULL) != 0;
     } else {
         t->ticks += 1 + (info->si_code == SI_TIMER && info->si_overrun > 0 ? (unsigned)info->si_overrun : 0);
-        if (is_inside(t, reg) && (t->ticks >= t->deadline || __atomic_load_n(&t->box->killed, __ATOMIC_SEQ_CST))) {
+        if (is_inside(t, reg) && is_over(t)) {
             come_out(t, reg, OUT_TICK);
         }
     }

@@ -1,5 +1,5 @@
 /* A compiler of one pass for a stack of values, that keeps the rules of chunks: no instruction crosses the end of a bundle, and an indirect
-   jump follows its mask directly. EBX is x, ECX the same as a count, EDX the sum, EAX and ESI are for values. */
+   jump follows its mask directly. EBX is x, ECX the same as a count, EDX the sum, EAX, ESI and EDI are for values. */
 #include "generate.h"
 
 #include "nc_host.h"
@@ -120,7 +120,7 @@ int generate(const char *text, uint32_t base, Code *code) {
     uint32_t loop;
     memset(code, 0, sizeof *code);
     code->base = base;
-    emit(&r, 2, "\x31\xD2"); /* xor edx, edx */
+    emit(&r, 6, "\x8B\x4C\x24\x04\x31\xD2"); /* mov ecx, [esp + 4]; xor edx, edx */
     loop = code->len;
     emit(&r, 2, "\x89\xCB"); /* mov ebx, ecx */
     jump = room(&r, 5);
@@ -137,7 +137,7 @@ int generate(const char *text, uint32_t base, Code *code) {
     emit(&r, 1, "\x49");     /* dec ecx */
     back = room(&r, 6);
     lay_near(back, 2, "\x0F\x85", base + code->len - 6, base + loop); /* jne */
-    emit(&r, 5, "\x83\xE7\xE0\xFF\xE7"); /* and edi, -32; jmp edi */
+    emit(&r, 8, "\x89\xD0\x5F\x83\xE7\xE0\xFF\xE7"); /* mov eax, edx; pop edi; and edi, -32; jmp edi */
     end_bundle(&r);
     return !r.failed;
 }

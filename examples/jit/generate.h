@@ -13,9 +13,9 @@ typedef struct Code {
     uint32_t slow, done; /* bundle starts: where a value is computed, and where it is in EAX */
 } Code;
 
-/* The chunk that computes, for every x from ECX down to 1, the sum of the expression's values into EDX, and leaves by a jump by EDI. For each
-   x it jumps through its inline cache, at first to `slow`. The expression has x, numbers, + - * & | ^ and parentheses. 0 where it can't be
-   read or is too long. */
+/* The chunk of a function that returns the sum of the expression's values for every x from its argument down to 1. For each x it jumps
+   through its inline cache, at first to `slow`. The expression has x, numbers, + - * & | ^ and parentheses. 0 where it can't be read or is
+   too long. */
 int generate(const char *text, uint32_t base, Code *code);
 
 /* A stub for the cache of a chunk, one bundle at a bundle start: where EBX is this x the value is known, and else it goes to `slow`. */

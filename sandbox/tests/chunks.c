@@ -1,6 +1,8 @@
 /* The chunks' bytes. What is patched at 0d, 2e and 4f lies across a boundary of 16 bytes, where a processor may fetch it in two parts. */
 #include "chunks.h"
 
+#include "inner.h"
+
 #include <string.h>
 
 static void lay32(uint8_t *at, uint32_t value) {
@@ -14,13 +16,33 @@ uint32_t chunks_random(uint64_t *random) {
     return (uint32_t)(*random >> 16);
 }
 
+/* mov ecx, [esp + 4]; mov ebp, [esp + 8]; mov esi, [esp + 12]; mov edi, [esp + 16]; mov eax, [esp + 20]; and eax, -32; jmp eax */
+void chunks_lay_entry(uint8_t code[NC_BUNDLE]) {
+    static const uint8_t bytes[] = {0x8B, 0x4C, 0x24, 4, 0x8B, 0x6C, 0x24, 8, 0x8B, 0x74, 0x24, 12, 0x8B, 0x7C, 0x24, 16,
+                                    0x8B, 0x44, 0x24, 20, 0x83, 0xE0, 0xE0, 0xFF, 0xE0};
+    memset(code, 0x90, NC_BUNDLE);
+    memcpy(code, bytes, sizeof bytes);
+}
+
+/* mov [RESULT_AT], ecx; mov [RESULT_AT + 4], ebx; mov dword [RESULT_AT + 8], way; jmp to the trampoline that returns */
+void chunks_lay_end(uint8_t code[NC_BUNDLE], uint32_t base, uint32_t way) {
+    static const uint8_t bytes[] = {0x89, 0x0D, 0, 0, 0, 0, 0x89, 0x1D, 0, 0, 0, 0, 0xC7, 0x05, 0, 0, 0, 0, 0, 0, 0, 0, 0xE9};
+    memset(code, 0x90, NC_BUNDLE);
+    memcpy(code, bytes, sizeof bytes);
+    lay32(code + 2, RESULT_AT);
+    lay32(code + 8, RESULT_AT + 4);
+    lay32(code + 14, RESULT_AT + 8);
+    lay32(code + 18, way);
+    lay32(code + 23, OUT_RETURN * NC_BUNDLE - (base + 27));
+}
+
 void chunks_lay_patched(uint8_t code[PATCHED_LEN]) {
     static const struct {
         uint8_t at, len, bytes[6];
     } parts[] = {
         {0x0D, 5, {0xB8, 0xCC, 0xCC, 0xCC, 0xCC}},       /* mov eax, FIRST_NUMBER    patched to the second */
         {0x12, 2, {0xEB, 0x0C}},                         /* jmp 20 */
-        {0x1B, 5, {0xE9, 0, 0, 0, 0}},                   /* jmp to the trampoline of OUT_BAD */
+        {0x1B, 5, {0xE9, 0, 0, 0, 0}},                   /* jmp to BAD */
         {0x20, 5, {0x3D, 0xCC, 0xCC, 0xCC, 0xCC}},       /* cmp eax, FIRST_NUMBER */
         {0x25, 2, {0x74, 0x07}},                         /* je 2e */
         {0x27, 5, {0x3D, 0x0F, 0x0B, 0x0F, 0x0B}},       /* cmp eax, SECOND_NUMBER */
@@ -36,7 +58,7 @@ void chunks_lay_patched(uint8_t code[PATCHED_LEN]) {
     for (i = 0; i < sizeof parts / sizeof *parts; i++) {
         memcpy(code + parts[i].at, parts[i].bytes, parts[i].len);
     }
-    lay32(code + 0x1C, OUT_BAD * NC_BUNDLE - (PATCHED_AT + 0x20));
+    lay32(code + 0x1C, BAD - (PATCHED_AT + 0x20));
 }
 
 void chunks_lay_aside(uint8_t code[ASIDE_LEN]) {
