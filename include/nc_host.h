@@ -70,9 +70,11 @@ extern "C" {
 
 /*
  * The faults. For a chunk the first one is returned. 1 to 3 come first, in this order, then the one of 4 to 6 with the lowest address, then
- * 7 with the lowest address. 8 says nothing about the code, except that 1 to 3 don't hold. 9 comes after the faults of a chunk, and before
- * those of a patch. Only nc_host_decode returns 10. For a patch the first of 16 to 21 is returned, and none has an address. Only calls on
- * handles return 32 to 44. docs/GUIDE.md says what a compiler may emit. specs/Rows of nc_decode is the table of permitted instructions.
+ * 7 with the lowest address. 8 says nothing about the code, except that 1 to 3 don't hold. 9 comes after the faults of a chunk or a file,
+ * and before those of a patch. Only nc_host_decode returns 10. For a patch the first of 16 to 21 is returned, and none has an address. Only
+ * calls on handles return 32 to 44. Only nc_host_elf returns 48 to 62: the first of 48 to 55 that holds; else, for the first program header
+ * of a loaded segment with a fault, the first of 56 to 61; else 62. docs/GUIDE.md says what a compiler may emit. specs/Rows of nc_decode is
+ * the table of permitted instructions.
  */
 #define NC_OK 0u
 #define NC_BAD_BASE 1u
@@ -104,6 +106,21 @@ extern "C" {
 #define NC_FULL 42u
 #define NC_NO_PLACE 43u
 #define NC_NO_START 44u
+#define NC_ELF_NOT_ELF 48u
+#define NC_ELF_SHORT_HEADER 49u
+#define NC_ELF_64_BITS 50u
+#define NC_ELF_OTHER_FORMAT 51u
+#define NC_ELF_OTHER_MACHINE 52u
+#define NC_ELF_UNLINKED 53u
+#define NC_ELF_OTHER_TYPE 54u
+#define NC_ELF_BAD_TABLE 55u
+#define NC_ELF_BEYOND_FILE 56u
+#define NC_ELF_BEYOND_MEMORY 57u
+#define NC_ELF_WRAPS 58u
+#define NC_ELF_OUT_OF_ORDER 59u
+#define NC_ELF_WRITABLE_CODE 60u
+#define NC_ELF_UNFILLED_CODE 61u
+#define NC_ELF_NO_CODE 62u
 
 /* What each fault says, as X(NC_BAD_BASE, "the base .."). A host can make its messages from this, or define
    NC_FAULT_NAMES and use nc_fault_name, below. */
@@ -139,7 +156,22 @@ extern "C" {
     X(NC_NO_CHUNK, "no live chunk has this base, the list has no chunk at this index, or no chunk has this address or lies above it") \
     X(NC_FULL, "no stamp is left, after 2^62 deletions") \
     X(NC_NO_PLACE, "the address is outside the region") \
-    X(NC_NO_START, "the address is not a bundle start of the region, where a walk can begin")
+    X(NC_NO_START, "the address is not a bundle start of the region, where a walk can begin") \
+    X(NC_ELF_NOT_ELF, "not an ELF file") \
+    X(NC_ELF_SHORT_HEADER, "the file ends in its ELF header") \
+    X(NC_ELF_64_BITS, "a 64-bit ELF file") \
+    X(NC_ELF_OTHER_FORMAT, "not a 32-bit little-endian ELF file of version 1") \
+    X(NC_ELF_OTHER_MACHINE, "not for the Intel 80386") \
+    X(NC_ELF_UNLINKED, "an object file, which is not linked") \
+    X(NC_ELF_OTHER_TYPE, "neither an executable file nor a shared object") \
+    X(NC_ELF_BAD_TABLE, "the program headers aren't 32 bytes long, are 65535 or more, or aren't all in the file") \
+    X(NC_ELF_BEYOND_FILE, "a loaded segment reaches beyond the end of the file") \
+    X(NC_ELF_BEYOND_MEMORY, "a loaded segment has more bytes in the file than in memory") \
+    X(NC_ELF_WRAPS, "a loaded segment ends above the last address") \
+    X(NC_ELF_OUT_OF_ORDER, "a loaded segment overlaps an earlier one or lies below it") \
+    X(NC_ELF_WRITABLE_CODE, "a loaded segment is both writable and executable") \
+    X(NC_ELF_UNFILLED_CODE, "a loaded segment is executable and has bytes in memory that aren't in the file") \
+    X(NC_ELF_NO_CODE, "no loaded segment is executable and has bytes in the file")
 
 /* Where control goes after an instruction. */
 #define NC_FLOW_NEXT 1u           /* to the next instruction */
@@ -186,6 +218,21 @@ typedef struct NcVerdict {
     uint32_t fault;
     uint32_t at;  /* the address of a fault from 4 to 7, else 0 */
 } NcVerdict;
+
+/* A loaded segment of an ELF file, as its program header describes it. */
+typedef struct NcSegment {
+    uint32_t address;     /* of its first byte in memory: p_vaddr */
+    uint32_t offset;      /* of its first byte in the file: p_offset */
+    uint32_t file_len;    /* its bytes in the file: p_filesz */
+    uint32_t memory_len;  /* its bytes in memory: p_memsz. Those after the ones in the file are 0 */
+    uint32_t flags;       /* p_flags: the sum of PF_X (1), PF_W (2), PF_R (4), and others that mean nothing here */
+} NcSegment;
+
+typedef struct NcSegments {
+    size_t count;     /* the number of elements written; for NC_NO_ROOM the number of segments; else 0 */
+    uint32_t fault;
+    uint32_t header;  /* for a fault from 56 to 61 the number of the program header, counted from 0; else 0 */
+} NcSegments;
 
 typedef struct NcAct {
     uint32_t kind;
@@ -251,11 +298,11 @@ typedef struct NcWalk {
  */
 uint32_t nc_host_version(void);
 
-/* ---- Calls on code alone */
+/* ---- Calls on code alone, and on files */
 
 /*
- * They keep nothing between two calls. Only nc_host_vet and nc_host_marks allocate memory, and free all of it before they return [tested].
- * Nothing but its arguments decides a call's answer, except for NC_OUT_OF_MEMORY. This is known from reading the code.
+ * They keep nothing between two calls. Only nc_host_vet, nc_host_marks and nc_host_image allocate memory, and free all of it before they
+ * return [tested]. Nothing but its arguments decides a call's answer, except for NC_OUT_OF_MEMORY. This is known from reading the code.
  */
 
 /*
@@ -282,6 +329,37 @@ NcVerdict nc_host_vet(uint32_t base, uint32_t limit, const uint8_t *code, size_t
  * NC_OUT_OF_MEMORY and NC_NO_ROOM [valid]. A refusal changes nothing [untouched].
  */
 NcVerdict nc_host_marks(uint32_t base, uint32_t limit, const uint8_t *code, size_t len, uint8_t *marks, size_t marks_len);
+
+/*
+ * Vets a chunk at `base` as nc_host_vet does, for the region whose text is as long as `image`: its limit is NC_START + `image_len`. If the
+ * chunk is valid, fills `image` with that text: the chunk's bytes from `base` - NC_START on, and NC_STOP everywhere else. It is for a host
+ * that loads code once, which needs neither a region nor acts: it maps this memory executable, at NC_START of its code segment, before any
+ * thread can enter.
+ * Promised: the fault is NC_OK only for a valid chunk (IsValid), and else 1 to 8, only for a chunk with that fault there (HasFault)
+ * [outcome]. For NC_OK the bytes of `image` are those of an unused text (unused_text) with the valid chunk set into it (with_chunk)
+ * [filled]. For NC_OK they are a confined text: no path through it leaves the region, except to a trampoline (IsConfined) [confined]. The
+ * only fault that a valid chunk can get is NC_OUT_OF_MEMORY [valid]. A refusal changes nothing [untouched].
+ * Not promised: anything about a thread that is inside while the call runs. It stores several bytes at once, and in any order.
+ */
+NcVerdict nc_host_image(uint32_t base, const uint8_t *code, size_t len, uint8_t *image, size_t image_len);
+
+/*
+ * Writes the loaded segments of an ELF file, of code and of data, into `segments`, in the order of its program headers: those of type
+ * PT_LOAD that have at least one byte in memory. The file may be hostile. It is judged first, by the rules of nc_check, as a linked 32-bit
+ * file for x86. Code and data are judged together, in one address space, as the System V ABI has them, also where a host has a segment of
+ * its own for each.
+ * Promised: for NC_OK the buffer begins with exactly these segments, `count` of them, each as its program header describes it, and
+ * `header` is 0 [written]. For NC_OK the file is well-formed (IsWellFormed) [well_formed]. For NC_OK each segment can be loaded as it is:
+ * its bytes are in the file, it has at least as many in memory, it ends at 2^32 or below, and if it is executable, it isn't writable, and
+ * all its bytes in memory are in the file (IsLoadable) [loadable]. For NC_OK each segment ends at or below the address where the next one
+ * begins, so none overlap (IsLoadedBelow) [apart]. A refusal is one of 48 to 62, only for a file with that fault at that program header
+ * (HasElfFault); or NC_NO_ROOM, only for a well-formed file with more segments than the buffer has elements, and then `count` is their
+ * number, so a length of 0 asks for it (MayRefuseLoaded) [refused]. A file with a fault gets that fault (HasElfFault) [exact]. A refusal
+ * leaves the buffer unchanged [untouched]. The call allocates no memory [tested].
+ * Not promised: anything about the entry point, the interpreter, relocations, sections and symbols, which aren't read; or that the
+ * segments suit the host's memory. The code of an executable segment isn't vetted.
+ */
+NcSegments nc_host_elf(const uint8_t *file, size_t file_len, NcSegment *segments, size_t segments_len);
 
 /* ---- Calls on handles */
 

@@ -3,7 +3,7 @@
  *
  * It needs C++17, and neither exceptions nor RTTI. A member makes the call of the library that its comment names (a deletion makes two).
  * nc_host.h says what that call promises and what it asks of the host, and docs/EMBEDDING.md lists the host's duties. Nothing is proved
- * about this header. It wraps neither the calls on code alone nor nc_host_version.
+ * about this header. Of the calls without a handle it wraps nc_host_image and nc_host_elf.
  *
  *   Locks     "Under the lock" means the host's own lock for the region: calls on one region must be made one at a time, including those
  *             that only read, so no member is const. The lock also covers the acts that the host makes for a change. "No lock" means that
@@ -75,6 +75,7 @@ class Span {
 using Bytes = Span<const std::uint8_t>;
 using Acts = Span<const NcAct>;
 using Buffer = Span<NcAct>;
+using Segments = Span<const NcSegment>;
 
 /* ---- Faults and results */
 
@@ -86,7 +87,7 @@ class Fault {
         : number_(number), at_(at), enough_(enough) {}
 
     constexpr std::uint32_t number() const noexcept { return number_; }
-    constexpr std::uint32_t at() const noexcept { return at_; }           /* the address of a fault from 4 to 7, else 0 */
+    constexpr std::uint32_t at() const noexcept { return at_; }           /* 4 to 7: its address; 56 to 61: its program header; else 0 */
     constexpr std::size_t enough() const noexcept { return enough_; }     /* for NC_NO_ROOM a buffer length that is enough, else 0 */
     constexpr const char *name() const noexcept;                          /* "NC_BAD_BASE"; "?" for a number that is no fault */
     constexpr const char *sentence() const noexcept;                      /* "the base is not a multiple of 32, or is below the region" */
@@ -189,6 +190,23 @@ Result<T> told(std::uint32_t fault, T value) noexcept {
 }
 
 } // namespace detail
+
+/* ---- Code that is loaded once */
+
+/* nc_host_elf. No lock. Returns the part of the buffer with the file's segments. */
+inline Result<Segments> loaded_segments(Bytes file, Span<NcSegment> buffer) noexcept {
+    NcSegments found = nc_host_elf(file.data(), file.size(), buffer.data(), buffer.size());
+    if (found.fault != NC_OK) {
+        return Fault(found.fault, found.header, found.count);
+    }
+    return Segments(buffer.first(found.count));
+}
+
+/* nc_host_image. No lock: no thread may be inside yet. */
+inline Result<void> fill_image(std::uint32_t base, Bytes code, Span<std::uint8_t> image) noexcept {
+    NcVerdict verdict = nc_host_image(base, code.data(), code.size(), image.data(), image.size());
+    return Fault(verdict.fault, verdict.at);
+}
 
 /* ---- Seats and vetted chunks */
 

@@ -34,7 +34,7 @@ static void put(uint8_t *text, uint32_t at, uint8_t byte) {
     __atomic_store_n(text + at, byte, __ATOMIC_SEQ_CST);
 }
 
-void ncs_put_act(uint8_t *text, const NcAct *act, const uint8_t *code, uint32_t base) {
+static void put_act(uint8_t *text, const NcAct *act, const uint8_t *code, uint32_t base) {
     uint32_t k, runs = act->kind == NC_PUT_RUN || act->kind == NC_STOP_RUN ? act->value : 0;
     if (act->kind == NC_PUT) {
         put(text, act->at, (uint8_t)act->value);
@@ -63,7 +63,7 @@ static void make(Live *live, const NcAct *acts, size_t count, const Chunk *chunk
         if (acts[i].kind == NC_SETTLE) {
             settle();
         } else {
-            ncs_put_act(live->writable, &acts[i], chunk != NULL ? chunk->code : NULL, chunk != NULL ? chunk->base : 0);
+            put_act(live->writable, &acts[i], chunk != NULL ? chunk->code : NULL, chunk != NULL ? chunk->base : 0);
         }
     }
     __atomic_add_fetch(&live->changes, 1, __ATOMIC_SEQ_CST);

@@ -1,4 +1,6 @@
-/* Reads an ELF file that may have been made to harm: what it says is judged before anything else looks there. TRUSTED, NOT PROVED. */
+/* Reads an ELF file that may have been made to harm. nc_host_elf, which is proved, judges its segments; its symbols are judged here, before
+   anything else looks there. TRUSTED, NOT PROVED. */
+#define NC_FAULT_NAMES
 #include "inner.h"
 
 #include <elf.h>
@@ -10,59 +12,39 @@ static int file_has(const Image *image, uint64_t at, uint64_t len) {
     return at <= image->len && len <= image->len - at;
 }
 
-/* A segment to load, the k-th one of the file. The table was judged. */
-static int segment(const Image *image, unsigned k, Elf32_Phdr *p) {
+/* The segments of a file that nc_host_elf has judged. Only one that is linked for its addresses can be loaded as it is. */
+static const char *read_segments(Image *image) {
+    NcSegments found = nc_host_elf(image->bytes, image->len, image->segments, SEGMENTS);
     Elf32_Ehdr h;
-    if (k >= image->segment_count) {
-        return 0;
+    if (found.fault != NC_OK) {
+        return found.fault == NC_NO_ROOM ? "it has too many segments" : nc_fault_sentence(found.fault);
     }
     memcpy(&h, image->bytes, sizeof h);
-    memcpy(p, image->bytes + h.e_phoff + k * sizeof *p, sizeof *p);
-    return 1;
-}
-
-static int is_loaded(const Elf32_Phdr *p) {
-    return p->p_type == PT_LOAD && p->p_memsz != 0;
-}
-
-static const char *read_header(Image *image) {
-    static const uint8_t ident[] = {0x7F, 'E', 'L', 'F', ELFCLASS32, ELFDATA2LSB, EV_CURRENT};
-    Elf32_Ehdr h;
-    if (image->len < sizeof h || memcmp(image->bytes, ident, sizeof ident) != 0) {
-        return "it isn't a 32-bit ELF file";
+    if (h.e_type != ET_EXEC) {
+        return "it isn't a program that is linked for its addresses";
     }
-    memcpy(&h, image->bytes, sizeof h);
-    if (h.e_type != ET_EXEC || h.e_machine != EM_386) {
-        return "it isn't a program for 32-bit x86 that is linked for its addresses";
-    }
-    if (h.e_phentsize != sizeof(Elf32_Phdr) || !file_has(image, h.e_phoff, (uint64_t)h.e_phnum * sizeof(Elf32_Phdr))) {
-        return "its program headers aren't in the file";
-    }
-    image->segment_count = h.e_phnum;
     image->entry = h.e_entry;
+    image->segment_count = found.count;
     return NULL;
 }
 
 /* A segment of the data widens the span of the data; the one of the code is noted. */
-static const char *read_segment(Image *image, const Elf32_Phdr *p) {
-    uint32_t end = p->p_vaddr + p->p_memsz;
-    if (p->p_filesz > p->p_memsz || !file_has(image, p->p_offset, p->p_filesz)) {
-        return "a segment isn't in the file";
-    }
-    if (p->p_vaddr < DATA_LEAST || p->p_memsz > NCS_MEMORY_MAX || p->p_vaddr > NCS_MEMORY_MAX - p->p_memsz) {
+static const char *note_segment(Image *image, const NcSegment *s) {
+    uint32_t end = s->address + s->memory_len;
+    if (s->address < DATA_LEAST || s->memory_len > NCS_MEMORY_MAX || s->address > NCS_MEMORY_MAX - s->memory_len) {
         return "a segment is below 00010000 or above 1 GiB";
     }
-    if ((p->p_flags & PF_X) == 0) {
-        image->data_begin = p->p_vaddr < image->data_begin ? p->p_vaddr : image->data_begin;
+    if ((s->flags & PF_X) == 0) {
+        image->data_begin = s->address < image->data_begin ? s->address : image->data_begin;
         image->data_end = end > image->data_end ? end : image->data_end;
         return NULL;
     }
-    if (image->code_len != 0 || (p->p_flags & PF_W) != 0 || p->p_filesz != p->p_memsz) {
-        return "it hasn't one segment of code, all of it in the file, that can't be written";
+    if (image->code_len != 0) {
+        return "it has more than one segment of code";
     }
-    image->code_at = p->p_vaddr;
-    image->code_len = p->p_filesz;
-    image->code_offset = p->p_offset;
+    image->code_at = s->address;
+    image->code_len = s->file_len;
+    image->code_offset = s->offset;
     return NULL;
 }
 
@@ -95,18 +77,14 @@ static void find_symbols(Image *image) {
 }
 
 const char *ncs_elf_read(Image *image) {
-    Elf32_Phdr p;
-    const char *wrong = read_header(image);
-    unsigned k;
+    const char *wrong = read_segments(image);
+    size_t k;
     image->data_begin = UINT32_MAX;
-    for (k = 0; wrong == NULL && segment(image, k, &p); k++) {
-        wrong = is_loaded(&p) ? read_segment(image, &p) : NULL;
+    for (k = 0; wrong == NULL && k < image->segment_count; k++) {
+        wrong = note_segment(image, &image->segments[k]);
     }
     if (wrong != NULL) {
         return wrong;
-    }
-    if (image->code_len == 0) {
-        return "it has no code";
     }
     if (image->data_begin == UINT32_MAX) {
         image->data_begin = image->data_end = STACK_TOP;
@@ -178,11 +156,11 @@ const char *ncs_elf_function(const Image *image, uint32_t at, uint32_t *offset) 
 }
 
 void ncs_elf_copy_data(const Image *image, uint8_t *to) {
-    Elf32_Phdr p;
-    unsigned k;
-    for (k = 0; segment(image, k, &p); k++) {
-        if (is_loaded(&p) && (p.p_flags & PF_X) == 0) {
-            memcpy(to + p.p_vaddr, image->bytes + p.p_offset, p.p_filesz);
+    size_t k;
+    for (k = 0; k < image->segment_count; k++) {
+        const NcSegment *s = &image->segments[k];
+        if ((s->flags & PF_X) == 0) {
+            memcpy(to + s->address, image->bytes + s->offset, s->file_len);
         }
     }
 }

@@ -86,13 +86,16 @@ int ncs_bad_handler(void);     /* the number of a signal whose handler lacks SA_
 
 /* ---- elf.c */
 
+#define SEGMENTS 32u /* of a file, at most */
+
 /* A module's file, or its code alone. The file's numbers were judged, so that all of this is within it. */
 typedef struct Image {
     uint8_t *bytes; /* a copy */
     size_t len;
     uint32_t code_at, code_len, entry;
     size_t code_offset;
-    unsigned segment_count; /* of a file; code alone has none */
+    NcSegment segments[SEGMENTS];
+    size_t segment_count; /* of a file; code alone has none */
     uint32_t data_begin, data_end;
     size_t symbols, symbol_count, names, names_len; /* where they are in the file */
 } Image;
@@ -122,7 +125,6 @@ typedef struct Live {
     Seat seats[SEATS];
 } Live;
 
-void ncs_put_act(uint8_t *text, const NcAct *act, const uint8_t *code, uint32_t base); /* its stores [30]; of a chunk at this base */
 
 void ncs_live_lock(Live *live);
 void ncs_live_unlock(Live *live);

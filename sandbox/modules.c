@@ -1,4 +1,4 @@
-/* Code is judged, put into memory by the acts of its creation, and made executable. TRUSTED, NOT PROVED. [1 to 5, 11, 12, 28 to 31] */
+/* Code is judged, put into memory with stops around it, and made executable. TRUSTED, NOT PROVED. [1 to 5, 11, 12, 16 to 19, 28 to 32] */
 #include "inner.h"
 
 #include <stdlib.h>
@@ -34,62 +34,52 @@ void ncs_zone_lay(uint8_t *text) {
     }
 }
 
-/* Under ncs_lock. Whether the text is there, with no writable mapping of it. The acts of the creation are made in their order. The memory
-   isn't executable yet, and a thread serializes on its way in, so to settle is to wait for nobody [1, 2, 3, 28, 29, 31]. */
-static int map_text(NcsModule *m, const NcAct *acts, size_t count) {
-    uint8_t *text;
-    size_t i;
-    m->text_at = ncs_low_new(m->limit, PROT_READ | PROT_WRITE, -1);
-    if (m->text_at == 0) {
-        return 0;
-    }
-    text = (uint8_t *)(uintptr_t)m->text_at;
+/* Fills the text with stops, trampolines and the code, if that is accepted. Whether it is. Nobody can enter before the text is sealed, so
+   there are no acts, and nothing changes it later, so there is no region and no seat [4, 5, 16, 17, 28 to 32]. */
+static int fill_text(const NcsModule *m, NcsRefusal *why) {
+    const Image *image = &m->image;
+    const uint8_t *code = image->bytes + image->code_offset;
+    uint8_t *text = (uint8_t *)(uintptr_t)m->text_at;
+    NcVerdict judged;
     ncs_zone_lay(text);
-    memset(text + NC_START, NC_STOP, m->limit - NC_START);
-    for (i = 0; i < count; i++) {
-        ncs_put_act(text, &acts[i], m->image.bytes + m->image.code_offset, m->image.code_at);
-    }
-    m->selector = ncs_segment_code(m->text_at, m->limit);
-    return m->selector != 0 && ncs_low_seal(m->text_at, m->limit);
+    judged = nc_host_image(image->code_at, code, image->code_len, text + NC_START, m->limit - NC_START);
+    return judged.fault == NC_OK || ncs_refuse_fault(why, NCS_BAD_CODE, judged.fault, judged.at);
 }
 
-/* The verdict, and then the acts of the creation. Nothing is ever patched or deleted, so the region isn't needed once they are told, and no
-   seat would hold anything back [5, 16, 17, 18]. */
-static int judge(NcsModule *m, NcAct *acts, size_t room, size_t *count, NcsRefusal *why) {
-    const Image *image = &m->image;
-    uint32_t bundles = ncs_bundles_for((image->code_at + image->code_len - NC_START) / NC_BUNDLE);
-    NcRegion region = {0};
-    NcChange change = {0, 0, 0};
-    change.fault = nc_region_new(bundles, 1, &region);
-    if (change.fault == NC_OK) {
-        change = nc_region_create(&region, image->code_at, image->bytes + image->code_offset, image->code_len, NULL, 0);
-    }
-    if (change.fault == NC_OK) {
-        change = nc_region_creation_runs(&region, image->code_at, acts, room);
-    }
-    nc_region_free(&region);
-    m->limit = NC_LIMIT(bundles);
-    *count = change.count;
-    return change.fault == NC_OK || ncs_refuse_fault(why, NCS_BAD_CODE, change.fault, change.at);
+/* Memory for the text. Whether there is some. */
+static int take_text(NcsModule *m) {
+    (void)pthread_mutex_lock(&ncs_lock);
+    m->limit = NC_LIMIT(ncs_bundles_for((m->image.code_at + m->image.code_len - NC_START) / NC_BUNDLE));
+    m->text_at = ncs_low_new(m->limit, PROT_READ | PROT_WRITE, -1);
+    (void)pthread_mutex_unlock(&ncs_lock);
+    return m->text_at != 0;
+}
+
+/* Makes the text executable, with no writable mapping of it, and gives it a segment. Whether that is done [1, 2, 3, 6, 7]. */
+static int seal_text(NcsModule *m) {
+    int sealed;
+    (void)pthread_mutex_lock(&ncs_lock);
+    m->selector = ncs_segment_code(m->text_at, m->limit);
+    sealed = m->selector != 0 && ncs_low_seal(m->text_at, m->limit);
+    (void)pthread_mutex_unlock(&ncs_lock);
+    return sealed;
 }
 
 /* Whether the code is accepted, and there. */
 static int load(NcsModule *m, NcsRefusal *why) {
-    size_t room = m->image.code_len / 16 + 2, count;
-    NcAct *acts = malloc(room * sizeof *acts);
-    int made = 0;
-    if (acts == NULL) {
-        ncs_refuse(why, NCS_NO_MEMORY, "out of memory");
-    } else if (judge(m, acts, room, &count, why) && ncs_prepare(why)) {
-        (void)pthread_mutex_lock(&ncs_lock);
-        made = map_text(m, acts, count);
-        (void)pthread_mutex_unlock(&ncs_lock);
-        if (!made) {
-            ncs_refuse(why, NCS_NO_MEMORY, "there is no room below 4 GiB for the code, or no segment left");
-        }
+    int taken;
+    if (!ncs_prepare(why)) {
+        return 0;
     }
-    free(acts);
-    return made;
+    taken = take_text(m);
+    if (taken && !fill_text(m, why)) {
+        return 0;
+    }
+    if (!taken || !seal_text(m)) {
+        ncs_refuse(why, NCS_NO_MEMORY, "there is no room below 4 GiB for the code, or no segment left");
+        return 0;
+    }
+    return 1;
 }
 
 NcsModule *ncs_module_new(const void *bytes, size_t len, NcsRefusal *why) {

@@ -171,12 +171,13 @@ LENGTHS = {"code": "len", "bytes": "len", "new": "new_len"}
 # Where the numbers are: constants, and the equations by which a contract names a fault, a flow, an end, a mark or a kind of act.
 CONSTANTS = ["nc_decode/src/bundles.rt", "nc_handle/src/acts/entries.rt", "nc_host/src/*.rt"]
 EQUATIONS = ["nc_host/specs/*.antt", "nc_handle/specs/acts/*.antt"]
-PREFIXES = {"flow_number": "NC_FLOW_", "end_number": "NC_END_", "patch_number": "NC_PATCH_"}
+PREFIXES = {"flow_number": "NC_FLOW_", "end_number": "NC_END_", "patch_number": "NC_PATCH_", "elf_number": "NC_ELF_",
+            "segment_number": "NC_ELF_"}
 
 # Numbers that have another name in C, and kinds of acts that no call writes.
 OTHER_NAMES = {
     "NOTHING": "NO_HANDLE", "TAKEN": "HANDLE_TAKEN", "UNDERWAY": "UNDER_WAY", "NO_MEMORY": "OUT_OF_MEMORY",
-    "NONE_LEFT": "NO_SEAT", "GENS_FULL": "FULL", "AFTER": "MASKED", "MARK_SPAN": "MARK", "SETTLED": "SETTLE",
+    "NONE_LEFT": "NO_SEAT", "GENS_FULL": "FULL", "AFTER": "MASKED", "MARK_SPAN": "MARK", "SETTLED": "SETTLE", "ELF64": "64_BITS",
 }
 UNWRITTEN = {"UnmarkSpan", "Look"}
 

@@ -236,6 +236,43 @@ void vetted_chunks() {
     CHECK(is(free.load(*lower, acts).fault(), NC_WRONG_LIMIT, "NC_WRONG_LIMIT"));
 }
 
+// A file with one segment, which has the chunk's code.
+std::vector<std::uint8_t> chunk_file() {
+    const std::uint8_t headers[] = {
+        0x7F, 'E', 'L', 'F', 1, 1, 1, 0, 0, 0, 0, 0, 0, 0, 0, 0, 2, 0, 3, 0, 1, 0, 0, 0, 0, 0, 0, 0, 52, 0, 0, 0, // the file's
+        0, 0, 0, 0, 0, 0, 0, 0, 52, 0, 32, 0, 1, 0, 0, 0, 0, 0, 0, 0,
+        1, 0, 0, 0, 84, 0, 0, 0, 0, 0, 1, 0, 0, 0, 0, 0, LEN, 0, 0, 0, LEN, 0, 0, 0, 5, 0, 0, 0, 32, 0, 0, 0, // the segment's
+    };
+    std::vector<std::uint8_t> file(std::begin(headers), std::end(headers));
+    Code code = chunk_code();
+    file.insert(file.end(), code.begin(), code.end());
+    return file;
+}
+
+void loaded_once() {
+    std::vector<std::uint8_t> file = chunk_file(), text(LIMIT - NC_START, 0);
+    NcSegment room[2];
+    auto found = nc::loaded_segments(file, room);
+    CHECK(found && found->size() == 1);
+    const NcSegment segment = (*found)[0];
+    CHECK(segment.address == NC_START && segment.offset == 84 && segment.file_len == LEN && segment.memory_len == LEN && segment.flags == 5);
+    CHECK(nc::loaded_segments(file, nc::Span<NcSegment>()).fault().enough() == 1);
+    nc::Bytes code(file.data() + segment.offset, segment.file_len);
+    Memory memory;
+    nc::Region region = new_region();
+    Room acts;
+    CHECK(nc::fill_image(segment.address, code, text).ok() && nc::visit(*region.create(segment.address, code, acts), memory));
+    for (std::uint32_t at = NC_START; at < LIMIT; at++) {
+        CHECK(text[at - NC_START] == region.place(at)->byte);
+    }
+    file[84 + 1] = 0xC3;
+    file[84] = 0x90;
+    CHECK(is(nc::fill_image(segment.address, code, text).fault(), NC_NOT_PERMITTED, "NC_NOT_PERMITTED"));
+    CHECK(nc::fill_image(segment.address, code, text).fault().at() == NC_START + 1 && text[0] == 0xB8);
+    file[76] |= 2; // the segment's flags
+    CHECK(is(nc::loaded_segments(file, room).fault(), NC_ELF_WRITABLE_CODE, "NC_ELF_WRITABLE_CODE"));
+}
+
 void chunks_and_walks() {
     nc::Region region = new_region();
     Room acts;
@@ -314,6 +351,7 @@ int main() {
     a_deletion_taken_up_again();
     moves();
     vetted_chunks();
+    loaded_once();
     chunks_and_walks();
     seats_in_threads();
     std::printf("nc_host.hpp: %s\n", failures == 0 ? "all as it should be" : "FAILED");

@@ -28,7 +28,7 @@ typedef struct Trial {
     uint32_t bundles; /* of the chunk; the region has place for two of it */
     uint32_t limit;
     size_t len, room; /* of the code; of the acts */
-    uint8_t *code, *marks;
+    uint8_t *code, *marks, *text;
     NcAct *acts;
     uint32_t *choices, *places; /* one for each bundle, and one place more */
     const uint8_t *top;
@@ -45,6 +45,7 @@ static void expect(Trial *own, bool holds) {
 static void judge(Trial *own, uint32_t fault) {
     expect(own, nc_host_vet(NC_START, own->limit, own->code, own->len).fault == fault);
     expect(own, nc_host_marks(NC_START, own->limit, own->code, own->len, own->marks, own->len).fault == fault);
+    expect(own, nc_host_image(NC_START, own->code, own->len, own->text, own->limit - NC_START).fault == fault);
 }
 
 /* Code that gets this fault is refused by each call that vets. */
@@ -59,6 +60,7 @@ static void refuse(Trial *own, NcRegion *region, uint32_t fault) {
 static void judge_each(Trial *own, NcRegion *region) {
     uint8_t *last = own->code + own->len - NC_BUNDLE;
     expect(own, nc_host_decode(own->code, own->len).fault == NC_OK && nc_host_version() == NC_VERSION);
+    expect(own, nc_host_elf(own->code, own->len, NULL, 0).fault == NC_ELF_NOT_ELF);
     judge(own, NC_OK);
     last[NC_BUNDLE - 1] = 0xC3;
     refuse(own, region, NC_NOT_PERMITTED);
@@ -159,11 +161,11 @@ size_t most_stack(uint32_t bundles) {
     size_t len = (size_t)bundles * NC_BUNDLE, room = len + sizeof number * 3;
     Trial own = {
         .bundles = bundles, .limit = NC_LIMIT(2 * bundles + 1), .len = len, .room = room, .code = malloc(len), .marks = malloc(len),
-        .acts = malloc(room * sizeof(NcAct)), .choices = malloc(bundles * sizeof(uint32_t)),
+        .text = malloc((2 * bundles + 1) * NC_BUNDLE), .acts = malloc(room * sizeof(NcAct)), .choices = malloc(bundles * sizeof(uint32_t)),
         .places = malloc((bundles + 1) * sizeof(uint32_t)),
     };
     size_t found = SIZE_MAX;
-    if (own.code && own.marks && own.acts && own.choices && own.places) {
+    if (own.code && own.marks && own.text && own.acts && own.choices && own.places) {
         for (size_t i = 0; i < len; i += NC_BUNDLE) {
             memcpy(own.code + i, bundle, NC_BUNDLE);
         }
@@ -172,6 +174,7 @@ size_t most_stack(uint32_t bundles) {
     }
     free(own.code);
     free(own.marks);
+    free(own.text);
     free(own.acts);
     free(own.choices);
     free(own.places);

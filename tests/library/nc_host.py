@@ -15,6 +15,8 @@ BUNDLE, START, STOP = 32, 0x10000, 0xF4
 (PATCH_BAD_SPAN, PATCH_NOT_LIVE, PATCH_NOT_PERMITTED, PATCH_BOUNDARIES, PATCH_PAIR_TOUCHED, PATCH_BAD_TARGET) = range(16, 22)
 (NO_HANDLE, HANDLE_TAKEN, BAD_SEATS, BAD_SIZE, NO_SEAT, UNDER_WAY, NOT_BEGUN, WRONG_LIMIT, OCCUPIED, NO_CHUNK, FULL, NO_PLACE,
  NO_START) = range(32, 45)
+(ELF_NOT_ELF, ELF_SHORT_HEADER, ELF_64_BITS, ELF_OTHER_FORMAT, ELF_OTHER_MACHINE, ELF_UNLINKED, ELF_OTHER_TYPE, ELF_BAD_TABLE,
+ ELF_BEYOND_FILE, ELF_BEYOND_MEMORY, ELF_WRAPS, ELF_OUT_OF_ORDER, ELF_WRITABLE_CODE, ELF_UNFILLED_CODE, ELF_NO_CODE) = range(48, 63)
 FLOW_NEXT, FLOW_BRANCH, FLOW_JUMP, FLOW_CALL, FLOW_INDIRECT_JUMP, FLOW_INDIRECT_CALL, FLOW_STOP = range(1, 8)
 END_STOP, END_TRAMPOLINE, END_BEYOND, END_MORE = range(1, 5)
 UNMARKED, PLAIN, MASKED = 0, 1, 16
@@ -34,6 +36,8 @@ def struct(name, **fields):
 
 Instruction = struct("Instruction", fault=u32, length=u32, flow=u32, rel=ctypes.c_int32, reg=u32, masks=u32)
 Verdict = struct("Verdict", fault=u32, at=u32)
+Segment = struct("Segment", address=u32, offset=u32, file_len=u32, memory_len=u32, flags=u32)
+Segments = struct("Segments", count=size, fault=u32, header=u32)
 Act = struct("Act", kind=u32, at=u32, value=u32)
 Change = struct("Change", fault=u32, at=u32, count=size)
 Stamp = struct("Stamp", stamp=ctypes.c_uint64, fault=u32)
@@ -51,6 +55,8 @@ CALLS = {
     "nc_host_decode": (Instruction, ctypes.c_char_p, size),
     "nc_host_vet": (Verdict, u32, u32, ctypes.c_char_p, size),
     "nc_host_marks": (Verdict, u32, u32, ctypes.c_char_p, size, ctypes.c_char_p, size),
+    "nc_host_image": (Verdict, u32, ctypes.c_char_p, size, ctypes.c_char_p, size),
+    "nc_host_elf": (Segments, ctypes.c_char_p, size, to(Segment), size),
     "nc_region_new": (u32, u32, u32, to(Handle)),
     "nc_region_free": (None, to(Handle)),
     "nc_region_seat": (u32, to(Handle), to(Handle)),
@@ -104,6 +110,20 @@ def marks(base, end, code):
     room = ctypes.create_string_buffer(len(code))
     verdict = LIBRARY.nc_host_marks(base, end, code, len(code), room, len(code)).plain()
     return verdict, [*room.raw] if verdict.fault == OK else []
+
+
+def image(base, code, length, before=0xA5):
+    """The verdict, and what memory of this length has after it; before it each byte is `before`."""
+    room = ctypes.create_string_buffer(bytes([before]) * length, length)
+    verdict = LIBRARY.nc_host_image(base, code, len(code), room, length).plain()
+    return verdict, room.raw
+
+
+def segments(file, room):
+    """The answer on an ELF file, and the elements that a buffer with room for so many has then; before it all their bytes are FF."""
+    buffer = (Segment * room).from_buffer(bytearray(b"\xff" * ctypes.sizeof(Segment) * room))
+    answer = LIBRARY.nc_host_elf(file, len(file), buffer, room).plain()
+    return answer, [segment.plain() for segment in buffer]
 
 
 Changed = collections.namedtuple("Changed", "fault at acts")

@@ -9,6 +9,7 @@
 #define NC_FAULT_NAMES
 #include "nc_host.h"
 
+#include <elf.h>
 #include <stdbool.h>
 #include <stdio.h>
 #include <stdlib.h>
@@ -63,6 +64,7 @@ static struct {
     NcAct acts[ROOM];
     uint8_t marks[2 * NC_BUNDLE];
     uint32_t places[3];
+    uint8_t image[BUNDLES * NC_BUNDLE];
 } buffers;
 
 static void need(bool holds) {
@@ -76,6 +78,7 @@ static void need(bool holds) {
 
 static uint32_t vet(void) { return nc_host_vet(base, LIMIT, BYTES(code)).fault; }
 static uint32_t mark(void) { return nc_host_marks(base, LIMIT, BYTES(code), buffers.marks, sizeof buffers.marks).fault; }
+static uint32_t image(void) { return nc_host_image(base, BYTES(code), buffers.image, sizeof buffers.image).fault; }
 static uint32_t new_region(void) { return nc_region_new(BUNDLES, 1, &region); }
 static uint32_t seat(void) { return nc_region_seat(&region, &seats[0]); }
 static uint32_t create(void) { return nc_region_create(&region, base, BYTES(code), buffers.acts, ROOM).fault; }
@@ -157,6 +160,24 @@ static uint32_t tell_runs(void) {
     return nc_region_end_delete(&region).fault;
 }
 
+/* A file with a segment of code, which is its headers, and one of memory alone. */
+static uint32_t read_file(void) {
+    struct {
+        Elf32_Ehdr header;
+        Elf32_Phdr segments[2];
+    } file = {
+        {.e_ident = {0x7F, 'E', 'L', 'F', ELFCLASS32, ELFDATA2LSB, EV_CURRENT}, .e_type = ET_EXEC, .e_machine = EM_386,
+         .e_version = EV_CURRENT, .e_phoff = sizeof file.header, .e_phentsize = sizeof(Elf32_Phdr), .e_phnum = 2},
+        {{.p_type = PT_LOAD, .p_vaddr = NC_START, .p_filesz = NC_BUNDLE, .p_memsz = NC_BUNDLE, .p_flags = PF_R | PF_X},
+         {.p_type = PT_LOAD, .p_vaddr = 2 * NC_START, .p_memsz = NC_BUNDLE, .p_flags = PF_R | PF_W}},
+    };
+    NcSegment segments[2];
+    NcSegments found = nc_host_elf((const uint8_t *)&file, sizeof file, segments, 1);
+    printf("segments: %zu\n", found.count);
+    tell("with room for one", found.fault);
+    return nc_host_elf((const uint8_t *)&file, sizeof file, segments, 2).fault;
+}
+
 /* ---- What stands after a call */
 
 static char mark_char(uint32_t mark) {
@@ -168,6 +189,15 @@ static void show_marks(void) {
         putchar(mark_char(buffers.marks[i]));
     }
     putchar('\n');
+}
+
+static void show_image(void) {
+    for (size_t i = 0; i < sizeof buffers.image; i++) {
+        printf("%02x%s", buffers.image[i], i % NC_BUNDLE == NC_BUNDLE - 1 ? "\n" : "");
+    }
+}
+
+static void show_nothing(void) {
 }
 
 static void show_acts(void) {
@@ -272,6 +302,8 @@ static const Call calls[] = {
     {"vet-return", RETURN, NO_REGION, 0, 0, vet, show_marks},
     {"marks-pair", NOPS27 PAIR, NO_REGION, 0, 0, mark, show_marks},
     {"marks-jumps", JUMPS, NO_REGION, 0, 0, mark, show_marks},
+    {"image", JUMP, NO_REGION, 0, 1, image, show_image},
+    {"file", JUMP, NO_REGION, 0, 0, read_file, show_nothing},
     {"region", JUMP, NO_REGION, 0, 0, new_region, show_region},
     {"seat", JUMP, REGION, 0, 0, seat, show_seat},
     {"create", JUMP, REGION, 0, 0, create, show_change},

@@ -20,17 +20,21 @@ def as_list(kind, address):
 
 
 def lent(address):
-    """The faults of the calls on code alone."""
-    none = as_bytes(address)
+    """The faults of the calls on code alone, and on files."""
+    none, segments = as_bytes(address), as_list(nc.Segment, address)
     return [
         LIBRARY.nc_host_decode(none, 0).fault,
         LIBRARY.nc_host_vet(nc.START, END, none, 0).fault,
         LIBRARY.nc_host_marks(nc.START, END, none, 0, none, 0).fault,
         LIBRARY.nc_host_marks(nc.START, END, CODE, len(CODE), none, 0).fault,
+        LIBRARY.nc_host_image(nc.START, none, 0, none, 0).fault,
+        LIBRARY.nc_host_image(nc.START, CODE, len(CODE), none, 0).fault,
+        LIBRARY.nc_host_elf(none, 0, segments, 0).fault,
+        LIBRARY.nc_host_elf(CODE, len(CODE), segments, 0).fault,
     ]
 
 
-LENT = [nc.CUT_SHORT, nc.BAD_LENGTH, nc.BAD_LENGTH, nc.NO_ROOM]
+LENT = [nc.CUT_SHORT, nc.BAD_LENGTH, nc.BAD_LENGTH, nc.NO_ROOM, nc.BAD_LENGTH, nc.OUT_OF_RANGE, nc.ELF_NOT_ELF, nc.ELF_NOT_ELF]
 
 
 def held(address):

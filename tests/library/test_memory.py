@@ -55,6 +55,7 @@ class TakesNone(unittest.TestCase):
         region, _ = filled_region(600)
         with self.no_memory():
             self.assertEqual(nc.decode(CODE).length, 2)
+            self.assertEqual(nc.segments(CODE, 2)[0].fault, nc.ELF_NOT_ELF)
             self.assertGreater(LIBRARY.nc_host_version(), 0)
             self.assertEqual([region.chunk(index).fault for index in (0, 599, 600, 2**40)], [nc.OK, nc.OK, nc.NO_CHUNK, nc.NO_CHUNK])
             self.assertEqual([region.chunk_at(at).fault for at in (0, base(300), base(600))], [nc.OK, nc.OK, nc.NO_CHUNK])
@@ -173,6 +174,7 @@ class GivenBack(unittest.TestCase):
         for code, wanted in (filled("c3"), nc.NOT_PERMITTED), (filled("eb7e"), nc.BAD_TARGET), (CODE, nc.OK):
             self.assertEqual(nc.vet(nc.START, end, code).fault, wanted)
             self.assertEqual(nc.marks(nc.START, end, code)[0].fault, wanted)
+            self.assertEqual(nc.image(nc.START, code, end - nc.START)[0].fault, wanted)
             self.assertEqual(nc.Vetted(nc.START, end, code).verdict.fault, wanted)
             self.assertEqual(region.create(nc.START, code).fault, wanted)
         free(region)

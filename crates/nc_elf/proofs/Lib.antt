@@ -6,3 +6,4 @@ mod Finds
 mod Fields
 mod Listed
 mod OneTable
+mod Loadable

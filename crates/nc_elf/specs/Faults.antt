@@ -1,13 +1,15 @@
 -- The fault of an ELF file: the first in the order of `ElfFault` and, for segments, of the program headers.
-use Rattle.std.specs.Prelude.{◌≡◌, ◌≢◌, ℕ, ◌<◌, List, IsTrue, slice_index}
+use Rattle.std.specs.Prelude.{◌≡◌, ◌≢◌, ℕ, ◌<◌, List, length, IsTrue, slice_index}
 use Rattle.nc_elf.specs.declared.fault.ElfFault.{ElfFault}
 use Rattle.nc_elf.specs.declared.fault.ElfFault.TheVariants.{NotElf, ShortHeader, Elf64, OtherFormat, OtherMachine, Unlinked}
 use Rattle.nc_elf.specs.declared.fault.ElfFault.TheVariants.{OtherType, BadTable, BadSegment, NoCode, OutOfMemory}
+use Rattle.nc_elf.specs.declared.fault.LoadedFault.{LoadedFault}
+use Rattle.nc_elf.specs.declared.fault.LoadedFault.TheVariants.{NoRoom, Refused}
 use Rattle.nc_elf.specs.declared.fault.SegmentFault.{SegmentFault}
 use Rattle.nc_elf.specs.declared.fault.SegmentFault.TheVariants.{BeyondFile, BeyondMemory, Wraps, OutOfOrder, WritableCode, UnfilledCode}
 use Rattle.nc_elf.specs.Header.{e_type, e_phnum, IsElf, HasWholeHeader, IsElf32, IsX86, IsLinked, HasTable}
 use Rattle.nc_elf.specs.Segments.{program_header, is_load, HasCode, IsInFile, IsInMemory, IsBelowTop, EndBy, IsNotWritableCode}
-use Rattle.nc_elf.specs.Segments.{IsFilled, AreGood, IsWellFormed}
+use Rattle.nc_elf.specs.Segments.{IsFilled, AreGood, IsWellFormed, loaded_segments_of}
 
 -- the first fault of the loaded segment of the i-th program header
 abbrev pub HasSegmentFault : List ℕ → ℕ → SegmentFault → Type 0
@@ -53,3 +55,9 @@ HasElfFault file (BadSegment i fault) = IsFirstBad file i fault
 HasElfFault file NoCode = HasTable file × AreGood file (e_phnum file) × ¬ HasCode file
 HasElfFault file OutOfMemory = IsWellFormed file
 HasElfFault file fault = HasHeaderFault file fault
+
+-- A permitted refusal to write the loaded segments into a buffer with room for this many of them: the file's fault, which isn't
+-- lack of memory; or, for a well-formed file, that it has more loaded segments, with their number.
+abbrev pub MayRefuseLoaded : List ℕ → ℕ → LoadedFault → Type 0
+MayRefuseLoaded file room (NoRoom wanted) = IsWellFormed file × (wanted ≡ length (loaded_segments_of file)) × (room < wanted)
+MayRefuseLoaded file room (Refused fault) = HasElfFault file fault × (fault ≢ OutOfMemory)

@@ -2,6 +2,7 @@
 use Rattle.std.specs.Prelude.{ℕ, ◌+◌, ◌*◌, ◌^◌, ◌<◌, ◌≤◌, ◌==◌, ◌&&◌, Bool, List, length, map, filter, bit_and, nat_lt, slice_range, IsTrue}
 use Rattle.std.specs.List.{range_with_len}
 use Rattle.nc_elf.specs.declared.program.ProgramHeader.{ProgramHeader}
+use Rattle.nc_elf.specs.declared.loaded.NcSegment.{NcSegment}
 use Rattle.nc_elf.specs.declared.segment.Segment.{Segment}
 use Rattle.nc_elf.specs.Header.{u32_at, e_phoff, e_phnum, HasTable}
 
@@ -110,3 +111,41 @@ EndsBefore s t = s.address + s.len ≤ t.address
 -- the bytes of the segment in the file
 abbrev pub bytes_of : List ℕ → Segment → List ℕ
 bytes_of file s = slice_range file s.offset (s.offset + s.len)
+
+-- the segment is loaded (PT_LOAD), and has at least one byte in memory
+abbrev pub is_present : ProgramHeader → Bool
+is_present h = is_load h && nat_lt 0 h.memory_len
+
+-- a loaded segment as its program header describes it: its address, the position of its bytes in the file, their number
+-- in the file and in memory, and its flags (p_flags: 1 is PF_X, 2 is PF_W, 4 is PF_R)
+abbrev pub loaded_of : ProgramHeader → NcSegment
+loaded_of h =
+    record { address = h.address; offset = h.offset; file_len = h.file_len; memory_len = h.memory_len; flags = h.flags }
+
+-- the loaded segments of the file, of code and of data: those of the program headers of type PT_LOAD with at least one
+-- byte in memory; in the order of the file
+abbrev pub loaded_segments_of : List ℕ → List NcSegment
+loaded_segments_of file = map loaded_of (filter is_present (program_headers file))
+
+-- the flags have the bit of executable segments (PF_X)
+abbrev pub HasExecutableFlag : ℕ → Type 0
+HasExecutableFlag flags = IsTrue (bit_and flags 1 == 1)
+
+-- the flags have the bit of writable segments (PF_W)
+abbrev pub HasWritableFlag : ℕ → Type 0
+HasWritableFlag flags = IsTrue (bit_and flags 2 == 2)
+
+-- A segment that a loader can load without looking further. It has at least one byte in memory, and no more in the file. Those
+-- are in the file, and the ones in memory end at 2^32 or below. If it is executable, it isn't writable, and all its bytes in
+-- memory are in the file.
+pub record IsLoadable (file : List ℕ) (s : NcSegment) : Type 0 where
+  pub some : 0 < s.memory_len
+  pub in_memory : s.file_len ≤ s.memory_len
+  pub in_file : s.offset + s.file_len ≤ length file
+  pub below_top : s.address + s.memory_len ≤ 2 ^ 32
+  pub constant : HasExecutableFlag s.flags → HasWritableFlag s.flags → ⊥
+  pub filled : HasExecutableFlag s.flags → s.memory_len ≤ s.file_len
+
+-- the first segment's bytes in memory end at or below the address where those of the second begin
+abbrev pub IsLoadedBelow : NcSegment → NcSegment → Type 0
+IsLoadedBelow s t = s.address + s.memory_len ≤ t.address

@@ -1,6 +1,7 @@
 //! Checks whether a file is well-formed.
 
-ghost use Rattle.std.specs.Prelude.{◌<◌, ◌↔◌, IsTrue, IfErr, OnOk, IfNone, IfSome};
+ghost use Rattle.std.specs.Prelude.{◌≢◌, ◌<◌, ◌↔◌, IsTrue, IfErr, OnOk, IfNone, IfSome};
+ghost use Rattle.nc_elf.specs.declared.fault.ElfFault.{ElfFault};
 ghost use Rattle.nc_elf.specs.Header.{e_phnum, HasTable};
 ghost use Rattle.nc_elf.specs.Segments.{AreGood, IsGoodSegment, HasCode, IsWellFormed};
 ghost use Rattle.nc_elf.specs.Faults.{HasElfFault, HasSegmentFault};
@@ -48,6 +49,7 @@ fn check_segments(file: &[u8]) -> Result<(), ElfFault>
     requires { HasTable file.now }
     ensures fine { OnOk result (AreGood file.now (e_phnum file.now)) }
     ensures fault { IfErr result (HasElfFault file.now) }
+    ensures named { IfErr result (λ fault. fault ≢ ElfFault.OutOfMemory) }
 {
     let mut floor = 0;
     for number in 0..header_count(file) {
@@ -79,6 +81,7 @@ fn has_code(file: &[u8]) -> bool
 pub(crate) fn check(file: &[u8]) -> Result<(), ElfFault>
     ensures fine { OnOk result (IsWellFormed file.now) }
     ensures fault { IfErr result (HasElfFault file.now) }
+    ensures named { IfErr result (λ fault. fault ≢ ElfFault.OutOfMemory) }
 {
     check_header(file)?;
     check_segments(file)?;

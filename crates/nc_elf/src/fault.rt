@@ -62,3 +62,12 @@ pub enum ElfFault {
     #[error("out of memory")]
     OutOfMemory,
 }
+
+/// Why the loaded segments of a file aren't written into a buffer.
+#[derive(Clone, Copy, Drop)]
+pub enum LoadedFault {
+    /// The file has this fault.
+    Refused(ElfFault),
+    /// The buffer has fewer elements than the file has loaded segments, which are this many.
+    NoRoom(usize),
+}

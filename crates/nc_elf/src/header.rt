@@ -1,6 +1,7 @@
 //! The ELF header.
 
-ghost use Rattle.std.specs.Prelude.{◌≡◌, ◌↔◌, IsTrue, OnOk, IfErr};
+ghost use Rattle.std.specs.Prelude.{◌≡◌, ◌≢◌, ◌↔◌, IsTrue, OnOk, IfErr};
+ghost use Rattle.nc_elf.specs.declared.fault.ElfFault.{ElfFault};
 ghost use Rattle.nc_elf.specs.Header.{IsElf, HasWholeHeader, IsElf32, IsX86, IsLinked, HasTable};
 ghost use Rattle.nc_elf.specs.Faults.{HasElfFault};
 
@@ -86,6 +87,7 @@ fn has_table(file: &[u8]) -> bool
 pub(crate) fn check_header(file: &[u8]) -> Result<(), ElfFault>
     ensures fine { OnOk result (HasTable file.now) }
     ensures fault { IfErr result (HasElfFault file.now) }
+    ensures named { IfErr result (λ fault. fault ≢ ElfFault.OutOfMemory) }
 {
     if !is_elf(file) {
         return Err(ElfFault::NotElf);

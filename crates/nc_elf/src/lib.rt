@@ -1,4 +1,4 @@
-//! The executable segments of linked 32-bit x86 ELF files, and the symbols of their code.
+//! The segments of linked 32-bit x86 ELF files, and the symbols of their code.
 //!
 //! Code is vetted as bytes at an address. A linker puts both into a file, whose program headers say which bytes a loader
 //! maps where, and which of them may be executed. [`code_segments`] reads these headers, as the System V ABI defines them,
@@ -19,6 +19,9 @@
 //! }
 //! ```
 //!
+//! [`loaded_segments`] writes all loaded segments of the same files, of code and of data, into a buffer of the caller's, and
+//! allocates nothing.
+//!
 //! [`code_symbols`] lists the names that the file's symbol table has for code, by ascending address. Symbols decide nothing:
 //! they are names for messages. A file without a symbol table, or with a malformed one, has none, and isn't refused.
 //!
@@ -35,14 +38,16 @@ mod entries;
 mod fault;
 mod header;
 mod listing;
+mod loaded;
 mod numbers;
 mod program;
 mod sections;
 mod segment;
 mod symbols;
 
-pub use fault::{ElfFault, SegmentFault};
+pub use fault::{ElfFault, LoadedFault, SegmentFault};
 pub use header::is_elf;
 pub use listing::code_segments;
+pub use loaded::{NcSegment, loaded_segments};
 pub use segment::Segment;
 pub use symbols::{Symbol, code_symbols};

@@ -2,9 +2,10 @@
 
 ghost use Rattle.std.specs.Prelude.{◌≡◌, ◌+◌, ◌<◌, ◌↔◌, IsTrue};
 ghost use Rattle.nc_elf.specs.Header.{e_phnum, HasTable};
-ghost use Rattle.nc_elf.specs.Segments.{program_header, is_load, is_executable, is_writable, is_code, segment_of, IsInFile};
+ghost use Rattle.nc_elf.specs.Segments.{program_header, is_load, is_executable, is_writable, is_code, is_present, segment_of, loaded_of, IsInFile};
 
 use crate::header::{E_PHNUM, E_PHOFF};
+use crate::loaded::NcSegment;
 use crate::numbers::{u16_at, u32_at};
 use crate::segment::Segment;
 
@@ -79,6 +80,13 @@ impl ProgramHeader {
         self.is_load() && self.is_executable() && self.file_len > 0
     }
 
+    /// Whether the segment is loaded, and has bytes in memory.
+    pub(crate) fn is_present(self) -> bool
+        ensures { result ≡ is_present self }
+    {
+        self.is_load() && self.memory_len > 0
+    }
+
     /// Whether the file contains all the bytes that the header places in it.
     pub(crate) fn is_in_file(self, file: &[u8]) -> bool
         ensures { IsTrue result ↔ IsInFile file.now self }
@@ -101,6 +109,19 @@ impl ProgramHeader {
             address: self.address,
             offset: self.offset,
             len: self.file_len,
+        }
+    }
+
+    /// The segment as a loader needs it.
+    pub(crate) fn loaded(self) -> NcSegment
+        ensures { result ≡ loaded_of self }
+    {
+        NcSegment {
+            address: self.address,
+            offset: self.offset,
+            file_len: self.file_len,
+            memory_len: self.memory_len,
+            flags: self.flags,
         }
     }
 }

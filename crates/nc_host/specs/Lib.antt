@@ -5,3 +5,4 @@ pub mod Seats
 pub mod Looks
 pub mod Walked
 pub mod Running
+pub mod Files

@@ -28,6 +28,18 @@ pub struct NcVerdict {
     pub at: u32,
 }
 
+/// The number of a file's loaded segments.
+#[repr(C)]
+#[derive(Clone, Copy)]
+pub struct NcSegments {
+    /// The number of segments written; where there is no room, the number that there are; else 0.
+    pub count: usize,
+    /// 0, or the number of the fault.
+    pub fault: u32,
+    /// The number of the program header, counted from 0, whose segment has the fault; else 0.
+    pub header: u32,
+}
+
 /// The buffer is too short.
 pub(crate) const NO_ROOM: u32 = 9;
 

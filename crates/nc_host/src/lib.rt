@@ -21,6 +21,11 @@
 //!
 //! - [`nc_host_decode`]: the instruction with which some bytes begin.
 //! - [`nc_host_vet`], [`nc_host_marks`]: the verdict on a chunk, and its marks.
+//! - [`nc_host_image`]: the text of a region with a chunk, filled before anybody enters.
+//!
+//! On a lent file:
+//!
+//! - [`nc_host_elf`]: the loaded segments of an ELF file, each judged.
 #![tactic(auto)]
 
 mod answers;
@@ -28,6 +33,8 @@ mod changing;
 mod chunks;
 mod decoding;
 mod deleting;
+mod files;
+mod imaging;
 mod looking;
 mod marking;
 mod numbers;
@@ -40,12 +47,15 @@ mod vetted;
 mod vetting;
 mod walking;
 
-pub use answers::{NcInstruction, NcVerdict};
+pub use answers::{NcInstruction, NcSegments, NcVerdict};
 pub use changing::{nc_region_create, nc_region_patch};
 pub use decoding::nc_host_decode;
 pub use deleting::{nc_region_begin_delete, nc_region_end_delete, nc_region_reclaim};
+pub use files::nc_host_elf;
+pub use imaging::nc_host_image;
 pub use looking::{nc_region_chunk, nc_region_chunk_at, nc_region_generation, nc_region_place};
 pub use marking::nc_host_marks;
+pub use nc_elf::NcSegment;
 pub use nc_handle::NcAct;
 pub use region_answers::{NcChange, NcChunk, NcCount, NcPlace, NcStamp, NcWalk};
 pub use regions::{nc_region_free, nc_region_new, nc_region_seat};

@@ -4,7 +4,8 @@ use crate::ffi;
 use std::error::Error;
 use std::fmt;
 
-/// Writes the enum and what is said of each fault. The first two names are those of a fault's address, and of a length that is enough.
+/// Writes the enum and what is said of each fault. The first two names are those of a fault's address or program header, and of a length
+/// that is enough.
 macro_rules! faults {
     ($at:ident, $enough:ident; $($variant:ident $({ $field:ident: $of:ty })? = $number:literal, $name:literal, $sentence:literal;)*) => {
         /// Why a call was refused. The numbers and the sentences are those of nc_host.h.
@@ -14,7 +15,7 @@ macro_rules! faults {
             $(
                 #[doc = $sentence]
                 $variant $({
-                    /// What is told beside the fault: the address, or the length of a buffer that is enough.
+                    /// What is told beside the fault: the address, the program header, or the length of a buffer that is enough.
                     $field: $of,
                 })?,
             )*
@@ -47,7 +48,7 @@ macro_rules! faults {
                 }
             }
 
-            /// The fault of an answer of [`ffi`](crate::ffi), by its fields `fault`, `at` and `count`. `None` for `NC_OK`.
+            /// The fault of an answer of [`ffi`](crate::ffi), by its fields `fault`, `at` (or `header`) and `count`. `None` for `NC_OK`.
             #[allow(unused_variables)] // most faults have neither an address nor a length
             pub fn of(number: u32, $at: u32, $enough: usize) -> Option<Fault> {
                 Some(match number {
@@ -103,6 +104,24 @@ faults! {
     Full = 42, "NC_FULL", "no stamp is left, after 2^62 deletions";
     NoPlace = 43, "NC_NO_PLACE", "the address is outside the region";
     NoStart = 44, "NC_NO_START", "the address is not a bundle start of the region, where a walk can begin";
+    ElfNotElf = 48, "NC_ELF_NOT_ELF", "not an ELF file";
+    ElfShortHeader = 49, "NC_ELF_SHORT_HEADER", "the file ends in its ELF header";
+    Elf64Bits = 50, "NC_ELF_64_BITS", "a 64-bit ELF file";
+    ElfOtherFormat = 51, "NC_ELF_OTHER_FORMAT", "not a 32-bit little-endian ELF file of version 1";
+    ElfOtherMachine = 52, "NC_ELF_OTHER_MACHINE", "not for the Intel 80386";
+    ElfUnlinked = 53, "NC_ELF_UNLINKED", "an object file, which is not linked";
+    ElfOtherType = 54, "NC_ELF_OTHER_TYPE", "neither an executable file nor a shared object";
+    ElfBadTable = 55, "NC_ELF_BAD_TABLE",
+        "the program headers aren't 32 bytes long, are 65535 or more, or aren't all in the file";
+    ElfBeyondFile { at: u32 } = 56, "NC_ELF_BEYOND_FILE", "a loaded segment reaches beyond the end of the file";
+    ElfBeyondMemory { at: u32 } = 57, "NC_ELF_BEYOND_MEMORY",
+        "a loaded segment has more bytes in the file than in memory";
+    ElfWraps { at: u32 } = 58, "NC_ELF_WRAPS", "a loaded segment ends above the last address";
+    ElfOutOfOrder { at: u32 } = 59, "NC_ELF_OUT_OF_ORDER", "a loaded segment overlaps an earlier one or lies below it";
+    ElfWritableCode { at: u32 } = 60, "NC_ELF_WRITABLE_CODE", "a loaded segment is both writable and executable";
+    ElfUnfilledCode { at: u32 } = 61, "NC_ELF_UNFILLED_CODE",
+        "a loaded segment is executable and has bytes in memory that aren't in the file";
+    ElfNoCode = 62, "NC_ELF_NO_CODE", "no loaded segment is executable and has bytes in the file";
 }
 
 impl Fault {
@@ -120,6 +139,19 @@ impl Fault {
             _ => None,
         }
     }
+
+    /// The number of the program header, counted from 0, of a fault that is about a segment.
+    pub fn header(self) -> Option<u32> {
+        match self {
+            Fault::ElfBeyondFile { at }
+            | Fault::ElfBeyondMemory { at }
+            | Fault::ElfWraps { at }
+            | Fault::ElfOutOfOrder { at }
+            | Fault::ElfWritableCode { at }
+            | Fault::ElfUnfilledCode { at } => Some(at),
+            _ => None,
+        }
+    }
 }
 
 impl fmt::Display for Fault {
@@ -127,9 +159,10 @@ impl fmt::Display for Fault {
         match *self {
             Fault::Other(number) => write!(f, "fault {number}"),
             Fault::NoRoom { enough } => write!(f, "{} ({enough} is enough)", self.sentence()),
-            fault => match fault.at() {
-                Some(at) => write!(f, "{} ({at:08x})", fault.sentence()),
-                None => f.write_str(fault.sentence()),
+            fault => match (fault.at(), fault.header()) {
+                (Some(at), _) => write!(f, "{} ({at:08x})", fault.sentence()),
+                (_, Some(header)) => write!(f, "{} (program header {header})", fault.sentence()),
+                _ => f.write_str(fault.sentence()),
             },
         }
     }

@@ -1,7 +1,7 @@
 //! The declarations of include/nc_host.h, by the header's own names. `tests/layout.rs` compares sizes, offsets and numbers with the header.
 //!
-//! The header says what each call promises and what its caller must keep. The safe interface above this module makes each call on a handle.
-//! The calls on code alone are here only.
+//! The header says what each call promises and what its caller must keep. The safe interface above this module makes each call on a handle,
+//! and those of a host that loads code once. The other calls on code alone are here only.
 
 use std::ffi::c_void;
 
@@ -56,6 +56,25 @@ pub struct NcInstruction {
 pub struct NcVerdict {
     pub fault: u32,
     pub at: u32,
+}
+
+/// A loaded segment of an ELF file, as its program header describes it.
+#[repr(C)]
+#[derive(Clone, Copy, Debug, Default, PartialEq, Eq)]
+pub struct NcSegment {
+    pub address: u32,
+    pub offset: u32,
+    pub file_len: u32,
+    pub memory_len: u32,
+    pub flags: u32,
+}
+
+#[repr(C)]
+#[derive(Clone, Copy, Debug, Default, PartialEq, Eq)]
+pub struct NcSegments {
+    pub count: usize,
+    pub fault: u32,
+    pub header: u32,
 }
 
 #[repr(C)]
@@ -148,6 +167,8 @@ extern "C" {
         marks: *mut u8,
         marks_len: usize,
     ) -> NcVerdict;
+    pub fn nc_host_image(base: u32, code: *const u8, len: usize, image: *mut u8, image_len: usize) -> NcVerdict;
+    pub fn nc_host_elf(file: *const u8, file_len: usize, segments: *mut NcSegment, segments_len: usize) -> NcSegments;
 
     pub fn nc_region_new(bundles: u32, seats: u32, region: *mut NcRegion) -> u32;
     pub fn nc_region_free(region: *mut NcRegion);

@@ -1,7 +1,8 @@
 //! A safe interface of the C library `nc_host`: regions of proved Native Client code, the seats of their threads, and vetted chunks.
 //!
 //! Each method makes the call of the library that its documentation names, and `include/nc_host.h` says what that call promises. Nothing is
-//! proved of this crate. The calls on code alone, such as `nc_host_vet`, are declared in [`ffi`] only.
+//! proved of this crate. Of the calls on code alone those of a host that loads code once are functions here ([`fill_image`],
+//! [`loaded_segments`]). The others, such as `nc_host_vet`, are declared in [`ffi`] only.
 //!
 //! What the header asks of handles is kept by types: [`Region`], [`Seat`] and [`Vetted`] own theirs, free or leave when they are dropped, and
 //! are never empty; `&mut` keeps calls on one of them apart. A [`Region`] isn't `Sync`: hosts with threads put it behind a lock of their own,
@@ -29,6 +30,7 @@ mod act;
 mod fault;
 #[allow(missing_docs)]
 pub mod ffi;
+mod loading;
 mod look;
 mod region;
 mod seat;
@@ -36,6 +38,7 @@ mod vetted;
 
 pub use act::{Act, Acts, RawAct, WrittenOut};
 pub use fault::Fault;
+pub use loading::{fill_image, loaded_segments, Segment};
 pub use look::{Chunk, End, Mark, Place, Walk};
 pub use region::{Deletion, Region};
 pub use seat::Seat;

@@ -17,6 +17,8 @@ fn said() -> (String, String) {
     lay_out! { out, c,
         NcInstruction { fault, length, flow, rel, reg, masks }
         NcVerdict { fault, at }
+        NcSegment { address, offset, file_len, memory_len, flags }
+        NcSegments { count, fault, header }
         NcAct { kind, at, value }
         NcRegion { at }
         NcSeat { at }

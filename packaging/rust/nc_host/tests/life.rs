@@ -1,6 +1,9 @@
 //! The safe interface over the library itself: the life of a chunk, refusals, runs, and seats in threads.
 
-use nc_host::{limit, Act, Acts, Chunk, End, Fault, Mark, RawAct, Region, Seat, Vetted, BUNDLE, START, STOP};
+use nc_host::{
+    fill_image, limit, loaded_segments, Act, Acts, Chunk, End, Fault, Mark, RawAct, Region, Seat, Segment, Vetted,
+    BUNDLE, START, STOP,
+};
 use std::sync::Mutex;
 use std::thread;
 use std::time::Duration;
@@ -280,5 +283,40 @@ fn what_is_dropped_is_freed() -> Result<(), Fault> {
         (Some(before), Some(after)) => assert!(after < before + 50 * MIB, "{before} bytes became {after}"),
         _ => println!("skipped: whether what is dropped is freed: the system doesn't tell"),
     }
+    Ok(())
+}
+
+fn halves(numbers: &[u16]) -> Vec<u8> {
+    numbers.iter().flat_map(|number| number.to_le_bytes()).collect()
+}
+
+fn words(numbers: &[u32]) -> Vec<u8> {
+    numbers.iter().flat_map(|number| number.to_le_bytes()).collect()
+}
+
+/// A file with one segment, which has the chunk's code.
+fn chunk_file() -> Vec<u8> {
+    let ident = b"\x7fELF\x01\x01\x01\0\0\0\0\0\0\0\0\0".to_vec();
+    let segment = words(&[1, 84, START, 0, LEN as u32, LEN as u32, 5, 32]);
+    let header = [halves(&[2, 3]), words(&[1, 0, 52, 0, 0]), halves(&[52, 32, 1, 0, 0, 0])].concat();
+    [ident, header, segment, chunk_code().to_vec()].concat()
+}
+
+#[test]
+fn code_loaded_once() -> Result<(), Fault> {
+    let (mut file, mut room) = (chunk_file(), [Segment::default(); 2]);
+    assert_eq!(loaded_segments(&file, &mut []), Err(Fault::NoRoom { enough: 1 }));
+    let segment = Segment { address: START, offset: 84, file_len: LEN as u32, memory_len: LEN as u32, flags: 5 };
+    assert_eq!(loaded_segments(&file, &mut room), Ok(&[segment][..]));
+    let (mut text, mut region) = ([0; BUNDLES as usize * BUNDLE], Region::new(BUNDLES, 1)?);
+    fill_image(START, &file[84..], &mut text)?;
+    region.create(START, &file[84..], &mut [])?;
+    assert!((START..).zip(&text).all(|(at, byte)| region.place(at).is_some_and(|place| place.byte == *byte)));
+    file[84..86].copy_from_slice(&[0x90, 0xC3]);
+    assert_eq!(fill_image(START, &file[84..], &mut text), Err(Fault::NotPermitted { at: START + 1 }));
+    file[76] |= 2;
+    let writable = loaded_segments(&file, &mut room).unwrap_err();
+    assert_eq!((writable, writable.header()), (Fault::ElfWritableCode { at: 0 }, Some(0)));
+    assert!(writable.to_string().ends_with("(program header 0)"));
     Ok(())
 }
