@@ -212,5 +212,7 @@ NcsAt ncs_callback(NcsBox *b, NcsCallback function, void *user, unsigned args) {
 }
 
 void ncs_deny(NcsBox *b) {
-    b->denied = 1;
+    if (ncs_thread != NULL && __atomic_load_n(&b->owner, __ATOMIC_RELAXED) == ncs_thread) {
+        b->denied = 1;
+    }
 }

@@ -203,7 +203,7 @@ typedef uint64_t (*NcsCallback)(NcsBox *box, void *user, const uint32_t *args);
    first one, and so on up to NCS_CALLBACKS of them. 0 if it isn't given. Not while another thread is in a call of the box. */
 NcsAt ncs_callback(NcsBox *box, NcsCallback function, void *user, unsigned args);
 
-/* Within a call-back: the call that made it ends with NCS_DENIED, once the call-back has returned. */
+/* Within a call-back: the call that made it ends with NCS_DENIED, once the call-back has returned. Elsewhere it does nothing. */
 void ncs_deny(NcsBox *box);
 
 /* ---- Memory */
