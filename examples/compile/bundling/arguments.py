@@ -74,9 +74,9 @@ def is_set_before(listing, index, register):
     return False
 
 
-def argument_in(listing, name, register):
-    """Whether a path from the function's label reads the register before anything is written to it. A push doesn't count, since compilers
-    push a register to make room on the stack."""
+def argument_in(listing, name, register, counts_pushes=False):
+    """Whether a path from the label reads the register before anything is written to it. At a function's label a push doesn't count, since
+    compilers push a register to make room on the stack."""
     seen, waiting = set(), [listing.labels[name]]
     while waiting:
         index = waiting.pop()
@@ -86,7 +86,7 @@ def argument_in(listing, name, register):
         statement = listing.statements[index]
         if statement.kind != "instruction":
             waiting.append(listing.after.get(index))
-        elif reads(statement, register) and statement.text != f"\tpushl\t{register}":
+        elif reads(statement, register) and (counts_pushes or statement.text != f"\tpushl\t{register}"):
             return True
         elif not writes(statement, register):
             waiting.extend(following(listing, index, statement))

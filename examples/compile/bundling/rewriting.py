@@ -2,7 +2,7 @@
 
 import re
 
-from .arguments import REGISTERS, argument_in, is_set_before
+from .arguments import REGISTERS, argument_in, is_set_before, mentions
 from .listing import Listing
 from .notes import noted
 from .statements import statements_of
@@ -82,19 +82,24 @@ class Bundler:
     def jump(self, index, statement):
         """A jump by a register or memory: by a table of labels, or out of the function."""
         kind = self.tables.kind(index, statement) if is_jump_through_memory(statement) else "end"
-        if kind is None:
+        if kind is None and not self.is_free_beside(index):
             statement.refuse("a jump through memory to labels of a function: compile with -fno-jump-tables (a switch), or keep the label's "
                              "address in a register, by -mindirect-branch-register (gcc) or asm(\"\" : \"+r\"(label))")
         if kind == "table":
             self.emit("pushl %ecx")
         self.mask_and_go("jmp", self.loaded(index, statement, is_free=kind == "table"))
 
+    def is_free_beside(self, index):
+        """Whether no label in the function to which the jump may go needs %ecx."""
+        return not any(argument_in(self.listing, name, "%ecx", counts_pushes=True) for name in self.listing.pointed_beside(index))
+
     def loaded(self, index, statement, is_free=False):
-        """The register with the target, into which it is loaded first if it is in memory."""
+        """The register with the target, into which it is loaded first if it is in memory. %ecx that was set to find the target there has
+        served its purpose; a function that takes an argument in it is refused by itself (check_argument)."""
         target = statement.operands[1:].strip()
         if target in REGISTERS:
             return target
-        if not is_free and is_set_before(self.listing, index, "%ecx"):
+        if not is_free and not mentions(target, "%ecx") and is_set_before(self.listing, index, "%ecx"):
             statement.refuse("%ecx has an argument, and the target has to be loaded into it: call by a register (gcc has "
                              "-mindirect-branch-register), or don't declare the pointer fastcall, thiscall or regparm(3)")
         self.emit(f"movl {target}, %ecx")
