@@ -45,6 +45,8 @@ FILES = {
     "it.h": "#define IT 7\n",
     "it.S": '#include "it.h"\n\t.globl g\ng:\tmovl $IT, %eax\n\tret\n',
     "start.c": "int f(int), h(int);\nvoid start(void) { f(h(1)); }\n",
+    "pads.s": "f:\tmovl -112(%ebp), %eax\n\tcall f\n",
+    "own.s": "f:\tnop\n.L1:\tnop\n\tcall f\n\tjmp .L1\n",
     "h.c": "int h(int n) { return n; }\n",
     "wrong.c": "int n = nowhere;\n",
     "words": '-O2 "-DNAME=two words" \'it.c\'\n@more',
@@ -67,8 +69,13 @@ ANSWERS = [
     ("no folders of a system", "nc-cc -print-multiarch -print-sysroot", 0, "\n\n"),
     ("the linker beneath", "NC_LD=ld.bfd nc-cc -print-prog-name=ld", 0, r"ld\.bfd\n"),
     ("the linker's version", "nc-cc -Wl,--version | sed -n 1p", 0, "GNU ld .*\n"),
-    ("flags for a compiler alone", "gcc $(nc-cc --cflags) -O2 -S it.c -o - | to-bundles | as --32 -n -o by.o - && nc-cc -O2 -c it.c && cmp it.o by.o",
-     0, ""),
+    ("flags for a compiler alone", "gcc $(nc-cc --cflags) -O2 -S it.c -o - | to-bundles | as --32 -n -o by.o - && to-bundles --long-nops by.o "
+     "&& nc-cc -O2 -c it.c && cmp it.o by.o", 0, ""),
+    ("long nops", "nc-cc -c pads.s && objdump -d pads.o | grep -c 'nop'; objdump -d pads.o | grep -cw 90", 0, "3\n1\n"),
+    ("no long nops beside others", "nc-cc -c own.s && objdump -d own.o | grep -c 'nop$'", 0, "57\n"),
+    ("no long nops without objdump", "mkdir few && for each in gcc as python3 env; do ln -s \"$(command -v $each)\" few; done; "
+     "PATH=few:{compile} nc-cc -c pads.s && objdump -d pads.o | grep -c 'nop$'", 0, "24\n"),
+    ("long nops of what is no object", "to-bundles --long-nops it.c 2>&1", 1, "to-bundles: it\\.c: no long nops: .*\n"),
     ("macros of the target", "echo __i386__ __SSE__ __x86_64__ | nc-cc -E -P -", 0, "1 __SSE__ __x86_64__\n"),
     ("what is preprocessed", "nc-cc -E -P it.c -o it.i && cat it.i", 0, r"int f\(int n\) \{{ return n \+ 7; \}}\n"),
     ("where headers are looked for", "nc-cc -v -E -xc - 2>&1 < /dev/null | grep -c 'search starts here'", 0, "2\n"),
@@ -131,7 +138,7 @@ def wrong_answer(row, folder, program):
     name, command, status, pattern = row
     work = os.path.join(folder, name)
     shutil.copytree(folder, work, ignore=lambda place, names: [each for each in names if place == folder and each not in FILES and each != "lib"])
-    done = subprocess.run(["sh", "-c", command], env=environment(), cwd=work, stdin=subprocess.DEVNULL, capture_output=True, text=True)
+    done = subprocess.run(["sh", "-c", command.replace("{compile}", COMPILE)], env=environment(), cwd=work, stdin=subprocess.DEVNULL, capture_output=True, text=True)
     right = done.returncode == status and re.fullmatch(pattern.format(version=re.escape(version())), done.stdout)
     return "" if right else f"{name}: status {done.returncode}, {done.stdout!r}, {done.stderr!r}, and not status {status}, {pattern!r}"
 

@@ -4,7 +4,7 @@ import re
 
 from .arguments import REGISTERS, argument_in, is_set_before, mentions
 from .listing import Listing
-from .notes import noted
+from .notes import ONLY_PADDING, OWN_NOPS, noted
 from .statements import statements_of
 from .tables import PAD, Tables, is_jump_through_memory
 
@@ -22,6 +22,7 @@ class Bundler:
     def __init__(self, listing, keep_returns):
         self.listing, self.keep_returns = listing, keep_returns
         self.tables = Tables(listing)
+        self.has_nops = False  # whether the text has nops of one byte
         self.bases = {}  # code section -> the label at its start, from which places are counted
         self.base = None  # that label for the current section, or None outside of code
         self.out = ["\t.bundle_align_mode 5", "\t.text"]
@@ -124,8 +125,9 @@ class Bundler:
             self.call(index, statement)
         elif word in JUMPS and operands.startswith("*"):
             self.jump(index, statement)
-        elif word == "pause" or word == "nop" and statement.prefixes:
-            self.emit("nop")  # a hint for loops that wait
+        elif word == "pause" or word == "nop" or word.startswith("xchg") and operands.replace(" ", "") == "%eax,%eax":
+            self.has_nops = True
+            self.emit("nop")  # with a prefix it is a hint for loops that wait
         elif word.startswith("bsf") and statement.prefixes:
             self.out.append(statement._replace(prefixes=()).text)  # with the prefix it is TZCNT; a compiler means either
         else:
@@ -176,7 +178,7 @@ class Bundler:
                 self.out.append(statement.text)
         for section in self.bases:
             self.finish(section)
-        return noted("\n".join(self.out) + "\n")
+        return noted("\n".join(self.out) + "\n", OWN_NOPS if self.has_nops else ONLY_PADDING)
 
 
 def rewritten(text, keep_returns=False):
