@@ -60,20 +60,28 @@ def padding(length):
 
 
 def lengthen(path):
-    """Replaces the padding of an object, if all nops of one byte in it are padding, which its note says. Whether it did."""
+    """Replaces the padding of an object. Why it stays as it is, or nothing."""
+    try:
+        replace(path)
+    except (OSError, ValueError, IndexError, struct.error, subprocess.CalledProcessError) as fault:
+        return str(fault)
+    return ""
+
+
+def replace(path):
+    """The same, if all nops of one byte in the object are padding, which its note says."""
     with open(path, "rb") as file:
         content = bytearray(file.read())
     sections = list(sections_of(content))
     notes = [bytes(content[place:place + length]) for name, _, place, length in sections if name == SECTION]
     if not notes or any(kind != ONLY_PADDING for note in notes for kind in kinds(note)):
-        return False
+        return
     # objdump names the sections of code that aren't empty, in their order.
-    code = [(name, place) for name, flags, place, length in sections if flags & CODE and length]
-    for (name, place), (named, nops) in zip(code, nops_in(path), strict=True):
-        if name != named:
-            raise ValueError(f"objdump names the section {named} in the place of {name}")
+    code, found = [(name, place) for name, flags, place, length in sections if flags & CODE and length], nops_in(path)
+    if [name for name, _ in code] != [name for name, _ in found]:
+        raise ValueError("objdump names other sections of code")
+    for (_, place), (_, nops) in zip(code, found):
         for begin, length in runs_of(nops):
             content[place + begin:place + begin + length] = padding(length)
     with open(path, "wb") as file:
         file.write(content)
-    return True
