@@ -122,6 +122,7 @@ ROWS = [
     Row("CC=clang behind another program", {"CC": "runs clang"}, "\nruns clang -ffreestanding "),
     Row("CC=nc-cc", {"CC": "nc-cc"}),
     Row("CC=nc-cc, which isn't on PATH", {"CC": "nc-cc", "PATH": "{path}"}),
+    Row("CC=nc-c++", {"CC": "nc-c++"}),
     Row("CC=nc-cc by its path", {"CC": "{folder}/bin/nc-cc"}),
     Row("CC=nc-cc by a relative path", {"CC": "bin/nc-cc"}),
     Row("CC=nc-cc by a path from another folder", {"CC": "../elsewhere/nc-cc"}),

@@ -93,6 +93,9 @@ ANSWERS = [
     ("several at once", "nc-cc -O2 -j3 start.c it.c h.c -o three && nc-cc -O2 -j1 start.c it.c h.c -o one && cmp three one", 0, ""),
     ("objects at once", "nc-cc -c -j start.c h.c && nm start.o h.o | grep -c ' T '", 0, "2\n"),
     ("an error among several", "nc-cc -j2 wrong.c h.c -o never 2>&1 | grep '^nc-cc'; ls never 2>&1", 2, "nc-cc: gcc ended with status 1\nls: .*\n"),
+    ("a source that isn't there", "nc-cc nosuch.c 2>&1", 1, r"cc1: fatal error: nosuch\.c: No such file or directory\n"
+     r"compilation terminated\.\nnc-cc: gcc ended with status 1\n"),
+    ("a header of the C++ library", "echo '#include <nosuch>' > it.cc && nc-cc -c it.cc 2>&1 | tail -n 1", 0, r"nc-cc: nosuch: there is no C\+\+ library: .*\n"),
     ("C as C++", "nc-c++ -S it.c -o - | grep -c _Z1fi:", 0, "1\n"),
 ]
 

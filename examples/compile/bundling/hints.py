@@ -63,10 +63,13 @@ def hints(said, files, library):
     return [f"{', '.join(about)}: {words.replace('{library}', library)}" for words, about in names.items() if words]
 
 
-HEADER = re.compile(r"fatal error: '?([^':\n]+)'?(?:: No such file or directory| file not found)")
+# The place of the line that names a header: a source that isn't there has none.
+HEADER = re.compile(r":\d+(?::\d+)?: fatal error: '?([^':\n]+)'?(?:: No such file or directory| file not found)")
+HEADERS_C = ("the compiler's own headers serve (stddef.h, stdint.h and the like); string.h and others come with a C library that nc-cc has "
+             "compiled: name their folder by -I")
+HEADERS_CXX = "there is no C++ library: do without, or bring one that nc-cc has compiled, with its headers' folder by -I"
 
 
 def header_hints(said):
-    """A line for each header that the compiler didn't find."""
-    return [f"{name}: the compiler's own headers serve (stddef.h, stdint.h and the like); string.h and others come with a C library that "
-            "nc-cc has compiled: name their folder by -I" for name in dict.fromkeys(HEADER.findall(said))]
+    """A line for each header that the compiler didn't find. Those of the C++ library have no suffix."""
+    return [f"{name}: {HEADERS_C if '.' in name else HEADERS_CXX}" for name in dict.fromkeys(HEADER.findall(said))]
