@@ -86,9 +86,13 @@ class Bundler:
         if kind is None and not self.is_free_beside(index):
             statement.refuse("a jump through memory to labels of a function: compile with -fno-jump-tables (a switch), or keep the label's "
                              "address in a register, by -mindirect-branch-register (gcc) or asm(\"\" : \"+r\"(label))")
-        if kind == "table":
+        if kind in ("table", "kept"):
             self.emit("pushl %ecx")
-        self.mask_and_go("jmp", self.loaded(index, statement, is_free=kind == "table"))
+        if kind == "kept":
+            self.emit(f"movl {self.tables.kept[index]}, %ecx")
+            self.mask_and_go("jmp", "%ecx")
+        else:
+            self.mask_and_go("jmp", self.loaded(index, statement, is_free=kind == "table"))
 
     def is_free_beside(self, index):
         """Whether no label in the function to which the jump may go needs %ecx."""
