@@ -29,12 +29,21 @@ FILES = [
     ("packaging/rust/nc_host/examples", SHARE + "rust/nc_host/examples"),
     ("examples/compile/chunk.ld", SHARE + "chunk.ld"),
     ("examples/compile/bundling", SHARE + "bundling"),
+    ("examples/compile/driving", SHARE + "driving"),
+    ("packaging/nc_toolchain.cmake", "lib/cmake/nc_host/nc_toolchain.cmake"),
+    ("packaging/meson/nc-cc", "share/meson/cross/nc-cc"),
+    ("docs/man/nc-bundle.1", "share/man/man1/nc-bundle.1"),
+    ("docs/man/nc-cc.1", "share/man/man1/nc-cc.1"),
     ("docs/man/nc_check.1", "share/man/man1/nc_check.1"),
     ("docs/man/nc_replay.1", "share/man/man1/nc_replay.1"),
     ("docs/man/nc-run.1", "share/man/man1/nc-run.1"),
     ("packaging/completions/nc_check.bash", "share/bash-completion/completions/nc_check"),
     ("packaging/completions/nc_replay.bash", "share/bash-completion/completions/nc_replay"),
     ("packaging/completions/nc-run.bash", "share/bash-completion/completions/nc-run"),
+    ("packaging/completions/nc-bundle.bash", "share/bash-completion/completions/nc-bundle"),
+    ("packaging/completions/nc-cc.bash", "share/bash-completion/completions/nc-cc"),
+    ("packaging/completions/_nc-bundle", "share/zsh/site-functions/_nc-bundle"),
+    ("packaging/completions/_nc-cc", "share/zsh/site-functions/_nc-cc"),
     ("packaging/completions/_nc_check", "share/zsh/site-functions/_nc_check"),
     ("packaging/completions/_nc_replay", "share/zsh/site-functions/_nc_replay"),
     ("packaging/completions/_nc-run", "share/zsh/site-functions/_nc-run"),
@@ -66,7 +75,7 @@ FILES = [
 
 # Folders and files of the repository that pages name and that aren't installed, and what stands before their names on an installed page.
 ELSEWHERE = [".ci/", "bench/", "bindings/", "crates/", "examples/mapped/", "packaging/", "sandbox/", "tests/", "tools/"] + [
-    "examples/compile/" + name for name in ("build", "host.s", "instructions.txt", "nc-cc", "to-bundles")]
+    "examples/compile/" + name for name in ("build", "host.s", "instructions.txt", "nc-cc", "nc-c++", "to-bundles")]
 ONLY_THERE = "Named on this page, and only in the source repository: "
 
 # Templates of packaging/, and where they go.
@@ -159,6 +168,8 @@ def tree(cpu=DEFAULT, anew=False):
         made[to] = File(filled(template).encode(), 0o644)
     made["bin/nc-bundle"] = File(read(REWRITER).replace(b"to-bundles", b"nc-bundle"), 0o755)
     made["bin/nc-cc"] = File(read(DRIVER), 0o755)
+    made["bin/nc-c++"] = Link("nc-cc")
+    made[SHARE + "VERSION"] = File(read("VERSION"), 0o644)
     for name in PROGRAMS:
         made["bin/" + name] = File(program(name, cpu, anew), 0o755)
     static, shared = libraries(cpu, soname, anew)

@@ -2,7 +2,9 @@
 
 from .hints import header_hints, hints
 from .notes import noted, without_note
+from .padding import lengthen
+from .releases import release
 from .rewriting import rewritten
 from .statements import Refusal
 
-__all__ = ["Refusal", "header_hints", "hints", "noted", "rewritten", "without_note"]
+__all__ = ["Refusal", "header_hints", "hints", "lengthen", "noted", "release", "rewritten", "without_note"]

@@ -17,6 +17,7 @@ CONSTANTS = {("or", "$-1"), ("orl", "$-1"), ("and", "$0"), ("andl", "$0")}
 READ_ONLY = re.compile(r"(?:cmp|test|push|mul|i?div|bt)[bwl]?$")
 BY_COUNT = re.compile(r"(?:loop[a-z]*|jecxz)$")
 ENDS = ("call", "ret", "lret", "iret", "ud2", "hlt")
+LOWERS = re.compile(r"\t(?:subl\t\$\d+|leal\t-\d+\(%esp\)), %esp$")
 # A call of this and a register's letters gives the register the address of the code, for position-independent code, and changes no other.
 OWN_ADDRESS = "__x86.get_pc_thunk."
 
@@ -74,9 +75,28 @@ def is_set_before(listing, index, register):
     return False
 
 
-def argument_in(listing, name, register):
-    """Whether a path from the function's label reads the register before anything is written to it. A push doesn't count, since compilers
-    push a register to make room on the stack."""
+def is_push(statement):
+    return statement.kind == "instruction" and statement.word in ("push", "pushl")
+
+
+def is_passed_on(listing, index):
+    """Whether a push of a register passes an argument on: only pushes stand between it and a call, and before it the stack was lowered for
+    the call, or something else than a register was pushed."""
+    after = listing.after.get(index)
+    while after is not None and is_push(listing.statements[after]):
+        after = listing.after.get(after)
+    if after is None or not listing.statements[after].word.startswith("call"):
+        return False
+    while index and is_push(listing.statements[index - 1]):
+        index -= 1
+        if not listing.statements[index].operands.startswith("%"):
+            return True
+    return bool(index) and bool(LOWERS.match(listing.statements[index - 1].text))
+
+
+def argument_in(listing, name, register, counts_pushes=False):
+    """Whether a path from the label reads the register before anything is written to it. At a function's label a push doesn't count that
+    passes nothing on, since compilers push a register to make room on the stack."""
     seen, waiting = set(), [listing.labels[name]]
     while waiting:
         index = waiting.pop()
@@ -86,7 +106,7 @@ def argument_in(listing, name, register):
         statement = listing.statements[index]
         if statement.kind != "instruction":
             waiting.append(listing.after.get(index))
-        elif reads(statement, register) and statement.text != f"\tpushl\t{register}":
+        elif reads(statement, register) and (counts_pushes or statement.text != f"\tpushl\t{register}" or is_passed_on(listing, index)):
             return True
         elif not writes(statement, register):
             waiting.extend(following(listing, index, statement))

@@ -1,7 +1,10 @@
 """A whole text: its statements with their sections, its labels, and which of them a pointer may hold."""
 
 import re
+from bisect import bisect_right
+from collections import Counter
 
+from .encoded import instructions_of, refused_name
 from .sections import Sections
 from .statements import symbols
 
@@ -29,6 +32,12 @@ def is_direct(statement):
     return bool(JUMP.match(statement.word)) and not statement.operands.startswith("*")
 
 
+def is_alias(statement):
+    """Whether a directive gives a symbol another name, and no more."""
+    return statement.kind == "directive" and statement.word in EQUATES and bool(re.fullmatch(r"[\w.$]+\s*,\s*[A-Za-z_.][\w.$]*",
+                                                                                          statement.operands))
+
+
 def without_numbers(statements):
     """The statements with names in the place of labels such as `1:`, `1b` and `1f`."""
     seen = {}
@@ -51,21 +60,25 @@ class Listing:
     """`sections[i]` is the section of `statements[i]`; for a directive that enters one, the entered one."""
 
     def __init__(self, statements):
-        self.statements = list(without_numbers(statements))
-        self.sections = []
-        self.enters = set()
+        self.statements, self.sections, self.enters = [], [], set()
         tracker = Sections()
-        for index, statement in enumerate(self.statements):
+        for statement in without_numbers(statements):
             if statement.kind == "directive" and tracker.follow(statement):
-                self.enters.add(index)
-            self.sections.append(tracker.current)
+                self.enters.add(len(self.statements))
+            found = instructions_of(statement) if tracker.current.is_code else [statement]
+            self.statements += found
+            self.sections += [tracker.current] * len(found)
         self.after = self.successors()
         self.labels = {statement.word: index for index, statement in self.code() if statement.kind == "label"}
+        self.aliases = self.aliased()
+        self.labels.update({alias: self.labels[name] for alias, name in self.aliases.items()})
         self.globals = set(self.named_by(GLOBALS))
         self.functions = self.globals | set(self.functions_by_type())
+        self.starts = self.starts_of_functions()
         self.pointed = set()
         for index, statement in enumerate(self.statements):
-            self.pointed.update(name for name in self.taken(index, statement) if name in self.labels)
+            self.pointed.update(self.named_once(name) for name in self.taken(index, statement) if name in self.labels)
+        self.inside = self.pointed_inside()
 
     def code(self):
         """The statements of code sections."""
@@ -81,16 +94,32 @@ class Listing:
             last[section] = index
         return after
 
+    def aliased(self):
+        """The labels for which other names stand, by those names: gcc gives two functions with the same code one body. An alias of an alias
+        is found too, after the one that it stands for."""
+        equates = [symbols(statement.operands) for statement in self.statements if is_alias(statement)]
+        times = Counter(alias for alias, _ in equates)
+        found = {}
+        for alias, name in equates:
+            name = found.get(name, name)
+            if times[alias] == 1 and name in self.labels and alias not in self.labels:
+                found[alias] = name
+        return found
+
+    def named_once(self, name):
+        """A label's own name, for an alias."""
+        return self.aliases.get(name, name)
+
     def named_by(self, words):
         """The code labels that directives with these words name."""
         for statement in self.statements:
             if statement.kind == "directive" and statement.word in words:
-                yield from (name for name in symbols(statement.operands) if name in self.labels)
+                yield from (self.named_once(name) for name in symbols(statement.operands) if name in self.labels)
 
     def functions_by_type(self):
         for statement in self.statements:
             if statement.word == ".type" and re.search(r"[@%]function", statement.operands):
-                yield from (name for name in symbols(statement.operands.split(",")[0]) if name in self.labels)
+                yield from (self.named_once(name) for name in symbols(statement.operands.split(",")[0]) if name in self.labels)
 
     def may_be_called_by_pointer(self, name):
         return name in self.globals or name in self.functions and name in self.pointed
@@ -99,17 +128,29 @@ class Listing:
         """Whether a pointer may hold this label's address, so that it has to be a bundle start."""
         return name in self.functions or name in self.pointed
 
+    def starts_of_functions(self):
+        """For each section the places at which functions begin, in order."""
+        found = {}
+        for place in sorted(self.labels[name] for name in self.functions):
+            found.setdefault(self.sections[place], []).append(place)
+        return found
+
+    def function_at(self, place):
+        """The name of the function in which a statement is, without what tells the parts apart into which a compiler has split it."""
+        starts = self.starts.get(self.sections[place], [])
+        before = bisect_right(starts, place)
+        return self.statements[starts[before - 1]].word.split(".cold")[0] if before else None
+
+    def pointed_inside(self):
+        """For each function the labels inside it that a pointer may hold."""
+        found = {}
+        for name in self.pointed - self.functions:
+            found.setdefault(self.function_at(self.labels[name]), []).append(name)
+        return found
+
     def pointed_beside(self, index):
-        """Whether a pointer may hold a label inside the function in which a statement is. A function that the compiler has split counts with
-        all others."""
-        inner = {self.labels[name]: name for name in self.pointed - self.functions}
-        starts = {self.labels[name]: name for name in self.functions}
-        here = [place for place in sorted(starts) if self.sections[place] is self.sections[index]]
-        begin = max((place for place in here if place <= index), default=0)
-        end = min((place for place in here if place > index), default=len(self.statements))
-        if ".cold" in starts.get(begin, ""):
-            return bool(inner)
-        return any(begin <= place < end for place in inner if self.sections[place] is self.sections[index])
+        """The labels inside the function in which a statement is that a pointer may hold."""
+        return self.inside.get(self.function_at(index), [])
 
     def taken(self, index, statement):
         """The names whose addresses a statement takes."""
@@ -117,7 +158,7 @@ class Listing:
         if statement.kind == "assignment":
             names = symbols(statement.operands)
         elif statement.kind == "directive" and statement.word in EQUATES:
-            names = symbols(statement.operands.partition(",")[2])
+            names = [] if symbols(statement.operands)[0] in self.aliases else symbols(statement.operands.partition(",")[2])
         elif statement.kind == "directive" and statement.word in DATA and section.is_data and '"' not in statement.operands:
             names = symbols(statement.operands)
         elif statement.kind == "instruction" and section.is_code and not is_direct(statement):
@@ -139,7 +180,9 @@ class Listing:
             if statement.kind == "label" and statement.word.startswith('"'):
                 statement.refuse("a label in quotes isn't read: give it a plain name")
             if statement.kind == "directive" and statement.word in DATA:
-                statement.refuse("data among code would be read as code: put it into a section of its own, or write the instruction's name")
+                name = refused_name(statement)
+                statement.refuse(f"these bytes are {name}, which isn't permitted: leave out the code that uses it" if name else "data among code "
+                                 "would be read as code: put it into a section of its own, or write the instruction's name")
             if statement.kind == "instruction" and HERE.search(statement.operands):
                 statement.refuse("a distance from `.` changes with the padding: use a label")
             if statement.kind == "instruction" and is_direct(statement) and not BARE.match(statement.operands):

@@ -2,9 +2,9 @@
 
 import re
 
-from .arguments import REGISTERS, argument_in, is_set_before
+from .arguments import REGISTERS, argument_in, is_set_before, mentions
 from .listing import Listing
-from .notes import noted
+from .notes import ONLY_PADDING, OWN_NOPS, noted
 from .statements import statements_of
 from .tables import PAD, Tables, is_jump_through_memory
 
@@ -22,6 +22,7 @@ class Bundler:
     def __init__(self, listing, keep_returns):
         self.listing, self.keep_returns = listing, keep_returns
         self.tables = Tables(listing)
+        self.has_nops = False  # whether the text has nops of one byte
         self.bases = {}  # code section -> the label at its start, from which places are counted
         self.base = None  # that label for the current section, or None outside of code
         self.out = ["\t.bundle_align_mode 5", "\t.text"]
@@ -82,19 +83,24 @@ class Bundler:
     def jump(self, index, statement):
         """A jump by a register or memory: by a table of labels, or out of the function."""
         kind = self.tables.kind(index, statement) if is_jump_through_memory(statement) else "end"
-        if kind is None:
+        if kind is None and not self.is_free_beside(index):
             statement.refuse("a jump through memory to labels of a function: compile with -fno-jump-tables (a switch), or keep the label's "
                              "address in a register, by -mindirect-branch-register (gcc) or asm(\"\" : \"+r\"(label))")
         if kind == "table":
             self.emit("pushl %ecx")
         self.mask_and_go("jmp", self.loaded(index, statement, is_free=kind == "table"))
 
+    def is_free_beside(self, index):
+        """Whether no label in the function to which the jump may go needs %ecx."""
+        return not any(argument_in(self.listing, name, "%ecx", counts_pushes=True) for name in self.listing.pointed_beside(index))
+
     def loaded(self, index, statement, is_free=False):
-        """The register with the target, into which it is loaded first if it is in memory."""
+        """The register with the target, into which it is loaded first if it is in memory. %ecx that was set to find the target there has
+        served its purpose; a function that takes an argument in it is refused by itself (check_argument)."""
         target = statement.operands[1:].strip()
         if target in REGISTERS:
             return target
-        if not is_free and is_set_before(self.listing, index, "%ecx"):
+        if not is_free and not mentions(target, "%ecx") and is_set_before(self.listing, index, "%ecx"):
             statement.refuse("%ecx has an argument, and the target has to be loaded into it: call by a register (gcc has "
                              "-mindirect-branch-register), or don't declare the pointer fastcall, thiscall or regparm(3)")
         self.emit(f"movl {target}, %ecx")
@@ -119,8 +125,9 @@ class Bundler:
             self.call(index, statement)
         elif word in JUMPS and operands.startswith("*"):
             self.jump(index, statement)
-        elif word == "pause" or word == "nop" and statement.prefixes:
-            self.emit("nop")  # a hint for loops that wait
+        elif word == "pause" or word == "nop" or word.startswith("xchg") and operands.replace(" ", "") == "%eax,%eax":
+            self.has_nops = True
+            self.emit("nop")  # with a prefix it is a hint for loops that wait
         elif word.startswith("bsf") and statement.prefixes:
             self.out.append(statement._replace(prefixes=()).text)  # with the prefix it is TZCNT; a compiler means either
         else:
@@ -171,7 +178,7 @@ class Bundler:
                 self.out.append(statement.text)
         for section in self.bases:
             self.finish(section)
-        return noted("\n".join(self.out) + "\n")
+        return noted("\n".join(self.out) + "\n", OWN_NOPS if self.has_nops else ONLY_PADDING)
 
 
 def rewritten(text, keep_returns=False):

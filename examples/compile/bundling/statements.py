@@ -1,6 +1,7 @@
 """Assembly text as a list of statements: comments are dropped, lines split at `;`, and prefixes joined to their instructions."""
 
 import re
+from itertools import groupby
 from typing import NamedTuple
 
 PREFIXES = {"lock", "rep", "repe", "repz", "repne", "repnz", "data16", "addr16", "notrack", "bnd", "xacquire", "xrelease",
@@ -124,6 +125,13 @@ def joined(statements):
         waiting.refuse("a prefix stands apart from its instruction: put them into one statement")
 
 
+def with_bytes_together(statements):
+    """The statements, with those in a row that give bytes as one: clang writes each byte of inline assembly apart."""
+    for is_byte, row in groupby(statements, lambda statement: statement.word == ".byte"):
+        found = list(row)
+        yield from [found[0]._replace(operands=", ".join(statement.operands for statement in found))] if is_byte else found
+
+
 def statements_of(text):
     """All statements of a text."""
-    return list(joined(statement for line, piece in pieces(text) for statement in read(line, piece)))
+    return list(with_bytes_together(joined(statement for line, piece in pieces(text) for statement in read(line, piece))))

@@ -50,7 +50,7 @@ class Tables:
     def inner_labels(self, index):
         """The labels inside of functions that a statement names."""
         names = symbols(self.listing.statements[index].operands)
-        return [name for name in names if name in self.listing.labels and name not in self.listing.functions]
+        return [name for name in names if name in self.listing.labels and self.listing.named_once(name) not in self.listing.functions]
 
     def is_replaceable(self, index):
         """Whether a statement has nothing but labels inside of functions."""

@@ -1,0 +1,10 @@
+"""A compiler's driver for the sandbox: its command line, the tools beneath it, and what it answers by itself."""
+
+from .faults import Fault
+from .flags import flags_for
+from .line import Line
+from .questions import answer
+from .responses import shortened
+from .tools import ABOVE, LED_BACK, ended, tool
+
+__all__ = ["ABOVE", "LED_BACK", "Fault", "Line", "answer", "ended", "flags_for", "shortened", "tool"]

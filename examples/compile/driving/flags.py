@@ -1,0 +1,16 @@
+"""The compiler's flags for the sandbox."""
+
+from .tools import is_clang
+
+DEFAULTS = ["-ffreestanding", "-fno-pic", "-fno-pie", "-fno-jump-tables", "-fno-asynchronous-unwind-tables"]
+DEFAULTS_CXX = ["-fno-exceptions", "-fno-rtti", "-fno-threadsafe-statics", "-fno-use-cxa-atexit"]
+NEEDED = ["-m32", "-march=i686", "-mno-sse", "-mno-mmx", "-mlong-double-64", "-fcf-protection=none", "-fno-stack-protector"]
+NEEDED_GCC = ["-mno-80387", "-msoft-float", "-fno-ipa-ra", "-mindirect-branch-register"]
+# clang's driver does nothing on -msoft-float; with -mno-80387 clang 14 has no `long double`, and fails where a `double` becomes a `long long`.
+NEEDED_CLANG = ["-m80387", "-Xclang", "-msoft-float", "-Xclang", "-target-feature", "-Xclang", "+slow-two-mem-ops", "-Qunused-arguments"]
+
+
+def flags_for(language, given=()):
+    """The flags for a language: the defaults, those given, which may replace them, and those that can't be otherwise."""
+    cxx = DEFAULTS_CXX if language.startswith("c++") else []
+    return [*DEFAULTS, *cxx, *given, *NEEDED, *(NEEDED_CLANG if is_clang() else NEEDED_GCC)]

@@ -1,0 +1,43 @@
+"""Response files: `@FILE` on a command line stands for the words in a file."""
+
+import os
+import re
+
+from .faults import Fault
+
+WORD = re.compile(r"""(?:\\.|'(?:\\.|[^'\\])*'|"(?:\\.|[^"\\])*"|[^\s'"\\])+""", re.S)
+PART = re.compile(r"""\\(.)|'((?:\\.|[^'\\])*)'|"((?:\\.|[^"\\])*)"|([^'"\\])""", re.S)
+MOST_LEVELS = 20  # a file that names itself would have no end
+LONGEST = 100000  # bytes of a command line, from where on a tool gets its words by a file
+
+
+def unquoted(word):
+    """A word without its quotes. As in the response files of GNU programs, a backslash stands before a character that is meant as it is."""
+    parts = (found.group(1) or found.group(4) or re.sub(r"\\(.)", r"\1", found.group(2) or found.group(3) or "", flags=re.S)
+             for found in PART.finditer(word))
+    return "".join(parts)
+
+
+def expanded(words, level=0):
+    """The words, with those of files in the place of `@FILE`. Where there is no such file, the word stays as it is."""
+    for word in words:
+        if not word.startswith("@") or not os.path.isfile(word[1:]):
+            yield word
+            continue
+        if level == MOST_LEVELS:
+            raise Fault(f"{word}: more than {MOST_LEVELS} response files name each other")
+        try:
+            with open(word[1:], encoding="utf-8", errors="surrogateescape") as file:
+                text = file.read()
+        except OSError as fault:
+            raise Fault(f"{word[1:]}: {fault.strerror}") from None
+        yield from expanded(map(unquoted, WORD.findall(text)), level + 1)
+
+
+def shortened(words, path):
+    """A tool's words after the first one: as they are, or in a file at the path where they are longer than a system may take."""
+    if sum(len(word) + 1 for word in words) <= LONGEST:
+        return words
+    with open(path, "w", encoding="utf-8", errors="surrogateescape") as file:
+        file.write("".join('"' + word.replace("\\", "\\\\").replace('"', '\\"') + '"\n' for word in words))
+    return ["@" + path]
