@@ -3,11 +3,16 @@
 import os
 import re
 import stat
+import sys
 from string import Template
 
 from building import DEFAULT, boxes, libraries, program
 from examples import TOP
 from placing import File, Link
+
+sys.path.append(os.path.join(TOP, "examples", "library"))
+from making import Fault
+from runtime import runtime
 
 PROGRAMS = ["nc_check", "nc_replay"]
 REWRITER, DRIVER = "examples/compile/to-bundles", "examples/compile/nc-cc"
@@ -67,6 +72,7 @@ FILES = [
     ("examples/library", DOC + "examples/library"),
     ("examples/library/trials", DOC + "examples/library/trials"),
     ("examples/library/musl", DOC + "examples/library/musl"),
+    ("examples/library/run", DOC + "examples/library/run"),
     ("examples/library/musl/bits", DOC + "examples/library/musl/bits"),
     ("examples/compile/sample.c", DOC + "examples/compile/sample.c"),
     ("examples/first.script", DOC + "examples/first.script"),
@@ -153,6 +159,11 @@ def as_installed(text, place, made):
         if not to.startswith(DOC):
             text = text.replace(path, to)
     return with_note(text)
+
+
+def c_library(sources):
+    """The C library that nc-cc takes, made of musl's sources."""
+    return {SHARE + "libc/" + name: File(content, 0o644) for name, content in runtime(sources).items()}
 
 
 def tree(cpu=DEFAULT, anew=False):

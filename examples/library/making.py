@@ -120,16 +120,35 @@ def build_folder(musl, made, cc, name):
     return sorted(glob.glob(os.path.join(folder, "*.o")))
 
 
+def build_objects(musl, made, cc, pool):
+    """The objects of musl, by its folders, and those of 64-bit division and of software floating point."""
+    print("musl by %s: %d folders" % (cc, len(MUSL_FOLDERS)), flush=True)
+    objects = dict(zip(MUSL_FOLDERS, pool.map(lambda name: build_folder(musl, made, cc, name), MUSL_FOLDERS)))
+    objects["own"] = [os.path.join(made, "%s-%s.o" % (name, cc)) for name in ("division", "floating")]
+    for name, path in zip(("division", "floating"), objects["own"]):
+        nc_cc(["-c", "-O2", os.path.join(HERE, name + ".c"), "-o", path], cc)
+    return objects
+
+
+def compile_inner(musl, made, cc, name):
+    """The object of a source of this folder that sees musl's inner headers."""
+    made_of = os.path.join(made, "%s-%s.o" % (name.replace("/", "-"), cc))
+    nc_cc(["-c", "-Os", *C_FLAGS, *including(musl, made, inner=True), os.path.join(HERE, name + ".c"), "-o", made_of], cc)
+    return made_of
+
+
+def join(archive, objects):
+    """An archive, which is there whole or not at all."""
+    if os.path.exists(archive + ".new"):
+        os.remove(archive + ".new")
+    run(["ar", "rcD", archive + ".new", *objects])
+    os.rename(archive + ".new", archive)
+
+
 def build_musl(musl, made, cc, pool):
     """libc-CC.a and the object with `start`, where they aren't there yet."""
-    archive, start = os.path.join(made, "libc-%s.a" % cc), os.path.join(made, "start-%s.o" % cc)
-    if os.path.exists(archive):
-        return
-    print("musl by %s: %d folders" % (cc, len(MUSL_FOLDERS)), flush=True)
-    objects = [path for paths in pool.map(lambda name: build_folder(musl, made, cc, name), MUSL_FOLDERS) for path in paths]
-    for name in ("division", "floating"):
-        objects.append(os.path.join(made, "%s-%s.o" % (name, cc)))
-        nc_cc(["-c", "-O2", os.path.join(HERE, name + ".c"), "-o", objects[-1]], cc)
-    nc_cc(["-c", "-Os", *C_FLAGS, *including(musl, made, inner=True), os.path.join(HERE, "start.c"), "-o", start], cc)
-    run(["ar", "rc", archive + ".new", *objects])
-    os.rename(archive + ".new", archive)
+    archive = os.path.join(made, "libc-%s.a" % cc)
+    if not os.path.exists(archive):
+        objects = build_objects(musl, made, cc, pool)
+        compile_inner(musl, made, cc, "start")
+        join(archive, [path for paths in objects.values() for path in paths])

@@ -19,8 +19,8 @@ LIBC = (r"_?_?(?:assert_fail|errno(?:_location)?|v?[fs]?n?(?:printf|scanf)|f?put
 # The first that fits a name counts. {library} is the folder examples/library.
 HINTS = [
     Hint("start", 'C++ calls this function _Z5startv: declare it extern "C"', rb"_Z5start"),
-    Hint("start", "a program begins there, and nothing calls main: void start(void) { host_exit(main()); } does, or name another entry "
-         "by -e", rb"\0main\0"),
+    Hint("start", "a program begins there, and nothing calls main: a C library does (tools/install --musl installs one), or "
+         "void start(void) { host_exit(main()); }; -e names another entry", rb"\0main\0"),
     Hint("start", "a program begins there, and _start is the name for other systems: rename it, or give -e _start", rb"\0_start\0"),
     Hint("start", 'a program begins at this function: define it (in C++ extern "C"), or name another entry by -e'),
     Hint("_start", "the entry of other systems: a program for the sandbox begins at start, where -e names nothing else"),
@@ -37,7 +37,7 @@ HINTS = [
     Hint(r"__cxa_\w+|__gxx_\w+|_Unwind_\w+|__dso_handle|(vtable|typeinfo) for .*__cxxabiv1.*|_ZTVN10__cxxabiv1.*|std::.*|_ZN?K?S[a-z].*",
          "there is no C++ library: define it, or do without"),
     Hint("atexit", "called for the destructors of static objects: define it, to keep what is to be called at the end or to drop it"),
-    Hint(LIBC, "there is no C library but one that you link, compiled by nc-cc: {library}/build does so with musl"),
+    Hint(LIBC, "there is no C library but one that you link, compiled by nc-cc: tools/install --musl installs one"),
     Hint("-l.*", "the system's libraries aren't in bundles: name an archive of objects that nc-cc has compiled, its folder by -L"),
     Hint(r"host_\w+", "the host says where its trampoline is: -Wl,--defsym=NAME=0x60, for example"),
 ]
@@ -68,5 +68,5 @@ HEADER = re.compile(r"fatal error: '?([^':\n]+)'?(?:: No such file or directory|
 
 def header_hints(said):
     """A line for each header that the compiler didn't find."""
-    return [f"{name}: the compiler's own headers serve (stddef.h, stdint.h and the like); string.h and others come with a C library that "
-            "nc-cc has compiled: name their folder by -I" for name in dict.fromkeys(HEADER.findall(said))]
+    return [f"{name}: the compiler's own headers serve (stddef.h, stdint.h and the like); string.h and others come with a C library: "
+            "tools/install --musl installs one, or name the folder of another's by -I" for name in dict.fromkeys(HEADER.findall(said))]

@@ -5,6 +5,6 @@ from .flags import flags_for
 from .line import Line
 from .questions import answer
 from .responses import shortened
-from .tools import ABOVE, LED_BACK, ended, tool
+from .tools import ABOVE, LED_BACK, ended, own_headers, tool
 
-__all__ = ["ABOVE", "LED_BACK", "Fault", "Line", "answer", "ended", "flags_for", "shortened", "tool"]
+__all__ = ["ABOVE", "LED_BACK", "Fault", "Line", "answer", "ended", "flags_for", "own_headers", "shortened", "tool"]

@@ -39,6 +39,7 @@ REFUSED = [
 ]
 DROPPED = {"-nostdlib", "-nostdlib++", "-nolibc", "-nostartfiles", "-nodefaultlibs", "-static", "-no-pie", "-pthread", "-rdynamic", "-march=i686",
            "-static-libgcc", "-shared-libgcc", "-static-libstdc++", "-fno-lto"}
+ALONE = {"-nostdlib", "-nolibc", "-nodefaultlibs"}  # of these, those without the C library
 REGION, REGION_END = 0x00010000, 0x04010000
 QUESTION = re.compile(r"--version|--help=.*|--target-help|-dump(?:machine|version|fullversion|specs)|--?print-.*")
 
@@ -49,7 +50,7 @@ class Line:
     def __init__(self, words, is_cxx=False):
         self.stop = self.out = self.language = None
         self.script, self.entry, self.jobs = None, "start", 1
-        self.shows = self.is_dry = self.keeps_returns = self.keeps_files = self.is_quiet = self.asks_flags = False
+        self.shows = self.is_dry = self.keeps_returns = self.keeps_files = self.is_quiet = self.asks_flags = self.is_alone = False
         self.is_cxx = is_cxx
         self.flags, self.for_as, self.for_ld, self.warnings, self.questions = [], [], [], [], []
         self.inputs = []  # files with their languages, and words for the linker with None
@@ -110,7 +111,9 @@ class Line:
             self.inputs += [(part, None) for part in (word[4:].split(",") if word.startswith("-Wl,") else [word])]
         elif word in WITH_VALUE:
             self.flags += [word, self.value(word, rest)]
-        elif word not in DROPPED:
+        elif word in DROPPED:
+            self.is_alone |= word in ALONE
+        else:
             self.is_quiet |= word == "-w"
             self.flags.append(word)
 

@@ -1,0 +1,57 @@
+"""The C library that `tools/install --musl` installs for nc-cc: musl, with the start of programs for nc-run, its calls and a heap."""
+
+import concurrent.futures
+import glob
+import os
+import tarfile
+import tempfile
+
+from making import HERE, Fault, build_objects, compile_inner, found, join, write_headers
+
+PARTS = ("run/start", "run/calls", "run/heap")
+# Of musl's own heap, what a heap of another kind needs too.
+KEPT = {"memalign.o", "posix_memalign.o", "reallocarray.o"}
+HEADERS = ("include", "arch/generic", "arch/i386")
+
+
+def unpacked(path, folder):
+    """The folder with musl's sources: `path`, a folder in it, or what the archive `path` has."""
+    if os.path.isfile(path):
+        with tarfile.open(path) as archive:
+            archive.extractall(folder, **({"filter": "data"} if hasattr(tarfile, "data_filter") else {}))
+        path = folder
+    return path if os.path.isdir(os.path.join(path, "arch/i386")) else found(path, "musl-1.2.*")
+
+
+def headers(musl, made):
+    """The public headers by their names, each from the last of the folders that has it."""
+    texts = {}
+    for place in [*(os.path.join(musl, name) for name in HEADERS), os.path.join(made, "include"), os.path.join(HERE, "musl")]:
+        for path in glob.glob(os.path.join(place, "**", "*.h"), recursive=True):
+            name = os.path.relpath(path, place)
+            if os.path.dirname(name) == "bits" or place == os.path.join(musl, "include"):
+                with open(path, "rb") as file:
+                    texts["include/" + name] = file.read()
+    return texts
+
+
+def runtime(sources, cc="gcc"):
+    """The files of the C library by their names, made of musl's sources: a folder or an archive."""
+    with tempfile.TemporaryDirectory() as made, concurrent.futures.ThreadPoolExecutor(os.cpu_count()) as pool:
+        try:
+            musl = unpacked(os.path.abspath(sources), os.path.join(made, "sources"))
+        except (OSError, tarfile.TarError) as fault:
+            raise Fault("%s: %s" % (sources, fault)) from None
+        write_headers(musl, made)
+        objects = build_objects(musl, made, cc, pool)
+        del objects["malloc/mallocng"]
+        objects["malloc"] = [path for path in objects["malloc"] if os.path.basename(path) in KEPT]
+        objects["run"] = [compile_inner(musl, made, cc, name) for name in PARTS]
+        files = headers(musl, made)
+        for name, parts in (("libc.a", [path for paths in objects.values() for path in paths]), ("libm.a", [])):
+            join(os.path.join(made, name), parts)
+            with open(os.path.join(made, name), "rb") as file:
+                files[name] = file.read()
+        with open(os.path.join(musl, "COPYRIGHT"), "rb") as file:
+            files["COPYRIGHT"] = file.read()
+        return files
