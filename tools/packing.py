@@ -73,6 +73,7 @@ FILES = [
     ("examples/library/trials", DOC + "examples/library/trials"),
     ("examples/library/musl", DOC + "examples/library/musl"),
     ("examples/library/run", DOC + "examples/library/run"),
+    ("examples/library/templates/bits", DOC + "examples/library/templates/bits"),
     ("examples/library/musl/bits", DOC + "examples/library/musl/bits"),
     ("examples/compile/sample.c", DOC + "examples/compile/sample.c"),
     ("examples/first.script", DOC + "examples/first.script"),

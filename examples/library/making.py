@@ -16,7 +16,7 @@ NOT_THERE = "there is no %s below %s: `build --help` says what to get"
 MUSL_FOLDERS = """string stdlib ctype stdio math multibyte locale errno malloc malloc/mallocng internal exit env time unistd prng fenv setjmp stat
     fcntl misc thread signal select temp conf dirent mman linux sched process legacy search regex""".split()
 MUSL_FAST = {"internal", "malloc", "malloc/mallocng", "string"}  # which musl's own Makefile optimises more
-C_FLAGS = ["-w", "-std=gnu99"]
+C_FLAGS = ["-w", "-std=gnu99", "-ffreestanding"]
 LIMIT = 100
 
 
@@ -131,9 +131,11 @@ def build_objects(musl, made, cc, pool):
 
 
 def compile_inner(musl, made, cc, name):
-    """The object of a source of this folder that sees musl's inner headers."""
-    made_of = os.path.join(made, "%s-%s.o" % (name.replace("/", "-"), cc))
-    nc_cc(["-c", "-Os", *C_FLAGS, *including(musl, made, inner=True), os.path.join(HERE, name + ".c"), "-o", made_of], cc)
+    """The object of a source of this folder, which sees musl's inner headers where it is of C."""
+    stem, kind = os.path.splitext(name)
+    made_of = os.path.join(made, "%s-%s.o" % (stem.replace("/", "-"), cc))
+    flags = ["-std=gnu++17"] if kind == ".cc" else [*C_FLAGS, *including(musl, made, inner=True)]
+    nc_cc(["-c", "-Os", *flags, os.path.join(HERE, name), "-o", made_of], cc)
     return made_of
 
 
@@ -150,5 +152,5 @@ def build_musl(musl, made, cc, pool):
     archive = os.path.join(made, "libc-%s.a" % cc)
     if not os.path.exists(archive):
         objects = build_objects(musl, made, cc, pool)
-        compile_inner(musl, made, cc, "start")
+        compile_inner(musl, made, cc, "start.c")
         join(archive, [path for paths in objects.values() for path in paths])

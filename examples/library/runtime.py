@@ -8,9 +8,10 @@ import tempfile
 
 from making import HERE, Fault, build_objects, compile_inner, found, join, write_headers
 
-PARTS = ("run/start", "run/calls", "run/heap")
+PARTS = ("run/start.c", "run/calls.c", "run/heap.c", "run/templates.cc")
 # Of musl's own heap, what a heap of another kind needs too.
 KEPT = {"memalign.o", "posix_memalign.o", "reallocarray.o"}
+CONFIG = "templates/bits/c++config.h"
 HEADERS = ("include", "arch/generic", "arch/i386")
 
 
@@ -52,6 +53,7 @@ def runtime(sources, cc="gcc"):
             join(os.path.join(made, name), parts)
             with open(os.path.join(made, name), "rb") as file:
                 files[name] = file.read()
-        with open(os.path.join(musl, "COPYRIGHT"), "rb") as file:
-            files["COPYRIGHT"] = file.read()
+        for name, path in (("COPYRIGHT", os.path.join(musl, "COPYRIGHT")), (CONFIG, os.path.join(HERE, CONFIG))):
+            with open(path, "rb") as file:
+                files[name] = file.read()
         return files

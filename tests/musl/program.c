@@ -84,7 +84,9 @@ static int exhausts(void) {
     for (int k = 0; k < count; k++) free(at[k]);
     while (again < count && (at[again] = malloc(MILLION))) again++;
     printf("%d %d\n", count > 4 && error == ENOMEM, again == count);
-    return calloc(1 << 20, 1 << 20) != NULL;
+    volatile size_t many = 1 << 20;
+    void *volatile none = calloc(many, many);
+    return none != NULL;
 }
 
 static jmp_buf back;

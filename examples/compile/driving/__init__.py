@@ -2,9 +2,10 @@
 
 from .faults import Fault
 from .flags import flags_for
+from .headers import own_headers, template_flags
 from .line import Line
 from .questions import answer
 from .responses import shortened
-from .tools import ABOVE, LED_BACK, ended, own_headers, tool
+from .tools import ABOVE, LED_BACK, ended, tool
 
-__all__ = ["ABOVE", "LED_BACK", "Fault", "Line", "answer", "ended", "flags_for", "own_headers", "shortened", "tool"]
+__all__ = ["ABOVE", "LED_BACK", "Fault", "Line", "answer", "ended", "flags_for", "own_headers", "shortened", "template_flags", "tool"]

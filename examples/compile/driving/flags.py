@@ -2,7 +2,8 @@
 
 from .tools import is_clang
 
-DEFAULTS = ["-ffreestanding", "-fno-pic", "-fno-pie", "-fno-jump-tables", "-fno-asynchronous-unwind-tables"]
+FREESTANDING = "-ffreestanding"
+DEFAULTS = ["-fno-pic", "-fno-pie", "-fno-jump-tables", "-fno-asynchronous-unwind-tables"]
 DEFAULTS_CXX = ["-fno-exceptions", "-fno-rtti", "-fno-threadsafe-statics", "-fno-use-cxa-atexit"]
 NEEDED = ["-m32", "-march=i686", "-mno-sse", "-mno-mmx", "-mlong-double-64", "-fcf-protection=none", "-fno-stack-protector"]
 NEEDED_GCC = ["-mno-80387", "-msoft-float", "-fno-ipa-ra", "-mindirect-branch-register"]
@@ -10,7 +11,8 @@ NEEDED_GCC = ["-mno-80387", "-msoft-float", "-fno-ipa-ra", "-mindirect-branch-re
 NEEDED_CLANG = ["-m80387", "-Xclang", "-msoft-float", "-Xclang", "-target-feature", "-Xclang", "+slow-two-mem-ops", "-Qunused-arguments"]
 
 
-def flags_for(language, given=()):
-    """The flags for a language: the defaults, those given, which may replace them, and those that can't be otherwise."""
+def flags_for(language, given=(), is_hosted=False):
+    """The flags for a language: the defaults, those given, which may replace them, and those that can't be otherwise. With a C library the
+    code is hosted."""
     cxx = DEFAULTS_CXX if language.startswith("c++") else []
-    return [*DEFAULTS, *cxx, *given, *NEEDED, *(NEEDED_CLANG if is_clang() else NEEDED_GCC)]
+    return [*[FREESTANDING] * (not is_hosted), *DEFAULTS, *cxx, *given, *NEEDED, *(NEEDED_CLANG if is_clang() else NEEDED_GCC)]

@@ -66,10 +66,3 @@ def tool(name):
 
 def is_clang():
     return "clang" in version(tool("CC")).stdout
-
-
-@functools.lru_cache(maxsize=None)
-def own_headers():
-    """The folder of the compiler's own headers."""
-    words = [*tool("CC"), "-print-file-name=include"]
-    return ended(words, stdin=subprocess.DEVNULL, capture_output=True, encoding="utf-8", errors="replace").stdout.strip()
