@@ -3,6 +3,7 @@
 #include <assert.h>
 #include <ctype.h>
 #include <errno.h>
+#include <fcntl.h>
 #include <math.h>
 #include <setjmp.h>
 #include <stdint.h>
@@ -10,6 +11,7 @@
 #include <stdlib.h>
 #include <string.h>
 #include <time.h>
+#include <unistd.h>
 
 enum { BLOCKS = 512, ROUNDS = 20000, MILLION = 1000000 };
 
@@ -121,6 +123,13 @@ static int files(const char *name) {
     return printf(" %d\n", fclose(file)) < 0;
 }
 
+/* A file's number can't be copied, and nothing claims that it was. */
+static int copies(void) {
+    int one = dup(1), first = errno, other = fcntl(1, F_DUPFD, 5);
+    printf("%d %d %d %d\n", one, first == ENOSYS, other, errno == ENOSYS);
+    return 0;
+}
+
 static int clocks(void) {
     struct timespec a, b;
     time_t now = time(NULL);
@@ -154,6 +163,7 @@ int main(int argc, char **argv) {
     if (!strcmp(what, "jumps")) return jumps();
     if (!strcmp(what, "counts")) return counts();
     if (!strcmp(what, "files")) return files(argv[2]);
+    if (!strcmp(what, "copies")) return copies();
     if (!strcmp(what, "clocks")) return clocks();
     if (!strcmp(what, "ends")) return ends();
     if (!strcmp(what, "aborts")) abort();

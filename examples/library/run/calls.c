@@ -81,7 +81,7 @@ long host_syscall(long number, long a, long b, long c, long d, long e, long f) {
     case SYS_clock_gettime64: return tell_time(a, (long long *)b);
     case SYS_ioctl: return -ENOTTY;
     case SYS_gettid: case SYS_getpid: return 1;
-    case SYS_rt_sigprocmask: case SYS_fcntl64: return 0;
+    case SYS_rt_sigprocmask: return 0; /* no signal comes in */
     default: return -ENOSYS;
     }
 }
