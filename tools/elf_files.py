@@ -74,8 +74,8 @@ REFUSED = [
 ]
 
 UNLINKED = "not linked: link it with nc-cc, or with ld -T chunk.ld"
-WIDE = "a 64-bit file: compile with nc-cc, or with -m32"
-MACHINE = "not for the Intel 80386: compile with nc-cc, or with -m32"
+WIDE = "a 64-bit file: compile its source with nc-cc"
+MACHINE = "not for the Intel 80386: compile its source with nc-cc"
 FORMAT = "not a 32-bit little-endian ELF file of version 1"
 TABLE = "bad table of program headers"
 SEGMENT = "the segment of program header %d %s"

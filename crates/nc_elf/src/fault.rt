@@ -35,13 +35,13 @@ pub enum ElfFault {
     #[error("the file ends in its ELF header")]
     ShortHeader,
     /// The file is for 64 bits.
-    #[error("a 64-bit file: compile with nc-cc, or with -m32")]
+    #[error("a 64-bit file: compile its source with nc-cc")]
     Elf64,
     /// The file is big-endian, or of an unknown size or version.
     #[error("not a 32-bit little-endian ELF file of version 1")]
     OtherFormat,
     /// The file is for another processor.
-    #[error("not for the Intel 80386: compile with nc-cc, or with -m32")]
+    #[error("not for the Intel 80386: compile its source with nc-cc")]
     OtherMachine,
     /// The file is an object file, which hasn't been linked.
     #[error("not linked: link it with nc-cc, or with ld -T chunk.ld")]
