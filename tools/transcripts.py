@@ -1,7 +1,7 @@
 """The runs of the two programs in tests/scripts and tests/reports: their words, what they are given, and what they have to write.
 
 A line with `$` begins a run, and has its words; lines with `#` before it say what the run is about. Of a script, a line with `>` is
-a line of input, and the line below it the reply. Of a report, a line `= NAME LENGTH PLACE:BYTES ..` is a file of nops with
+a line of input, and the line below it the reply; a line with `!` below that has the explanation. Of a report, a line `= NAME LENGTH PLACE:BYTES ..` is a file of nops with
 other bytes at some places, `+ ADDRESS NAME` makes the last file an ELF file and gives it a symbol, and the lines below are what the
 program has to write; what comes before `..` at the end of a line is how that line has to begin.
 
@@ -44,7 +44,7 @@ class Run:
     def __init__(self, about, words):
         self.about, self.words = about, words
         self.codes, self.symbols = {}, {}
-        self.lines, self.owed = [], []
+        self.lines, self.owed, self.explained = [], [], {}
 
     def input(self):
         return b"".join(self.lines)
@@ -97,6 +97,8 @@ def scripts(name):
         for line in lines:
             if line.startswith(">"):
                 run.lines.append(filled(bytes_of(line[2:])) + b"\n")
+            elif line.startswith("!"):
+                run.explained[len(run.lines)] = line[2:]
             else:
                 run.owed.append(filled(bytes_of(line)) + b"\n")
         found.append(run)

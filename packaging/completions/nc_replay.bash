@@ -7,8 +7,8 @@ _nc_replay() {
     --workers) words=$(echo {1..16}) ;;
     *)
         case ${COMP_WORDS[1]} in
-        replay) words="--bundles --seats --help -h" ;;
-        vet) words="--bundles --workers --help -h" ;;
+        replay) words="--bundles --seats --explain --strict --help -h" ;;
+        vet) words="--bundles --workers --explain --strict --help -h" ;;
         help) words="replay vet" ;;
         esac
         [[ $COMP_CWORD -gt 1 ]] || words="replay vet help --help --version -h -V"

@@ -2,13 +2,23 @@
 
 use nc_output::Detail;
 
-/// The request that a command line of `nc_replay` makes.
+/// The work that a command line of `nc_replay` asks for.
 #[derive(Clone, Copy, Debug, Drop, PartialEq, Eq)]
-pub enum Ask {
+pub enum Task {
     /// Runs a script.
     Replay { bundles: u32, seats: u32 },
     /// Vets lines of chunks.
     Vet { bundles: u32, workers: u32 },
+}
+
+/// The request that a command line of `nc_replay` makes.
+#[derive(Clone, Copy, Debug, Drop, PartialEq, Eq)]
+pub struct Ask {
+    pub task: Task,
+    /// Whether each bad line and each refusal is explained on standard error.
+    pub explain: bool,
+    /// Whether the exit status is 1 if a line was bad.
+    pub strict: bool,
 }
 
 /// The request that a command line of `nc_check` makes: to judge the code of files.

@@ -1,11 +1,11 @@
 //! The command line of `nc_replay`, and the request that its words make.
 
-ghost use Rattle.std.specs.Prelude.{◌≤◌, IfOk, IfSome};
+ghost use Rattle.std.specs.Prelude.{◌≡◌, ◌≤◌, IfOk, IfSome};
 ghost use Rattle.nc_command.specs.Range.{AsksInRange};
 
-use crate::asked::Ask;
+use crate::asked::{Ask, Task};
 use crate::building::{fault, matches};
-use crate::table::{BUNDLES, OPTION, Program, Usage, WORKERS, Word};
+use crate::table::{BUNDLES, FLAG, OPTION, Program, Usage, WORKERS, Word};
 use crate::words::command_words;
 use clap::builder::ValueParser;
 use clap::error::ErrorKind;
@@ -31,6 +31,20 @@ const SEATS: Word = Word {
     ..OPTION
 };
 
+/// The flag by which bad lines and refusals are explained.
+const EXPLAIN: Word = Word {
+    name: "explain",
+    help: "Say on standard error what is wrong with each bad line, and why each refusal",
+    ..FLAG
+};
+
+/// The flag by which a bad line is a failure.
+const STRICT: Word = Word {
+    name: "strict",
+    help: "End with status 1 if a line was bad",
+    ..FLAG
+};
+
 /// The program `nc_replay`.
 #[rattlefmt::skip]
 static REPLAY: Program = Program {
@@ -43,12 +57,12 @@ static REPLAY: Program = Program {
         Usage {
             name: "replay",
             about: "Run a script from standard input and write one reply line for each of its lines",
-            words: &[SMALL, SEATS],
+            words: &[SMALL, SEATS, EXPLAIN, STRICT],
         },
         Usage {
             name: "vet",
             about: "Vet the chunks on standard input, one `<address> <bytes>` a line, and write one verdict for each",
-            words: &[SMALL, WORKERS],
+            words: &[SMALL, WORKERS, EXPLAIN, STRICT],
         },
     ],
 };
@@ -71,21 +85,63 @@ fn program() -> &'static Program {
     &REPLAY
 }
 
+/// The request that the words of a subcommand make for this task.
+fn ask_for(task: Task, found: &ArgMatches<'_>) -> Ask
+    ensures { result.task ≡ task }
+{
+    Ask {
+        task,
+        explain: found.get_flag("explain"),
+        strict: found.get_flag("strict"),
+    }
+}
+
 /// The request that a subcommand makes.
 fn asked(found: &ArgMatches<'_>) -> Option<Ask>
     ensures { IfSome result AsksInRange }
 {
     if let Some(found) = found.subcommand_matches("replay") {
-        return Some(Ask::Replay {
+        let task = Task::Replay {
             bundles: number(found, "bundles", 2, MAX_BUNDLES),
             seats: number(found, "seats", 1, MOST_SEATS as u32),
-        });
+        };
+        return Some(ask_for(task, found));
     }
     let found = found.subcommand_matches("vet")?;
-    Some(Ask::Vet {
+    let task = Task::Vet {
         bundles: number(found, "bundles", 2, MAX_BUNDLES),
         workers: number(found, "workers", 1, 16),
-    })
+    };
+    Some(ask_for(task, found))
+}
+
+/// Whether a word is an option whose value is the next word.
+fn takes_next(word: &str) -> bool {
+    word == "--bundles" || word == "--seats" || word == "--workers"
+}
+
+/// Whether a word after the subcommand is neither an option nor the value of one, as the name of a file is.
+fn names_file(words: &[&str]) -> bool {
+    words.windows(2).any(|pair| !takes_next(pair[0])
+        && (pair[1] == "-" || !pair[1].starts_with('-')))
+}
+
+/// The refusal of words that name a file.
+fn refusal_of_file(alloc: Global) -> Error {
+    fault(
+        alloc,
+        program(),
+        ErrorKind::UnknownArgument,
+        "no file can be named: the lines are read from standard input, as in `nc_replay replay < FILE`",
+    )
+}
+
+/// The refusal of words. If one of them names a file, it says where the lines are read.
+fn refusal(alloc: Global, words: &[&str], error: Error) -> Error {
+    if error.kind() == ErrorKind::UnknownArgument && names_file(words) {
+        return refusal_of_file(alloc);
+    }
+    error
 }
 
 /// Reads the words of a command line, without the program's own name.
@@ -93,7 +149,10 @@ pub fn ask<'a>(alloc: Global, words: &'a [&'a str]) -> Result<Ask, Error>
     // The numbers are in the ranges of the options.
     ensures { IfOk result AsksInRange }
 {
-    let found = matches(alloc, program(), words)?;
+    let found = match matches(alloc, program(), words) {
+        Ok(found) => found,
+        Err(error) => return Err(refusal(alloc, words, error)),
+    };
     let asked = asked(&found);
     drop(found);
     match asked {

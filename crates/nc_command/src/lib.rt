@@ -13,7 +13,7 @@ mod command_line;
 mod table;
 mod words;
 
-pub use asked::{Ask, CheckAsk};
+pub use asked::{Ask, CheckAsk, Task};
 pub use building::matches;
 pub use checking::{ask_check, check_words};
 pub use command_line::{ask, replay_words};

@@ -3,46 +3,83 @@
 //! It has two subcommands. `replay` runs a script: it creates, patches, deletes and reclaims chunks in a code region, walks
 //! through them and shows them. `vet` only vets chunks, several at a time. `ask` of `nc_command` parses the command line, and
 //! `start` carries it out over any reader and writer, by the calls of `nc_script` and `nc_lines`. `gathering` says whether replies may be
-//! written together.
+//! written together. `explaining` has the reader and the writer that explain bad lines and refusals on standard error.
 #![tactic(auto)]
 
 ghost use Rattle.std.specs.Prelude.{◌≡◌, ◌⊎◌};
 ghost use Rattle.nc_replay.specs.Status.{status_of};
 
+mod explaining;
 mod gathering;
 pub mod program;
 
 use clap::error::ErrorKind as ClapKind;
+use explaining::{ExplainedInput, ExplainedOutput};
 use gathering::most_held;
-use nc_command::{arguments, replay_words};
+use nc_command::{Ask, arguments, ask, replay_words};
 use nc_lines::ReplayFault;
 use nc_output::Piped;
 use program::{Halt, start};
-use std::io::{self, ErrorKind, Input, Write};
+use std::io::{self, BufReader, ErrorKind, Input, Write};
 use std::process::ExitCode;
 use std::rt::Env;
 use std::sync::Wait;
 use std::thread::Threads;
 
-/// Carries out the command line, and writes to this writer, of a script at most `most` bytes of replies together.
-fn run_words<R: Threads + Wait + Sync + Env + AllocGlobal + Input, W: Write>(
+/// Carries out words for this request, explains bad lines and refusals if that is asked for, and returns the number of bad lines.
+fn run_explained<R: Threads + Wait + Sync + Eprint + AllocGlobal + Input, W: Write>(
+    rt: &R,
+    asked: Ask,
+    words: &[&str],
+    writer: &mut W,
+    most: usize,
+) -> Result<u64, Halt> {
+    let alloc = rt.alloc();
+    let mut output = ExplainedOutput::new(rt, alloc, writer, asked.explain);
+    if !asked.explain {
+        start(rt, alloc, words, &mut rt.reader(), &mut output, most)?;
+        return Ok(output.bad_lines());
+    }
+    let Ok(reader) = BufReader::new(alloc, rt.reader()) else {
+        return Err(Halt::Fault(ReplayFault::OutOfMemory));
+    };
+    let mut input = ExplainedInput::new(rt, alloc, reader, asked.task);
+    start(rt, alloc, words, &mut input, &mut output, 0)?;
+    Ok(output.bad_lines())
+}
+
+/// Carries out words, and writes to this writer, of a script at most `most` bytes of replies together. Returns the number of bad lines
+/// if the words count them as failures.
+fn run_arguments<R: Threads + Wait + Sync + Eprint + AllocGlobal + Input, W: Write>(
+    rt: &R,
+    words: &[&str],
+    writer: &mut W,
+    most: usize,
+) -> Result<u64, Halt> {
+    match ask(rt.alloc(), words) {
+        Ok(asked) if asked.explain || asked.strict => {
+            let bad = run_explained(rt, asked, words, writer, most)?;
+            Ok(if asked.strict { bad } else { 0 })
+        }
+        _ => {
+            start(rt, rt.alloc(), words, &mut rt.reader(), writer, most)?;
+            Ok(0)
+        }
+    }
+}
+
+/// Carries out the command line, as [`run_arguments`] does its words.
+fn run_words<R: Threads + Wait + Sync + Env + Eprint + AllocGlobal + Input, W: Write>(
     rt: &R,
     writer: &mut W,
     most: usize,
-) -> Result<(), Halt> {
+) -> Result<u64, Halt> {
     let words = match replay_words(rt) {
         Ok(words) => words,
         Err(error) => return Err(Halt::Words(error)),
     };
     match arguments(rt.alloc(), words.as_slice()) {
-        Ok(arguments) => start(
-            rt,
-            rt.alloc(),
-            arguments.as_slice(),
-            &mut rt.reader(),
-            writer,
-            most,
-        ),
+        Ok(arguments) => run_arguments(rt, arguments.as_slice(), writer, most),
         Err(_) => Err(Halt::Fault(ReplayFault::OutOfMemory)),
     }
 }
@@ -84,7 +121,11 @@ fn stop<R: Print + Eprint>(rt: &R, halt: &Halt, is_closed: bool) -> u8
 fn main(rt: HostRuntime) -> ExitCode {
     let mut writer = Piped::new(io::writer(&rt));
     match run_words(&rt, &mut writer, most_held(&rt)) {
-        Ok(()) => ExitCode::SUCCESS,
+        Ok(0) => ExitCode::SUCCESS,
+        Ok(bad) => {
+            let _ = eprintln!(&rt; "nc_replay: bad lines: {bad}");
+            ExitCode::from(1)
+        }
         Err(halt) => ExitCode::from(stop(&rt, &halt, writer.is_closed())),
     }
 }

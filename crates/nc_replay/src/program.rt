@@ -5,7 +5,7 @@ ghost use Rattle.nc_replay.specs.Start.{IfWords, IfRun, HasReplayed, HasVettedLi
 ghost use Rattle.nc_replay.specs.Status.{status_of};
 
 use clap::error::ErrorKind;
-use nc_command::{Ask, ask};
+use nc_command::{Task, ask};
 use nc_lines::{ReplayFault, vet_lines};
 use nc_script::run_gathered;
 use nc_work::Open;
@@ -59,19 +59,22 @@ pub fn start<'a, T: Threads + Wait + Sync, R: Read, W: Write>(
         ⊎ HasVettedLines (writer.new ≡ writer.old) (R.remaining reader.old) (R.remaining reader.new)
         (W.contents writer.old) (W.contents writer.new) outcome) }
 {
-    match ask(alloc, words) {
-        Ok(Ask::Replay { bundles, seats }) => {
+    let task = match ask(alloc, words) {
+        Ok(asked) => asked.task,
+        Err(error) => return Err(Halt::Words(error)),
+    };
+    match task {
+        Task::Replay { bundles, seats } => {
             match run_gathered(alloc, reader, writer, bundles, seats, most) {
                 Ok(()) => Ok(()),
                 Err(fault) => Err(Halt::Fault(fault)),
             }
         }
-        Ok(Ask::Vet { bundles, workers }) => {
+        Task::Vet { bundles, workers } => {
             match vet_lines(rt, alloc, reader, writer, bundles, workers, &Open) {
                 Ok(()) => Ok(()),
                 Err(fault) => Err(Halt::Fault(fault)),
             }
         }
-        Err(error) => Err(Halt::Words(error)),
     }
 }

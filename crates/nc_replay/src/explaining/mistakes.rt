@@ -1,0 +1,179 @@
+//! What is wrong with a line that gets the reply `bad line`.
+
+use crate::explaining::shapes::{CHUNK, Form, Shape, request_of};
+use nc_command::Task;
+use nc_lines::LINE_LIMIT;
+use thiserror::Error;
+
+/// What is wrong with a line.
+#[derive(Debug, Drop, Error)]
+pub(crate) enum Mistake {
+    #[error("a line has at most 1048576 bytes, and this one has more")]
+    Long,
+    #[error("the line is empty")]
+    Empty,
+    #[error("the line ends with a carriage return; a line feed alone ends a line")]
+    Return,
+    #[error("a line can't be a comment")]
+    Comment,
+    #[error("a tab can't separate words; one space does")]
+    Tab,
+    #[error("exactly one space separates two words, and a line neither begins nor ends with one")]
+    Spaces,
+    #[error("a request begins with create, modify, delete, checkin, leave, reclaim, walk, dump or chunk, in lower case")]
+    Unknown,
+    #[error("a line of vet has an address and bytes, and no word before them")]
+    Request,
+    #[error("{} is missing", .0.name())]
+    Missing(Form),
+    #[error("the line has a word too many")]
+    Extra,
+    #[error("{} has eight hexadecimal digits; this one has {}", .0.name(), number_word(*.1))]
+    Length(Form, usize),
+    #[error("{} has hexadecimal digits alone, without 0x", .0.name())]
+    Prefix(Form),
+    #[error("{} has hexadecimal digits alone; this one has another character", .0.name())]
+    NotHexadecimal(Form),
+    #[error("bytes have two hexadecimal digits each; one of these has only one")]
+    Odd,
+    #[error("a seat has one to three decimal digits")]
+    NotSeat,
+}
+
+/// Small numbers in words.
+const NUMBERS: [&str; 13] = [
+    "none", "one", "two", "three", "four", "five", "six", "seven", "eight", "nine", "ten",
+    "eleven", "twelve",
+];
+
+/// A number of digits in a word, if it is small.
+fn number_word(count: usize) -> &'static str {
+    match NUMBERS.get(count) {
+        Some(word) => word,
+        None => "more than twelve",
+    }
+}
+
+/// Whether a word has hexadecimal digits alone.
+fn is_hexadecimal(word: &[u8]) -> bool {
+    word.iter().all(|byte| byte.is_ascii_hexdigit())
+}
+
+/// What is wrong with the digits of a word.
+fn mistake_in_digits(form: Form, word: &[u8]) -> Option<Mistake> {
+    if is_hexadecimal(word) {
+        None
+    } else if word.starts_with(b"0x") || word.starts_with(b"0X") {
+        Some(Mistake::Prefix(form))
+    } else {
+        Some(Mistake::NotHexadecimal(form))
+    }
+}
+
+/// What is wrong with a word of an address or of a choice.
+fn mistake_in_address(form: Form, word: &[u8]) -> Option<Mistake> {
+    match mistake_in_digits(form, word) {
+        None if word.len() != 8 => Some(Mistake::Length(form, word.len())),
+        mistake => mistake,
+    }
+}
+
+/// What is wrong with a word of bytes.
+fn mistake_in_bytes(word: &[u8]) -> Option<Mistake> {
+    if word == b"-".as_slice() {
+        return None;
+    }
+    match mistake_in_digits(Form::Bytes, word) {
+        None if word.len() % 2 != 0 => Some(Mistake::Odd),
+        mistake => mistake,
+    }
+}
+
+/// What is wrong with the word of a seat.
+fn mistake_in_seat(word: &[u8]) -> Option<Mistake> {
+    if (1..=3).contains(&word.len()) && word.iter().all(|byte| byte.is_ascii_digit()) {
+        None
+    } else {
+        Some(Mistake::NotSeat)
+    }
+}
+
+/// What is wrong with a word of this form.
+fn mistake_in_word(form: Form, word: &[u8]) -> Option<Mistake> {
+    match form {
+        Form::Address | Form::Choice => mistake_in_address(form, word),
+        Form::Bytes => mistake_in_bytes(word),
+        Form::Seat => mistake_in_seat(word),
+    }
+}
+
+/// What is wrong with the words of a text that has this shape, separated by single spaces; `None` stands for a text without a word.
+fn mistake_in_words(shape: Shape, text: Option<&[u8]>) -> Option<Mistake> {
+    let mut count: usize = 0;
+    if let Some(text) = text {
+        for word in text.split(|byte| *byte == b' ') {
+            let Some(form) = shape.form(count) else {
+                return Some(Mistake::Extra);
+            };
+            match mistake_in_word(form, word) {
+                None => count = count.saturating_add(1),
+                mistake => return mistake,
+            }
+        }
+    }
+    match shape.forms.get(count) {
+        Some(form) => Some(Mistake::Missing(*form)),
+        None => None,
+    }
+}
+
+/// What is wrong with the bytes of a line as a whole.
+fn mistake_in_bytes_of(line: &[u8]) -> Option<Mistake> {
+    if line.len() > LINE_LIMIT {
+        Some(Mistake::Long)
+    } else if line.is_empty() {
+        Some(Mistake::Empty)
+    } else if line.ends_with(b"\r") {
+        Some(Mistake::Return)
+    } else if line.starts_with(b"#") {
+        Some(Mistake::Comment)
+    } else if line.contains(&b'\t') {
+        Some(Mistake::Tab)
+    } else if line.split(|byte| *byte == b' ').any(|word| word.is_empty()) {
+        Some(Mistake::Spaces)
+    } else {
+        None
+    }
+}
+
+/// What is wrong with a line of a script, whose words are separated by single spaces.
+fn mistake_in_request(line: &[u8]) -> Option<Mistake> {
+    let (word, rest) = match line.iter().position(|byte| *byte == b' ') {
+        Some(end) => (&line[..end], Some(&line[end + 1..])),
+        None => (line, None),
+    };
+    match request_of(word) {
+        Some(request) => mistake_in_words(request.words, rest),
+        None => Some(Mistake::Unknown),
+    }
+}
+
+/// What is wrong with a line of `vet`, whose words are separated by single spaces.
+fn mistake_in_chunk(line: &[u8]) -> Option<Mistake> {
+    let first = line.split(|byte| *byte == b' ').next();
+    if first.is_some_and(|word| request_of(word).is_some()) {
+        return Some(Mistake::Request);
+    }
+    mistake_in_words(CHUNK, Some(line))
+}
+
+/// What is wrong with a line for this task, if it gets the reply `bad line`.
+pub(crate) fn mistake_in(task: Task, line: &[u8]) -> Option<Mistake> {
+    match mistake_in_bytes_of(line) {
+        None => match task {
+            Task::Replay { .. } => mistake_in_request(line),
+            Task::Vet { .. } => mistake_in_chunk(line),
+        },
+        mistake => mistake,
+    }
+}
