@@ -8,6 +8,7 @@ from string import Template
 
 from building import DEFAULT, boxes, libraries, program
 from examples import TOP
+from manual import pages
 from placing import File, Link
 
 sys.path.append(os.path.join(TOP, "examples", "library"))
@@ -167,6 +168,12 @@ def c_library(sources):
     return {SHARE + "libc/" + name: File(content, 0o644) for name, content in runtime(sources).items()}
 
 
+def manual_pages():
+    """The manual page of the library for C, which has the date of that of nc_check."""
+    date = re.search(r"^\.Dd (.*)$", read("docs/man/nc_check.1").decode(), re.M)[1]
+    return {place: File(text.encode(), 0o644) for place, text in pages(read("include/nc_host.h").decode(), version(), date).items()}
+
+
 def tree(cpu=DEFAULT, anew=False):
     """All of it, for a processor; what is built already isn't built again, if it isn't to be made anew."""
     number = version()
@@ -178,6 +185,7 @@ def tree(cpu=DEFAULT, anew=False):
         made[path] = File(as_installed(made[path].content.decode(), path, made).encode(), made[path].mode)
     for template, to in TEMPLATES:
         made[to] = File(filled(template).encode(), 0o644)
+    made.update(manual_pages())
     made["bin/nc-bundle"] = File(read(REWRITER).replace(b"to-bundles", b"nc-bundle"), 0o755)
     made["bin/nc-cc"] = File(read(DRIVER), 0o755)
     made["bin/nc-c++"] = Link("nc-cc")
