@@ -1,7 +1,9 @@
 """What several of the scripts in this folder use: the built programs, and one script and its replies."""
 
 import os
+import shutil
 import subprocess
+import sys
 
 TOP = os.path.dirname(os.path.dirname(os.path.abspath(__file__)))
 
@@ -43,12 +45,33 @@ def lines_words(workers):
     return ["vet", "--bundles", "4", "--workers", str(workers)]
 
 
-def built(name, words):
-    """A program's path; it is built if it isn't there."""
+def give_up(message):
+    """Ends the script with status 2."""
+    print(f"{os.path.basename(sys.argv[0])}: {message}", file=sys.stderr)
+    sys.exit(2)
+
+
+def require_rt():
+    """Without the toolchain the script ends."""
+    if shutil.which("rt") is None:
+        give_up("rt isn't here: what this needs is built by the Rattle toolchain")
+
+
+def rt(*words, **more):
+    """Runs a command of the toolchain. Without the toolchain, or if the command fails, the script ends."""
+    require_rt()
+    done = subprocess.run(["rt", *words], check=False, **more)
+    if done.returncode:
+        give_up(f"rt {' '.join(words)} ended with status {done.returncode}")
+    return done
+
+
+def built(name, words, given=subprocess.DEVNULL):
+    """A program's path. It is built if it isn't there, and run with these words and this standard input."""
     crate = os.path.join(TOP, "crates", name)
     program = os.path.join(crate, "out", name)
     if not os.path.exists(program):
-        subprocess.run(["rt", "run"] + words, cwd=crate, stdin=subprocess.DEVNULL, stdout=subprocess.DEVNULL, check=True)
+        rt("run", *words, cwd=crate, stdin=given, stdout=subprocess.DEVNULL)
     return program
 
 

@@ -5,7 +5,7 @@ import platform
 import shutil
 import subprocess
 
-from examples import TOP
+from examples import TOP, rt
 
 CRATE = os.path.join(TOP, "crates", "nc_host")
 LIBRARY = os.path.join(CRATE, "out", "libnc_host.a")
@@ -15,13 +15,13 @@ SKIPPED = 77
 
 
 def kit():
-    return os.environ.get("RATTLE_KIT") or os.path.dirname(subprocess.run(["rt", "doc"], capture_output=True, text=True, check=True).stdout.strip())
+    return os.environ.get("RATTLE_KIT") or os.path.dirname(rt("doc", capture_output=True, text=True).stdout.strip())
 
 
 def archives():
     """The library and what it stands on, for a linker. It is built if it isn't there."""
     if not os.path.exists(LIBRARY):
-        subprocess.run(["rt", "lib"], cwd=CRATE, stdin=subprocess.DEVNULL, stdout=subprocess.DEVNULL, check=True)
+        rt("lib", cwd=CRATE, stdin=subprocess.DEVNULL, stdout=subprocess.DEVNULL)
     return [LIBRARY, os.path.join(kit(), "c", "liblibc_c.a")]
 
 
