@@ -1,4 +1,4 @@
-/* Two functions with one body, to which a compiler gives three arguments in registers, and functions that clang calls by memory. */
+/* Two functions with one body, to which a compiler gives three arguments in registers, and calls by pointers in memory. */
 
 typedef unsigned short u16;
 

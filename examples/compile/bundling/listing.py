@@ -7,6 +7,7 @@ from collections import Counter
 from .encoded import instructions_of, refused_name
 from .sections import Sections
 from .statements import symbols
+from .thunks import without_thunks
 
 DATA = {".byte", ".short", ".value", ".word", ".hword", ".2byte", ".long", ".int", ".4byte", ".quad", ".8byte", ".octa", ".float", ".single",
         ".double", ".ascii", ".asciz", ".string", ".zero", ".skip", ".space", ".fill", ".uleb128", ".sleb128", ".org", ".nops", ".nop",
@@ -62,7 +63,7 @@ class Listing:
     def __init__(self, statements):
         self.statements, self.sections, self.enters = [], [], set()
         tracker = Sections()
-        for statement in without_numbers(statements):
+        for statement in without_numbers(without_thunks(statements)):
             if statement.kind == "directive" and tracker.follow(statement):
                 self.enters.add(len(self.statements))
             found = instructions_of(statement) if tracker.current.is_code else [statement]
@@ -120,9 +121,6 @@ class Listing:
         for statement in self.statements:
             if statement.word == ".type" and re.search(r"[@%]function", statement.operands):
                 yield from (self.named_once(name) for name in symbols(statement.operands.split(",")[0]) if name in self.labels)
-
-    def may_be_called_by_pointer(self, name):
-        return name in self.globals or name in self.functions and name in self.pointed
 
     def begins_bundle(self, name):
         """Whether a pointer may hold this label's address, so that it has to be a bundle start."""

@@ -2,9 +2,9 @@
 
 import re
 
-from .arguments import REGISTERS, argument_in, is_set_before, mentions
 from .listing import Listing
 from .notes import ONLY_PADDING, OWN_NOPS, noted
+from .registers import REGISTERS, is_needed_at, is_set_before, parts_in, takes_up_state
 from .statements import statements_of
 from .tables import PAD, Tables, is_jump_through_memory
 
@@ -14,6 +14,8 @@ ALIGNMENTS = {".p2align", ".align", ".balign", ".p2alignw", ".p2alignl", ".balig
 FOR_CLANG = {".addrsig", ".addrsig_sym"}
 OWN_ADDRESS = re.compile(r"\tmovl?\t\(%esp\), (%e(?:[a-d]x|[sd]i|bp))$")
 CALLS, JUMPS, RETURNS = {"call", "calll"}, {"jmp", "jmpl"}, {"ret", "retl"}
+NONE_FREE = ("each register may have an argument: load the target into one that has none, and go by that register, as compilers do by the "
+             "flags of nc-cc --cflags")
 
 
 class Bundler:
@@ -70,41 +72,40 @@ class Bundler:
         else:
             self.mask_and_go("jmp", "%ecx", ["popl %ecx"])
 
-    def call(self, index, statement):
+    def call(self, statement):
+        """A call by a name or by a register. One through memory needs a register for the target, and the text shows none to be free."""
         target = statement.operands
-        if target.startswith("*"):
-            register = self.loaded(index, statement)
-            self.end_bundle(5)  # `and` has 3 bytes, `call` by a register 2
-            self.mask_and_go("call", register)
-        else:
-            self.end_bundle(5)
+        self.end_bundle(5)  # `and` has 3 bytes, `call` by a register 2
+        if not target.startswith("*"):
             self.emit(f"call {target}")
+        elif target[1:].strip() in REGISTERS:
+            self.mask_and_go("call", target[1:].strip())
+        else:
+            statement.refuse(NONE_FREE)
 
     def jump(self, index, statement):
-        """A jump by a register or memory: by a table of labels, or out of the function."""
-        kind = self.tables.kind(index, statement) if is_jump_through_memory(statement) else "end"
-        if kind is None and not self.is_free_beside(index):
-            statement.refuse("a jump through memory to labels of a function: compile with -fno-jump-tables (a switch), or keep the label's "
-                             "address in a register, by -mindirect-branch-register (gcc) or asm(\"\" : \"+r\"(label))")
-        if kind == "table":
-            self.emit("pushl %ecx")
-        self.mask_and_go("jmp", self.loaded(index, statement, is_free=kind == "table"))
-
-    def is_free_beside(self, index):
-        """Whether no label in the function to which the jump may go needs %ecx."""
-        return not any(argument_in(self.listing, name, "%ecx", counts_pushes=True) for name in self.listing.pointed_beside(index))
-
-    def loaded(self, index, statement, is_free=False):
-        """The register with the target, into which it is loaded first if it is in memory. %ecx that was set to find the target there has
-        served its purpose; a function that takes an argument in it is refused by itself (check_argument)."""
+        """A jump by a register, or through memory by one into which the target is loaded first."""
         target = statement.operands[1:].strip()
         if target in REGISTERS:
-            return target
-        if not is_free and not mentions(target, "%ecx") and is_set_before(self.listing, index, "%ecx"):
-            statement.refuse("%ecx has an argument, and the target has to be loaded into it: call by a register (gcc has "
-                             "-mindirect-branch-register), or don't declare the pointer fastcall, thiscall or regparm(3)")
+            self.mask_and_go("jmp", target)
+            return
+        if self.tables.saves_register(statement):
+            self.emit("pushl %ecx")
+        else:
+            self.check_free(index, statement)
         self.emit(f"movl {target}, %ecx")
-        return "%ecx"
+        self.mask_and_go("jmp", "%ecx")
+
+    def check_free(self, index, statement):
+        """Refuses a jump through memory that isn't by a table, unless %ecx is free: the jump takes up a state that was kept, or it goes to
+        labels of the function that don't need %ecx. Out of the function it might take arguments along in any register."""
+        labels = self.tables.targets(index, statement)
+        if not labels and not takes_up_state(self.listing, index):
+            statement.refuse(NONE_FREE)
+        is_set = not parts_in(statement.operands) and is_set_before(self.listing, index)
+        if is_set or any(is_needed_at(self.listing, name) for name in labels):
+            statement.refuse("a jump through memory to labels of a function: compile with -fno-jump-tables (a switch), or keep the label's "
+                             "address in a register, by -mindirect-branch-register (gcc) or asm(\"\" : \"+r\"(label))")
 
     def finish(self, section):
         """The end of a code section: the labels of tables by which jumps save %ecx, and whole bundles."""
@@ -122,7 +123,7 @@ class Bundler:
         if word in RETURNS:
             self.ret(index, statement)
         elif word in CALLS:
-            self.call(index, statement)
+            self.call(statement)
         elif word in JUMPS and operands.startswith("*"):
             self.jump(index, statement)
         elif word == "pause" or word == "nop" or word.startswith("xchg") and operands.replace(" ", "") == "%eax,%eax":
@@ -135,15 +136,8 @@ class Bundler:
 
     def label(self, statement):
         if self.base and self.listing.begins_bundle(statement.word):
-            self.check_argument(statement)
             self.start_bundle()
         self.out.append(statement.text)
-
-    def check_argument(self, statement):
-        """A call through memory loads %ecx, so no function that a pointer may lead to takes an argument there."""
-        if self.listing.may_be_called_by_pointer(statement.word) and argument_in(self.listing, statement.word, "%ecx"):
-            statement.refuse(f"`{statement.word}` takes an argument in %ecx, which calls through memory overwrite: "
-                             "declare it without fastcall, thiscall and regparm(3), or static and call it by its name only")
 
     def directive(self, index, statement):
         if index in self.listing.enters:

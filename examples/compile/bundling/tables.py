@@ -42,7 +42,7 @@ class Tables:
     def __init__(self, listing):
         self.listing = listing
         tables, named = constant_tables(listing), references(listing)
-        self.of_labels = {name for name, places in tables.items() if any(self.inner_labels(index) for index in places)}
+        self.of_labels = {name: places for name, places in tables.items() if any(self.inner_labels(index) for index in places)}
         self.by_jumps = {name for name in self.of_labels if all(self.is_jump_by(index, name) for index in named.get(name, ()))
                          and all(self.is_replaceable(index) for index in tables[name])}
         self.padded = {index for name in self.by_jumps & self.jumped() for index in tables[name]}
@@ -77,11 +77,11 @@ class Tables:
         statement = self.listing.statements[index]
         return statement._replace(operands=", ".join(PAD + name for name in self.inner_labels(index)))
 
-    def kind(self, index, statement):
-        """What a jump through memory is: "table", where it saves %ecx; "end", where it leaves the function; None, where that isn't known."""
-        names = symbols(statement.operands)
-        if any(name in self.by_jumps for name in names):
-            return "table"
-        if any(name in self.of_labels for name in names) or self.listing.pointed_beside(index):
-            return None
-        return "end"
+    def saves_register(self, statement):
+        """Whether a jump through memory is by a table whose labels are replaced, so that it saves %ecx."""
+        return any(name in self.by_jumps for name in symbols(statement.operands))
+
+    def targets(self, index, statement):
+        """The labels inside of functions to which another jump through memory may go. Without any it leaves its function."""
+        places = [place for name in symbols(statement.operands) for place in self.of_labels.get(name, ())]
+        return [name for place in places for name in self.inner_labels(place)] + self.listing.pointed_beside(index)

@@ -8,7 +8,10 @@ DEFAULTS_CXX = ["-fno-exceptions", "-fno-rtti", "-fno-threadsafe-statics", "-fno
 NEEDED = ["-m32", "-march=i686", "-mno-sse", "-mno-mmx", "-mlong-double-64", "-fcf-protection=none", "-fno-stack-protector"]
 NEEDED_GCC = ["-mno-80387", "-msoft-float", "-fno-ipa-ra", "-mindirect-branch-register"]
 # clang's driver does nothing on -msoft-float; with -mno-80387 clang 14 has no `long double`, and fails where a `double` becomes a `long long`.
-NEEDED_CLANG = ["-m80387", "-Xclang", "-msoft-float", "-Xclang", "-target-feature", "-Xclang", "+slow-two-mem-ops", "-Qunused-arguments"]
+# With the two features clang calls by a register that has no argument, and never through memory: see bundling/thunks.py.
+FEATURES = ["+retpoline-indirect-calls", "+retpoline-external-thunk"]
+NEEDED_CLANG = ["-m80387", "-Xclang", "-msoft-float", *(word for name in FEATURES for word in ("-Xclang", "-target-feature", "-Xclang", name)),
+                "-Qunused-arguments"]
 
 
 def flags_for(language, given=(), is_hosted=False):
