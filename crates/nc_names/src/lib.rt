@@ -1,0 +1,22 @@
+//! Permitted instructions as text, in the AT&T syntax that GNU objdump writes.
+//!
+//! [`push_instruction`] adds the name and the operands of one instruction to a text. No verdict depends on it.
+//!
+//! `rows` is the table of names by opcode, `row` says what a row has, and `parts` takes an instruction apart. `writing` writes the
+//! name and the operands, and `memory` an operand in memory.
+//!
+//! ```
+//! push_instruction(&mut out, 0x10000, &[0x8B, 0x45, 0xF4])?; // mov -0xc(%ebp),%eax
+//! push_instruction(&mut out, 0x10000, &[0x75, 0x20])?; // jne 00010022
+//! push_instruction(&mut out, 0x10000, &[0xC3])?; // adds nothing, since a return isn't permitted
+//! ```
+#![tactic(auto)]
+
+mod memory;
+mod naming;
+mod parts;
+mod row;
+mod rows;
+mod writing;
+
+pub use naming::push_instruction;
