@@ -10,12 +10,15 @@
 //! | `judge`, `faults` | `files` |
 //! | `lines`, `replay` | `texts` |
 //! | `refusals` | `refusals` |
+//!
+//! `names` is no job: it names the instructions of a file of code, by which `tools/try-names` tries `nc_names`.
 #![tactic(auto)]
 
 mod digest;
 mod files;
 mod jit;
 mod modules;
+mod names;
 mod pieces;
 mod plan;
 mod random;
@@ -28,12 +31,13 @@ use digest::Digest;
 use nc_command::arguments;
 use pieces::Pieces;
 use std::alloc::AllocError;
+use std::io::Write;
 use std::process::ExitCode;
 use std::rt::{Env, Files};
 use std::sync::Wait;
 use std::thread::Threads;
 use std::{env, fs, io};
-use words::{Ask, Job, asked};
+use words::{Ask, Job, Work, asked};
 
 /// Does a job.
 fn do_job<R: Threads + Wait + Sync + AllocGlobal>(
@@ -70,20 +74,35 @@ fn print_job<R: Threads + Wait + Sync + AllocGlobal + Print>(
     println!(rt; "{name} {value:016x}")
 }
 
-/// Does the job that is asked for, or each job.
+/// Does each job.
+fn do_each<R: Threads + Wait + Sync + AllocGlobal + Print>(
+    rt: &R,
+    pieces: &Pieces,
+    ask: &Ask<'_>,
+) -> io::Result<()> {
+    for job in words::JOBS {
+        print_job(rt, pieces, job, ask)?;
+    }
+    Ok(())
+}
+
+/// Prints the names of the instructions of code.
+fn print_names<R: AllocGlobal + Print>(rt: &R, at: u32, code: &[u8]) -> io::Result<()> {
+    let text = names::lines_of(rt.alloc(), at, code)?;
+    io::writer(rt).write_all(&text)
+}
+
+/// Does the work that is asked for.
 fn do_asked<R: Threads + Wait + Sync + AllocGlobal + Print + Files>(
     rt: &R,
     ask: &Ask<'_>,
 ) -> io::Result<()> {
     let file = fs::read(rt, ask.file)?;
-    let pieces = Pieces::new(rt.alloc(), file)?;
-    if let Some(job) = ask.job {
-        return print_job(rt, &pieces, job, ask);
+    match ask.work {
+        Work::Names => print_names(rt, ask.seed, &file),
+        Work::One(job) => print_job(rt, &Pieces::new(rt.alloc(), file)?, job, ask),
+        Work::Each => do_each(rt, &Pieces::new(rt.alloc(), file)?, ask),
     }
-    for job in words::JOBS {
-        print_job(rt, &pieces, job, ask)?;
-    }
-    Ok(())
 }
 
 /// Prints a fault of the command line, or help, and returns the exit status.

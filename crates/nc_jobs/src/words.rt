@@ -43,10 +43,22 @@ impl Job {
     }
 }
 
-/// What is asked for: a job, or each; the seed of its input; how much there is of it; and the file of pieces.
+/// What is done.
+#[derive(Clone, Copy, Drop)]
+pub enum Work {
+    /// Each job.
+    Each,
+    /// One job.
+    One(Job),
+    /// The instructions of a file of code are named.
+    Names,
+}
+
+/// What is asked for; the seed of its input, or the address of the code; how much there is of it; and the file of pieces, or of
+/// code.
 #[derive(Clone, Copy, Drop)]
 pub struct Ask<'a> {
-    pub job: Option<Job>,
+    pub work: Work,
     pub seed: u32,
     pub count: u32,
     pub file: &'a str,
@@ -71,7 +83,7 @@ macro_rules! word {
 
 /// The parser of a job's name.
 const JOB: ValueParser<'static> = ValueParser::Names(&[
-    "jit", "load", "judge", "faults", "lines", "refusals", "replay", "each",
+    "jit", "load", "judge", "faults", "lines", "refusals", "replay", "each", "names",
 ]);
 
 /// The program.
@@ -81,10 +93,10 @@ static PROGRAM: Program = Program {
         name: "nc_jobs",
         about: "Do a job on an input that a seed makes, and print a digest of its results",
         words: &[
-            word!("JOB", JOB, "Name of the job, or each"),
-            word!("SEED", ValueParser::Signed(0, u32::MAX as i64), "Seed of the input"),
+            word!("JOB", JOB, "Name of the job, or each; or names, which names the instructions of code"),
+            word!("SEED", ValueParser::Signed(0, u32::MAX as i64), "Seed of the input, or address of the code"),
             word!("COUNT", ValueParser::Signed(1, u32::MAX as i64), "Number of turns, files or texts"),
-            word!("FILE", ValueParser::String, "File of pieces of compiled code"),
+            word!("FILE", ValueParser::String, "File of pieces of compiled code, or of the code to be named"),
         ],
     },
     subcommands: &[],
@@ -95,7 +107,7 @@ pub fn matches<'a>(alloc: Global, words: &'a [&'a str]) -> Result<ArgMatches<'a>
     nc_command::matches(alloc, &PROGRAM, words)
 }
 
-/// The job of this name, or none for each.
+/// The job of this name, if there is one.
 fn named(name: &str) -> Option<Job> {
     match name {
         "jit" => Some(Job::Jit),
@@ -109,10 +121,19 @@ fn named(name: &str) -> Option<Job> {
     }
 }
 
+/// The work of this name.
+fn work_named(name: &str) -> Work {
+    match named(name) {
+        Some(job) => Work::One(job),
+        None if name == "names" => Work::Names,
+        None => Work::Each,
+    }
+}
+
 /// What is asked for.
 pub fn asked<'a>(found: &ArgMatches<'a>) -> Ask<'a> {
     Ask {
-        job: named(found.get_str("JOB").unwrap_or("")),
+        work: work_named(found.get_str("JOB").unwrap_or("")),
         seed: found.get_one::<u32>("SEED").unwrap_or(0),
         count: found.get_one::<u32>("COUNT").unwrap_or(1),
         file: found.get_str("FILE").unwrap_or(""),
