@@ -9,8 +9,6 @@ use nc_report::{ReportFault, Source, push_file_object, report};
 use std::alloc::{AllocError, Global};
 use std::io::{Input, Write};
 use std::rt::Files;
-use std::sync::Wait;
-use std::thread::Threads;
 
 /// Why a file isn't judged, or the report on it isn't complete.
 #[derive(Clone, Copy, Drop)]
@@ -24,45 +22,31 @@ pub enum Unjudged {
 }
 
 /// Judges code and writes the report on it. Returns whether it was refused.
-fn judge_part<R: Threads + Wait + Sync + AllocGlobal, W: Write>(
-    rt: &R,
+fn judge_part<W: Write>(
+    alloc: Global,
     ask: &CheckAsk<'_>,
     part: Part,
     writer: &mut W,
 ) -> Result<bool, Unjudged> {
     let Part { base, source } = part;
-    let mut sources = Vec::new(rt.alloc());
-    match sources.push(source) {
-        Ok(()) => {}
-        Err(_) => return Err(Unjudged::OutOfMemory),
-    }
-    match report(
-        rt,
-        rt.alloc(),
-        sources,
-        base,
-        ask.bundles,
-        1,
-        ask.detail,
-        writer,
-    ) {
-        Ok(refused) => Ok(refused > 0),
+    match report(alloc, source, base, ask.bundles, ask.detail, writer) {
+        Ok(refused) => Ok(refused),
         Err(ReportFault::WriteFailed) => Err(Unjudged::WriteFailed),
-        // the numbers are in range, since the command line was parsed
+        // the number of bundles is in range, since the command line was parsed
         Err(_) => Err(Unjudged::OutOfMemory),
     }
 }
 
 /// Judges the parts of an ELF file, in order. Returns whether any of them was refused.
-fn judge_parts<R: Threads + Wait + Sync + AllocGlobal, W: Write>(
-    rt: &R,
+fn judge_parts<W: Write>(
+    alloc: Global,
     ask: &CheckAsk<'_>,
     parts: Vec<Part>,
     writer: &mut W,
 ) -> Result<bool, Unjudged> {
     let mut is_refused = false;
     for part in parts {
-        match judge_part(rt, ask, part, writer) {
+        match judge_part(alloc, ask, part, writer) {
             Ok(more) => is_refused |= more,
             Err(unjudged) => return Err(unjudged),
         }
@@ -122,23 +106,23 @@ fn refuse<W: Write>(
 }
 
 /// Judges the code of an ELF file, and writes the report on it. Returns whether any of it was refused.
-fn judge_elf<R: Threads + Wait + Sync + AllocGlobal, W: Write>(
-    rt: &R,
+fn judge_elf<W: Write>(
+    alloc: Global,
     ask: &CheckAsk<'_>,
     file: &str,
     source: &Source,
     writer: &mut W,
 ) -> Result<bool, Unjudged> {
-    match parts_of(rt.alloc(), source, ask.detail) {
-        Ok(parts) => judge_parts(rt, ask, parts, writer),
+    match parts_of(alloc, source, ask.detail) {
+        Ok(parts) => judge_parts(alloc, ask, parts, writer),
         Err(ElfFault::OutOfMemory) => Err(Unjudged::OutOfMemory),
-        Err(fault) => refuse(rt.alloc(), ask, file, fault, writer),
+        Err(fault) => refuse(alloc, ask, file, fault, writer),
     }
 }
 
 /// Judges the code of a file, and writes the report on it. Returns whether any of it was refused.
-fn judge_source<R: Threads + Wait + Sync + AllocGlobal, W: Write>(
-    rt: &R,
+fn judge_source<W: Write>(
+    alloc: Global,
     ask: &CheckAsk<'_>,
     file: &str,
     source: Source,
@@ -146,21 +130,21 @@ fn judge_source<R: Threads + Wait + Sync + AllocGlobal, W: Write>(
 ) -> Result<bool, Unjudged> {
     if ask.raw || !is_elf(source.code.as_slice()) {
         let base = ask.base;
-        judge_part(rt, ask, Part { base, source }, writer)
+        judge_part(alloc, ask, Part { base, source }, writer)
     } else {
-        judge_elf(rt, ask, file, &source, writer)
+        judge_elf(alloc, ask, file, &source, writer)
     }
 }
 
 /// Reads a file, judges its code, and writes the report on it. Returns whether any of it was refused.
-pub fn judge_file<R: Threads + Wait + Sync + AllocGlobal + Input + Files, W: Write>(
+pub fn judge_file<R: AllocGlobal + Input + Files, W: Write>(
     rt: &R,
     ask: &CheckAsk<'_>,
     file: &str,
     writer: &mut W,
 ) -> Result<bool, Unjudged> {
     match read_file(rt, file) {
-        Ok(source) => judge_source(rt, ask, file, source, writer),
+        Ok(source) => judge_source(rt.alloc(), ask, file, source, writer),
         Err(Unread::OutOfMemory) => Err(Unjudged::OutOfMemory),
         Err(unread) => Err(Unjudged::Unread(unread)),
     }

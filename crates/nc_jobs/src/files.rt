@@ -7,28 +7,24 @@ use nc_decode::MAX_BUNDLES;
 use nc_output::Detail;
 use nc_report::{Labels, Source, report};
 use std::alloc::{AllocError, Global};
-use std::sync::Wait;
-use std::thread::Threads;
 
 /// The address of each file's code.
 const BASE: u32 = 0x100_0000;
 
 /// Writes the report on a file to the digest.
-fn judge<T: Threads + Wait + Sync>(
-    rt: &T,
+fn judge(
     alloc: Global,
     digest: &mut Digest,
     code: Vec<u8>,
     detail: Detail,
 ) -> Result<(), AllocError> {
-    let mut sources = Vec::new(alloc);
-    sources.push(Source {
+    let source = Source {
         name: Vec::from_slice(alloc, b"file")?,
         code,
         labels: Labels::none(alloc),
-    })?;
-    match report(rt, alloc, sources, BASE, MAX_BUNDLES, 1, detail, digest) {
-        Ok(refused) => digest.add(refused as u64),
+    };
+    match report(alloc, source, BASE, MAX_BUNDLES, detail, digest) {
+        Ok(refused) => digest.add(u64::from(refused)),
         Err(_) => digest.add(7),
     }
     Ok(())
@@ -46,8 +42,7 @@ fn spoil(code: &mut [u8], random: &mut Random, count: u32) {
 }
 
 /// Judges this many files of 64 KB to 2 MB, each sixteenth of them with a few bytes spoiled.
-pub fn run_judge<T: Threads + Wait + Sync>(
-    rt: &T,
+pub fn run_judge(
     alloc: Global,
     digest: &mut Digest,
     pieces: &Pieces,
@@ -61,7 +56,7 @@ pub fn run_judge<T: Threads + Wait + Sync>(
         if i % 16 == 15 {
             spoil(&mut code, &mut random, 3);
         }
-        judge(rt, alloc, digest, code, Detail::Usual)?;
+        judge(alloc, digest, code, Detail::Usual)?;
     }
     Ok(())
 }
@@ -91,8 +86,7 @@ fn plain(
 
 /// Asks for all faults of this many files: three of four are of 512 KB with some hundred faults, each fourth is 128 KB from a
 /// plain compiler.
-pub fn run_faults<T: Threads + Wait + Sync>(
-    rt: &T,
+pub fn run_faults(
     alloc: Global,
     digest: &mut Digest,
     pieces: &Pieces,
@@ -108,7 +102,7 @@ pub fn run_faults<T: Threads + Wait + Sync>(
             spoil(&mut code, &mut random, 100);
             code
         };
-        judge(rt, alloc, digest, code, Detail::All)?;
+        judge(alloc, digest, code, Detail::All)?;
     }
     Ok(())
 }

@@ -52,8 +52,8 @@ fn do_job<R: Threads + Wait + Sync + AllocGlobal>(
     match job {
         Job::Jit => jit::run_jit(alloc, digest, pieces, seed, count),
         Job::Load => modules::run_load(alloc, digest, pieces, seed, count),
-        Job::Judge => files::run_judge(rt, alloc, digest, pieces, seed, count),
-        Job::Faults => files::run_faults(rt, alloc, digest, pieces, seed, count),
+        Job::Judge => files::run_judge(alloc, digest, pieces, seed, count),
+        Job::Faults => files::run_faults(alloc, digest, pieces, seed, count),
         Job::Lines => texts::run_lines(rt, alloc, digest, pieces, seed, count),
         Job::Refusals => refusals::run_refusals(rt, alloc, digest, pieces, seed, count),
         Job::Replay => texts::run_replay(alloc, digest, pieces, seed, count),

@@ -1,10 +1,9 @@
 -- Text that is added part after part.
-use Rattle.std.proofs.Common.{◌≡◌, ℕ, ◌+◌, ◌<◌, ◌≤◌, length, take, get_or, set, arith, List, ◌∷◌, [], ◌++◌, sym, ap, ◌∙◌, append_assoc, append-nil}
+use Rattle.std.proofs.Common.{◌≡◌, ℕ, ◌+◌, ◌<◌, ◌≤◌, length, take, get_or, List, ◌∷◌, [], ◌++◌, sym, ap, ◌∙◌, append_assoc, append-nil}
 use Rattle.std.specs.Prelude.{codes}
 use Rattle.std.specs.List.{flat_map}
-use Rattle.std.proofs.lemmas.List.{take_all, take_more, take_more_set, take-set-le, length-set}
+use Rattle.std.proofs.lemmas.List.{take_all, take_more}
 use Rattle.nc_vet.proofs.Offered.{flat_map-append}
-use Rattle.nc_report.specs.Report.{detail_line}
 
 -- two parts were added
 pub two_added : (o a b n1 n2 : List ℕ) → n1 ≡ o ++ a → n2 ≡ n1 ++ b → n2 ≡ o ++ (a ++ b)
@@ -21,29 +20,11 @@ pub accepted_line : (o name bytes count : List ℕ)
     ≡ o ++ (name ++ (codes ": " ++ ((codes "ok, " ++ (bytes ++ (codes " bytes, " ++ (count ++ codes " instructions")))) ++ 10 ∷ [])))
 accepted_line o name bytes count = simp (append_assoc, append-nil)
 
--- the line that names an address by a label, part after part
-pub label_parts : (o digits name offset : List ℕ)
-    → ((o ++ (codes "  " ++ (digits ++ codes " <"))) ++ name) ++ (offset ++ codes ">\n")
-    ≡ o ++ (codes "  " ++ ((digits ++ (codes " <" ++ (name ++ (offset ++ codes ">")))) ++ 10 ∷ []))
-label_parts o digits name offset = simp append_assoc
-
 -- the line on an address outside, part after part
 pub row_parts : (o digits times words : List ℕ)
     → o ++ (codes "  -> " ++ (digits ++ (codes ": " ++ (times ++ (words ++ 10 ∷ [])))))
     ≡ o ++ (codes "  -> " ++ ((digits ++ (codes ": " ++ (times ++ words))) ++ 10 ∷ []))
 row_parts o digits times words = simp append_assoc
-
--- the line on a target without the address of an instruction, part after part
-pub target_parts : (o digits words : List ℕ)
-    → o ++ (codes "  -> " ++ (digits ++ (codes ": " ++ (words ++ 10 ∷ []))))
-    ≡ o ++ detail_line (codes "-> " ++ (digits ++ (codes ": " ++ (words ++ []))))
-target_parts o digits words = simp (append_assoc, append-nil)
-
--- the line with one
-pub named_parts : (o digits words named : List ℕ)
-    → o ++ (codes "  -> " ++ (digits ++ (codes ": " ++ (words ++ (named ++ 10 ∷ [])))))
-    ≡ o ++ detail_line (codes "-> " ++ (digits ++ (codes ": " ++ (words ++ named))))
-named_parts o digits words named = simp append_assoc
 
 -- what an element is written as was added to what those before it are
 pub one_written : {X : Type 0} (f : X → List ℕ) (xs : List X) (old now next : List ℕ) (i : ℕ) (d : X) → i < length xs
@@ -60,45 +41,3 @@ one_written f xs old now next i d lt e n =
 pub all_written : (f : ℕ → List ℕ) (xs old now : List ℕ) (i : ℕ) → length xs ≤ i → now ≡ old ++ flat_map f (take i xs)
     → now ≡ old ++ flat_map f xs
 all_written f xs old now i le e = e ∙ ap (λ (z : List ℕ). old ++ flat_map f z) (take_all i xs le)
-
--- three bytes were put at a place
-pub three_put : (text : List ℕ) (at a b c : ℕ) → at + 3 ≤ length text
-    → take (at + 3) (set (set (set text at a) (at + 1) b) (at + 2) c) ≡ take at text ++ a ∷ b ∷ c ∷ []
-three_put text at a b c room =
-    let one = set text at a in
-    let two = set one (at + 1) b in
-    let len-one : length one ≡ length text = length-set text at a in
-    let len-two : length two ≡ length text = length-set one (at + 1) b ∙ len-one in
-    ap (λ (n : ℕ). take n (set two (at + 2) c)) {x = at + 3} {y = (at + 2) + 1} (omega arith)
-    ∙ take_more_set two (at + 2) c (omega (arith, len-two, room))
-    ∙ ap (λ (n : ℕ). take n two ++ c ∷ []) {x = at + 2} {y = (at + 1) + 1} (omega arith)
-    ∙ ap (λ (z : List ℕ). z ++ c ∷ []) (take_more_set one (at + 1) b (omega (arith, len-one, room))
-    ∙ ap (λ (z : List ℕ). z ++ b ∷ []) (take_more_set text at a (omega (arith, room))))
-    ∙ append_assoc (take at text ++ a ∷ []) (b ∷ []) (c ∷ [])
-    ∙ append_assoc (take at text) (a ∷ []) (b ∷ c ∷ [])
-
--- a byte was put, and a bar after it
-pub barred_put : (text before : List ℕ) (at : ℕ) (byte : List ℕ) → at + 5 ≤ length text → take (at + 3) text ≡ before ++ byte
-    → take (at + 5) (set (set text (at + 3) 32) (at + 4) 124) ≡ before ++ (byte ++ codes " |")
-barred_put text before at byte room e =
-    let one = set text (at + 3) 32 in
-    let len : length one ≡ length text = length-set text (at + 3) 32 in
-    ap (λ (n : ℕ). take n (set one (at + 4) 124)) {x = at + 5} {y = (at + 4) + 1} (omega arith)
-    ∙ take_more_set one (at + 4) 124 (omega (arith, len, room))
-    ∙ ap (λ (n : ℕ). take n one ++ 124 ∷ []) {x = at + 4} {y = (at + 3) + 1} (omega arith)
-    ∙ ap (λ (z : List ℕ). z ++ 124 ∷ []) (take_more_set text (at + 3) 32 (omega (arith, room)) ∙ ap (λ (z : List ℕ). z ++ 32 ∷ []) e)
-    ∙ append_assoc (before ++ byte) (32 ∷ []) (124 ∷ [])
-    ∙ append_assoc before byte (32 ∷ 124 ∷ [])
-
--- a bar was put after a byte, and doesn't count
-pub unbarred_put : (text before : List ℕ) (at : ℕ) (byte : List ℕ) → take (at + 3) text ≡ before ++ byte
-    → take (at + 3) (set (set text (at + 3) 32) (at + 4) 124) ≡ before ++ (byte ++ [])
-unbarred_put text before at byte e =
-    take-set-le (at + 3) (set text (at + 3) 32) (at + 4) 124 (omega arith)
-    ∙ take-set-le (at + 3) text (at + 3) 32 (omega arith)
-    ∙ e ∙ ap (λ (z : List ℕ). before ++ z) (sym (append-nil byte))
-
--- the first bytes of some text were added
-pub text_added : (old new text part : List ℕ) (m n : ℕ) → take n text ≡ part → m ≡ n → new ≡ old ++ take m text → new ≡ old ++ part
-text_added old new text part m n is same e =
-    e ∙ ap (λ (k : ℕ). old ++ take k text) same ∙ ap (λ (z : List ℕ). old ++ z) is

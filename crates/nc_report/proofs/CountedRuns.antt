@@ -8,7 +8,7 @@ use Rattle.std.proofs.lemmas.List.Sorted.{IsNonDecreasingBy-drop}
 use Rattle.nc_vet.proofs.Offered.{flat_map-append}
 use Rattle.nc_vet.specs.Chunk.{Piece, code_of, AreSpelled}
 use Rattle.nc_report.specs.Outside.{OutsideRow, AscendFrom, all_sent, row_words, ListsOutside}
-use Rattle.nc_report.specs.Report.{detail_line}
+use Rattle.nc_report.specs.Shown.{detail_line}
 use Rattle.nc_report.specs.machinery.Found.{AddsLines}
 use Rattle.nc_report.specs.machinery.Runs.{BeginsWithRun, IsSent, HasCounted, AddsCounts, numbers_of}
 

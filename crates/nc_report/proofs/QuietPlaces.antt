@@ -10,14 +10,13 @@ use Rattle.nc_decode.specs.Transfers.{is_direct, may_transfer, target}
 use Rattle.nc_decode.proofs.Offered.{exact, direct_begins, spells_some, true_or_false}
 use Rattle.nc_vet.specs.declared.fault.VetFault.{VetFault}
 use Rattle.nc_vet.specs.declared.fault.VetFault.TheVariants as vet
-use Rattle.nc_report.specs.declared.labels.Label.{Label}
 use Rattle.nc_report.specs.declared.spot.Spot.{Spot}
 use Rattle.nc_report.specs.declared.spot.Spot.TheVariants.{Inside, Skipped, Entry, Second, NotPermitted, Crosses, Bare}
-use Rattle.nc_report.specs.Further.{may_go, goes_astray, fault_by, fault_at, lines_on, lines_at, lines_to}
+use Rattle.nc_report.specs.Further.{may_go, goes_astray, fault_by, fault_at, listed, others_at, others_to}
 use Rattle.nc_report.specs.Totals.{counts_to}
 use Rattle.nc_report.specs.machinery.Seen.{is_quiet, counted}
 use Rattle.nc_report.proofs.CountedFaults.{counts_more}
-use Rattle.nc_report.proofs.FurtherLines.{lines_more}
+use Rattle.nc_report.proofs.FurtherTexts.{others_more}
 
 -- what fails
 not_true : (b : Bool) → not b ≡ true → b ≡ false
@@ -73,37 +72,35 @@ quiet_none base limit code spots k q =
 abbrev pub AreFaultless : ℕ → ℕ → List ℕ → List Spot → ℕ → ℕ → Type 0
 AreFaultless base limit code spots k next = (j : ℕ) → k ≤ j → j < next → fault_at base limit code spots j ≡ None
 
--- no lines, whatever the test says
-no_lines : (b : Bool) → cond {A = List (List ℕ)} b [] [] ≡ []
-no_lines true = refl
-no_lines false = refl
+-- none, whatever the test says
+no_others : (b : Bool) → cond {A = List VetFault} b [] [] ≡ []
+no_others true = refl
+no_others false = refl
 
--- a place without a fault has no lines
-none_at : (base limit : ℕ) (code : List ℕ) (labels : List Label) (spots : List Spot) (own k : ℕ) → fault_at base limit code spots k ≡ None
-    → lines_at base limit code labels spots own k ≡ []
-none_at base limit code labels spots own k e =
-    ap (λ (x : Option VetFault). cond (k == own) [] (lines_on base limit code labels spots k x)) e ∙ no_lines (k == own)
+-- a place without a fault has no other
+none_at : (base limit : ℕ) (code : List ℕ) (spots : List Spot) (own k : ℕ) → fault_at base limit code spots k ≡ None
+    → others_at base limit code spots own k ≡ []
+none_at base limit code spots own k e = ap (λ (x : Option VetFault). cond (k == own) [] (listed x)) e ∙ no_others (k == own)
 
--- the lines to a place, over `n` places without a fault
-lines_on_over : (base limit : ℕ) (code : List ℕ) (labels : List Label) (spots : List Spot) (own k n : ℕ)
-    → AreFaultless base limit code spots k (k + n)
-    → lines_to base limit code labels spots own (k + n) ≡ lines_to base limit code labels spots own k
-lines_on_over base limit code labels spots own k zero none = ap (lines_to base limit code labels spots own) {x = k + 0} {y = k} (omega arith)
-lines_on_over base limit code labels spots own k (suc n) none =
-    ap (lines_to base limit code labels spots own) {x = k + suc n} {y = (k + n) + 1} (omega arith)
-    ∙ lines_more base limit code labels spots own (k + n)
-    ∙ ap (λ (z : List (List ℕ)). lines_to base limit code labels spots own (k + n) ++ z)
-    (none_at base limit code labels spots own (k + n) (none (k + n) (omega arith) (omega arith)))
-    ∙ append-nil (lines_to base limit code labels spots own (k + n))
-    ∙ lines_on_over base limit code labels spots own k n (λ j low high. none j low (omega (arith, high)))
+-- the faults to a place, over `n` places without one
+others_on_over : (base limit : ℕ) (code : List ℕ) (spots : List Spot) (own k n : ℕ) → AreFaultless base limit code spots k (k + n)
+    → others_to base limit code spots own (k + n) ≡ others_to base limit code spots own k
+others_on_over base limit code spots own k zero none = ap (others_to base limit code spots own) {x = k + 0} {y = k} (omega arith)
+others_on_over base limit code spots own k (suc n) none =
+    ap (others_to base limit code spots own) {x = k + suc n} {y = (k + n) + 1} (omega arith)
+    ∙ others_more base limit code spots own (k + n)
+    ∙ ap (λ (z : List VetFault). others_to base limit code spots own (k + n) ++ z)
+    (none_at base limit code spots own (k + n) (none (k + n) (omega arith) (omega arith)))
+    ∙ append-nil (others_to base limit code spots own (k + n))
+    ∙ others_on_over base limit code spots own k n (λ j low high. none j low (omega (arith, high)))
 
--- places without a fault add no lines
-pub lines_over : (base limit : ℕ) (code : List ℕ) (labels : List Label) (spots : List Spot) (own k next : ℕ) → k ≤ next
+-- places without a fault add none
+pub others_over : (base limit : ℕ) (code : List ℕ) (spots : List Spot) (own k next : ℕ) → k ≤ next
     → AreFaultless base limit code spots k next
-    → lines_to base limit code labels spots own next ≡ lines_to base limit code labels spots own k
-lines_over base limit code labels spots own k next low none =
-    ap (lines_to base limit code labels spots own) {x = next} {y = k + (next - k)} (omega arith)
-    ∙ lines_on_over base limit code labels spots own k (next - k) (λ j a b. none j a (omega (arith, b, low)))
+    → others_to base limit code spots own next ≡ others_to base limit code spots own k
+others_over base limit code spots own k next low none =
+    ap (others_to base limit code spots own) {x = next} {y = k + (next - k)} (omega arith)
+    ∙ others_on_over base limit code spots own k (next - k) (λ j a b. none j a (omega (arith, b, low)))
 
 -- the counts to a place, over `n` places without a fault
 counts_on_over : (base limit : ℕ) (code : List ℕ) (spots : List Spot) (k n : ℕ) → AreFaultless base limit code spots k (k + n)

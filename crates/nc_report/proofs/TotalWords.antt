@@ -1,15 +1,11 @@
--- The last lines, put together.
-use Rattle.std.proofs.Common.{◌≡◌, ℕ, ◌*◌, ◌<◌, Bool, true, false, List, [], ◌∷◌, ◌++◌, if◌then◌else◌, refl, sym, ◌∙◌, ap}
-use Rattle.std.proofs.Common.{append_assoc, append-nil, Bor, ◌+◌, length, get_or, drop, map}
+-- The line of totals, put together.
+use Rattle.std.proofs.Common.{◌≡◌, ℕ, ◌<◌, Bool, true, false, List, [], ◌∷◌, ◌++◌, if◌then◌else◌, refl, sym, ◌∙◌, ap}
+use Rattle.std.proofs.Common.{append_assoc, Bor, ◌+◌, length, get_or, drop, map}
 use Rattle.std.proofs.lemmas.List.{drop_more}
-use Rattle.std.proofs.lemmas.Bool.{lt-ltb}
 use Rattle.std.specs.Prelude.{codes, not, ◌==◌, ◌||◌}
 use Rattle.std.specs.Fmt.{decimal}
-use Rattle.std.specs.List.{flat_map}
-use Rattle.nc_report.specs.declared.totals.Counts.{Counts}
-use Rattle.nc_report.specs.declared.words.TheConstants.{NOT_IN_BUNDLES}
-use Rattle.nc_report.specs.Report.{detail_line}
-use Rattle.nc_report.specs.Totals.{kinds_from, totals_line, adrift_lines}
+use Rattle.nc_report.specs.Shown.{detail_line}
+use Rattle.nc_report.specs.Totals.{kinds_from}
 use Rattle.nc_report.specs.machinery.Seen.{kind_words}
 
 -- one kind and the others, by whether its number is 0
@@ -49,29 +45,3 @@ kind_added old out new begun kinds all i d lt e added =
 pub totals_added : (old digits words kinds : List ℕ)
     → ((old ++ (codes "  " ++ (digits ++ words))) ++ kinds) ++ 10 ∷ [] ≡ old ++ detail_line (digits ++ (words ++ kinds))
 totals_added old digits words kinds = simp append_assoc
-
--- the parts of the line on code that isn't in bundles
-parts : (old inside bundles words : List ℕ)
-    → old ++ ((codes "  the code isn't in bundles: " ++ (inside ++ (codes " of " ++ bundles))) ++ (words ++ 10 ∷ []))
-    ≡ old ++ (detail_line (codes "the code isn't in bundles: " ++ (inside ++ (codes " of " ++ (bundles ++ words)))) ++ [])
-parts old inside bundles words = simp (append_assoc, append-nil)
-
--- the line on code that isn't in bundles was added
-pub adrift_added : (old out : List ℕ) (inside bundles : ℕ) → bundles < 2 * inside
-    → out ≡ old ++ ((codes "  the code isn't in bundles: " ++ (decimal inside ++ (codes " of " ++ decimal bundles))) ++ (NOT_IN_BUNDLES.now ++ 10 ∷ []))
-    → out ≡ old ++ flat_map detail_line (adrift_lines inside bundles)
-adrift_added old out inside bundles lt e =
-    let line = codes "the code isn't in bundles: " ++ (decimal inside ++ (codes " of " ++ (decimal bundles ++ NOT_IN_BUNDLES.now))) in
-    e
-    ∙ parts old (decimal inside) (decimal bundles) NOT_IN_BUNDLES.now
-    ∙ ap (λ (b : Bool). old ++ flat_map detail_line (if b then line ∷ [] else [])) (sym (lt-ltb bundles (2 * inside) lt))
-
--- all of the last lines were added
-pub last_added : (old mid out : List ℕ) (counts given : Counts) (inside is bundles : ℕ) → mid ≡ old ++ detail_line (totals_line given)
-    → given ≡ counts → inside ≡ is → out ≡ mid ++ flat_map detail_line (adrift_lines inside bundles)
-    → out ≡ old ++ flat_map detail_line (totals_line counts ∷ adrift_lines is bundles)
-last_added old mid out counts given inside is bundles first same here e =
-    e ∙ ap (λ (z : List ℕ). z ++ flat_map detail_line (adrift_lines inside bundles)) first
-    ∙ ap (λ (x : Counts). (old ++ detail_line (totals_line x)) ++ flat_map detail_line (adrift_lines inside bundles)) same
-    ∙ ap (λ (n : ℕ). (old ++ detail_line (totals_line counts)) ++ flat_map detail_line (adrift_lines n bundles)) here
-    ∙ append_assoc old (detail_line (totals_line counts)) (flat_map detail_line (adrift_lines is bundles))

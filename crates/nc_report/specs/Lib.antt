@@ -1,8 +1,6 @@
 pub mod machinery
 pub mod Labels
-pub mod Listing
-pub mod Advice
-pub mod Targets
+pub mod Shown
 pub mod Outside
 pub mod Objects
 pub mod Lengths
@@ -10,4 +8,3 @@ pub mod Reading
 pub mod Further
 pub mod Totals
 pub mod Report
-pub mod Lines

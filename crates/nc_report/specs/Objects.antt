@@ -1,13 +1,10 @@
 -- Verdicts as JSON objects (RFC 8259), each on a line of its own.
-use Rattle.std.specs.Prelude.{ℕ, ◌-◌, List, [], ◌∷◌, ◌++◌, ◌==◌, ◌||◌, if◌then◌else◌, nat_le, nat_lt, codes, Option, Some, None}
+use Rattle.std.specs.Prelude.{ℕ, List, [], ◌∷◌, ◌++◌, ◌==◌, ◌||◌, if◌then◌else◌, nat_le, nat_lt, codes, Option, Some, None}
 use Rattle.std.specs.List.{flat_map}
 use Rattle.std.specs.Fmt.{decimal}
 use Rattle.hex.specs.Hex.{encode_lower}
 use Rattle.nc_vet.specs.declared.fault.VetFault.{VetFault}
-use Rattle.nc_output.specs.Verdicts.{address_digits, fault_name}
-use Rattle.nc_report.specs.declared.labels.Label.{Label}
-use Rattle.nc_report.specs.Labels.{label_at, offset_words}
-use Rattle.nc_report.specs.Advice.{words_about}
+use Rattle.nc_output.specs.Verdicts.{address_digits, fault_name, place_of}
 
 -- a byte in a string: after a backslash if it is a quotation mark or a backslash; as `\u00` and two digits if it is below 20
 -- or at least 7F
@@ -31,17 +28,10 @@ string_member name value = codes "," ++ (string_of name ++ (codes ":" ++ string_
 abbrev pub number_member : List ℕ → ℕ → List ℕ
 number_member name value = codes "," ++ (string_of name ++ (codes ":" ++ decimal value))
 
--- the member that names an address by a label, if it has one: the label's name and the offset
-abbrev pub symbol_member : Option Label → ℕ → List ℕ
-symbol_member None at = []
-symbol_member (Some label) at = string_member (codes "symbol") (label.name.items ++ offset_words (at - label.address))
-
--- the members for a fault's address, if it has one, the name of the address, if that has a label, and what the fault means
-abbrev pub place_members : ℕ → List ℕ → List Label → VetFault → Option ℕ → List ℕ
-place_members base code labels fault None = string_member (codes "meaning") (words_about code fault 0)
-place_members base code labels fault (Some at) =
-    string_member (codes "at") (address_digits at) ++ (symbol_member (label_at labels at) at
-    ++ string_member (codes "meaning") (words_about code fault (at - base)))
+-- the member for an address, if there is one
+abbrev pub at_member : Option ℕ → List ℕ
+at_member None = []
+at_member (Some at) = string_member (codes "at") (address_digits at)
 
 -- the object for a source that is accepted
 abbrev pub accepted_object : ℕ → List ℕ → ℕ → ℕ → List ℕ
@@ -49,11 +39,12 @@ accepted_object base name bytes instructions =
     file_member name ++ (string_member (codes "address") (address_digits base) ++ (string_member (codes "verdict") (codes "ok")
     ++ (number_member (codes "bytes") bytes ++ (number_member (codes "instructions") instructions ++ codes "}"))))
 
--- the object for a source that is refused, for a fault that has this address or none
-abbrev pub refused_object : ℕ → List ℕ → List ℕ → List Label → VetFault → Option ℕ → List ℕ
-refused_object base name code labels fault at =
+-- the first members of the object for a source that is refused: its name and address, the verdict, the fault, and the fault's
+-- address if it has one
+abbrev pub refused_members : ℕ → List ℕ → VetFault → List ℕ
+refused_members base name fault =
     file_member name ++ (string_member (codes "address") (address_digits base) ++ (string_member (codes "verdict") (codes "refused")
-    ++ (string_member (codes "fault") (fault_name fault) ++ (place_members base code labels fault at ++ codes "}"))))
+    ++ (string_member (codes "fault") (fault_name fault) ++ at_member (place_of fault))))
 
 -- the object for a file that is refused before any of it is judged: its name, the fault, and what the fault means
 abbrev pub file_object : List ℕ → List ℕ → List ℕ → List ℕ

@@ -1,16 +1,13 @@
--- The last lines about a refused chunk: the number of faults of each kind that its reading finds, and whether the code is in
--- bundles at all.
-use Rattle.std.specs.Prelude.{ℕ, ◌+◌, ◌*◌, ◌/◌, Bool, true, false, not, ◌==◌, nat_lt, List, [], ◌∷◌, ◌++◌, length, codes, get_or}
+-- The number of faults of each kind that the reading of a refused chunk finds, and the line about these numbers.
+use Rattle.std.specs.Prelude.{ℕ, ◌+◌, Bool, true, false, ◌==◌, List, [], ◌∷◌, ◌++◌, codes}
 use Rattle.std.specs.Prelude.{Option, Some, if◌then◌else◌}
 use Rattle.std.specs.List.{count_by, range_with_len}
 use Rattle.std.specs.Fmt.{decimal}
 use Rattle.nc_vet.specs.declared.fault.VetFault.{VetFault}
 use Rattle.nc_vet.specs.declared.fault.VetFault.TheVariants.{NotPermitted, Crosses, Bare, BadTarget}
 use Rattle.nc_report.specs.declared.spot.Spot.{Spot}
-use Rattle.nc_report.specs.declared.spot.Spot.TheVariants.{Inside}
 use Rattle.nc_report.specs.declared.totals.Counts.{Counts}
-use Rattle.nc_report.specs.declared.words.TheConstants.{NOT_IN_BUNDLES}
-use Rattle.nc_report.specs.Further.{is_begun, fault_at}
+use Rattle.nc_report.specs.Further.{fault_at}
 
 -- tests of a fault's kind, one for each kind that is counted
 abbrev pub is_crosses : Option VetFault → Bool
@@ -59,20 +56,3 @@ totals_line counts =
     decimal (total counts) ++ ((if total counts == 1 then codes " fault: " else codes " faults: ")
     ++ kinds_from false ((counts.crosses, codes "Crosses") ∷ (counts.not_permitted, codes "NotPermitted")
     ∷ (counts.bare, codes "Bare") ∷ (counts.bad_target, codes "BadTarget") ∷ []))
-
--- the number of bundles among the first `count` that begin inside an instruction
-abbrev pub starts_inside : List Spot → ℕ → ℕ
-starts_inside spots count = count_by (λ n. not (is_begun (get_or spots (32 * n) Inside))) (range_with_len 0 count)
-
--- the line that says that the code isn't in bundles, if more than half of them begin inside an instruction
-abbrev pub adrift_lines : ℕ → ℕ → List (List ℕ)
-adrift_lines inside bundles =
-    if nat_lt bundles (2 * inside) then
-    (codes "the code isn't in bundles: " ++ (decimal inside ++ (codes " of " ++ (decimal bundles ++ NOT_IN_BUNDLES.now)))) ∷ []
-    else []
-
--- the last lines about a refused chunk: its totals, and whether the code is in bundles
-abbrev pub last_lines : ℕ → ℕ → List ℕ → List Spot → List (List ℕ)
-last_lines base limit code spots =
-    totals_line (counts_to base limit code spots (length code))
-    ∷ adrift_lines (starts_inside spots (length spots / 32)) (length spots / 32)

@@ -1,7 +1,7 @@
--- Machinery of the proofs, cited by no public contract: findings before they are written, and how much of them was written.
+-- Machinery of the proofs, cited by no public contract: what was read, added and written so far.
+pub mod Added
 pub mod Found
 pub mod Counts
-pub mod Aims
 pub mod Runs
 pub mod Seen
 pub mod Texts

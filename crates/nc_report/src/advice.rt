@@ -1,8 +1,6 @@
 //! The kinds of refused bytes, and what a fault means.
 
-ghost use Rattle.std.specs.Prelude.{◌≡◌, ◌≤◌, length, slice_index, take, nat_le, nat_lt, ◌==◌, ◌&&◌, ◌||◌};
-ghost use Rattle.std.specs.List.{list_all};
-ghost use Rattle.nc_report.specs.Advice.{kind_in, key_of, is_cut_prefix, meaning_of, is_elf, is_archive, is_of_text, is_text, words_about};
+ghost use Rattle.std.specs.Prelude.{◌≤◌, length};
 
 use crate::kind::Kind;
 use crate::words::*;
@@ -167,24 +165,18 @@ pub(crate) static ROWS: [Row; 124] = [
 ];
 
 /// The byte at `k`, or 0 after the last.
-fn byte_at(bytes: &[u8], k: usize) -> u8
-    ensures { result ≡ slice_index bytes.now k }
-{
+fn byte_at(bytes: &[u8], k: usize) -> u8 {
     if k < bytes.len() { bytes[k] } else { 0 }
 }
 
 /// The first three bytes as one big-endian number; a missing byte counts as 0.
-fn key_of(bytes: &[u8]) -> u32
-    ensures { result ≡ key_of bytes.now }
-{
+fn key_of(bytes: &[u8]) -> u32 {
     (u32::from(byte_at(bytes, 0)) * 256 + u32::from(byte_at(bytes, 1))) * 256
         + u32::from(byte_at(bytes, 2))
 }
 
 /// The kind of bytes with this key, by these rows.
-fn kind_in(rows: &[Row], key: u32) -> Kind
-    ensures { result ≡ kind_in rows.now key }
-{
+fn kind_in(rows: &[Row], key: u32) -> Kind {
     for row in rows {
         if key & row.mask == row.key {
             return row.kind;
@@ -194,16 +186,12 @@ fn kind_in(rows: &[Row], key: u32) -> Kind
 }
 
 /// A prefix is the last byte of its bundle, cut off from its instruction.
-fn is_cut_prefix(at: u32, byte: u8) -> bool
-    ensures { result ≡ is_cut_prefix at byte }
-{
+fn is_cut_prefix(at: u32, byte: u8) -> bool {
     at % BUNDLE == 31 && (byte == 0xF0 || byte == 0xF2 || byte == 0xF3)
 }
 
 /// What a fault means; the bytes are those from its place on, or all of the code if it has no place.
-fn meaning(fault: VetFault, bytes: &[u8]) -> &'static [u8]
-    ensures { result.now ≡ meaning_of fault bytes.now }
-{
+fn meaning(fault: VetFault, bytes: &[u8]) -> &'static [u8] {
     match fault {
         VetFault::BadBase => BAD_BASE,
         VetFault::BadLength if bytes.len() == 0 => EMPTY_FILE,
@@ -219,51 +207,37 @@ fn meaning(fault: VetFault, bytes: &[u8]) -> &'static [u8]
 }
 
 /// The code begins as an ELF file does.
-fn is_elf(code: &[u8]) -> bool
-    ensures { result ≡ is_elf code.now }
-{
+fn is_elf(code: &[u8]) -> bool {
     key_of(code) == 0x7F_45_4C && byte_at(code, 3) == 0x46
 }
 
 /// The code begins as an archive made by `ar` does.
-fn is_archive(code: &[u8]) -> bool
-    ensures { result ≡ is_archive code.now }
-{
+fn is_archive(code: &[u8]) -> bool {
     code.starts_with(b"!<arch>\n")
 }
 
 /// A printable character.
-fn is_printable(byte: u8) -> bool
-    ensures { result ≡ (nat_le 0x20 byte && nat_lt byte 0x7F) }
-{
+fn is_printable(byte: u8) -> bool {
     byte >= 0x20 && byte < 0x7F
 }
 
 /// A tab, or the end of a line.
-fn is_blank(byte: u8) -> bool
-    ensures { result ≡ (byte == 0x09 || byte == 0x0A || byte == 0x0D) }
-{
+fn is_blank(byte: u8) -> bool {
     byte == b'\t' || byte == b'\n' || byte == b'\r'
 }
 
 /// A byte of ASCII text: a printable character, a tab, or the end of a line.
-fn is_of_text(byte: u8) -> bool
-    ensures { result ≡ is_of_text byte }
-{
+fn is_of_text(byte: u8) -> bool {
     is_printable(byte) || is_blank(byte)
 }
 
 /// Each of these bytes is a byte of text.
-fn are_of_text(bytes: &[u8]) -> bool
-    ensures { result ≡ list_all is_of_text bytes.now }
-{
+fn are_of_text(bytes: &[u8]) -> bool {
     bytes.iter().all(|byte| is_of_text(*byte))
 }
 
 /// The first 32 bytes, or all if there are fewer.
-fn first_bundle(code: &[u8]) -> &[u8]
-    ensures { result.now ≡ take 32 code.now }
-{
+fn first_bundle(code: &[u8]) -> &[u8] {
     if code.len() < BUNDLE as usize {
         return code;
     }
@@ -271,16 +245,13 @@ fn first_bundle(code: &[u8]) -> &[u8]
 }
 
 /// There is code, and its first 32 bytes, or all if there are fewer, are text.
-fn is_text(code: &[u8]) -> bool
-    ensures { result ≡ is_text code.now }
-{
+fn is_text(code: &[u8]) -> bool {
     code.len() > 0 && are_of_text(first_bundle(code))
 }
 
 /// The words about a fault at a place of the code, 0 if it has none.
 pub(crate) fn words_about(code: &[u8], fault: VetFault, place: usize) -> &'static [u8]
     requires { place ≤ length code.now }
-    ensures { result.now ≡ words_about code.now fault place }
 {
     if is_elf(code) {
         return ELF_FILE;

@@ -1,69 +1,124 @@
 //! The lines about a fault: the name of its address, its bundle, the target of a refused transfer, and what the fault means.
 
-ghost use Rattle.std.specs.Prelude.{◌≡◌, ◌++◌, OnOk};
-ghost use Rattle.nc_output.specs.Verdicts.{place_of};
-ghost use Rattle.nc_report.specs.Report.{detail_line, AddsTarget, Explains};
-ghost use Rattle.nc_report.specs.machinery.Found.{HasFaultPlace, IsRealTarget, AddsLines};
+ghost use Rattle.std.specs.Prelude.{◌≡◌, ◌≤◌, ◌+◌, ◌^◌, ◌<◌, length, OnOk};
+ghost use Rattle.nc_report.specs.Shown.{AreDetails};
+ghost use Rattle.nc_report.specs.machinery.Added.{Adds};
 
-use crate::advice::words_about;
+use crate::finding::Finding;
 use crate::labels::Labels;
-use crate::listing::push_bundle;
-use crate::naming::push_label;
-use crate::numbers::push_all;
-use crate::targets::push_target;
+use crate::numbers::{address_digits, put_byte};
+use crate::shown::push_detail;
+use crate::targets::Aim;
 use nc_decode::BUNDLE;
-use nc_output::place_of;
-use nc_vet::VetFault;
 use std::alloc::{AllocError, Global};
 
-/// Adds a line of words.
-pub(crate) fn push_words(out: &mut Vec<u8>, words: &[u8]) -> Result<(), AllocError>
-    ensures { OnOk result (out.new.items ≡ out.old.items ++ detail_line words.now) }
-{
-    push_all(out, &[b"  ", words, b"\n"])
+/// The number of bytes in a bundle.
+const SIZE: usize = BUNDLE as usize;
+
+/// The offset of an address from its label, as text.
+pub(crate) fn offset_words(alloc: Global, offset: u32) -> Result<String, AllocError> {
+    if offset == 0 {
+        return Ok(String::new(alloc));
+    }
+    format!(in alloc; "+0x{offset:x}")
 }
 
-/// Adds the line about the target of a refused direct transfer; adds nothing for any other fault.
-fn push_more(
-    out: &mut Vec<u8>,
-    limit: u32,
-    base: u32,
-    code: &[u8],
-    fault: VetFault,
-) -> Result<(), AllocError>
-    requires { IsRealTarget limit base code.now fault }
-    ensures { OnOk result (AddsLines out.old.items out.new.items (AddsTarget limit base code.now fault)) }
+/// Adds the line that names an address, if it has a label.
+fn push_label(out: &mut Vec<u8>, labels: &Labels, at: u32) -> Result<(), AllocError>
+    ensures { OnOk result (Adds out.old.items out.new.items AreDetails) }
 {
-    match fault {
-        VetFault::BadTarget { at } => push_target(out, limit, base, code, at),
-        _ => Ok(()),
+    let Some(label) = labels.of(at) else {
+        return Ok(());
+    };
+    let offset = offset_words(*out.allocator(), at.saturating_sub(label.address))?;
+    push_detail(
+        out,
+        &[
+            &address_digits(at),
+            b" <",
+            &label.name,
+            offset.as_bytes(),
+            b">",
+        ],
+    )
+}
+
+/// Puts the first bytes of a bundle into some text, in hexadecimal, with a bar before each instruction but the first. Returns the
+/// length of the text.
+fn put_front(text: &mut [u8], finding: &Finding, count: usize) -> usize
+    requires few { count < 32 }
+    requires room { length text.old ≡ 160 }
+    ensures within { result ≤ 160 }
+    ensures long { length text.new ≡ 160 }
+{
+    let mut len = 0;
+    for k in 0..count {
+        put_byte(text, len, finding.bundle[k]);
+        len += 3;
+        if finding.starts >> (k + 1) & 1 == 1 {
+            text[len] = b' ';
+            text[len + 1] = b'|';
+            len += 2;
+        }
+    }
+    len
+}
+
+/// Puts the bytes of a bundle from a place on into some text, in hexadecimal. Returns the length of the text.
+fn put_rest(text: &mut [u8], finding: &Finding, from: usize) -> usize
+    requires few { from < 32 }
+    requires room { length text.old ≡ 96 }
+    ensures within { result ≤ 96 }
+    ensures long { length text.new ≡ 96 }
+{
+    let mut len = 0;
+    for k in from..SIZE {
+        put_byte(text, len, finding.bundle[k]);
+        len += 3;
+    }
+    len
+}
+
+/// Adds the line that shows the bundle of a fault.
+fn push_bundle(out: &mut Vec<u8>, finding: &Finding) -> Result<(), AllocError>
+    ensures { OnOk result (Adds out.old.items out.new.items AreDetails) }
+{
+    let before = finding.at as usize % SIZE;
+    let start = address_digits(finding.at - finding.at % BUNDLE);
+    let mut front = [0u8; 160];
+    let front_len = put_front(&mut front, finding, before);
+    let mut rest = [0u8; 96];
+    let rest_len = put_rest(&mut rest, finding, before);
+    push_detail(
+        out,
+        &[&start, b":", &front[..front_len], b" >", &rest[..rest_len]],
+    )
+}
+
+/// Adds the line about the target of a refused direct transfer.
+fn push_aim(out: &mut Vec<u8>, aim: Option<Aim>) -> Result<(), AllocError>
+    ensures { OnOk result (Adds out.old.items out.new.items AreDetails) }
+{
+    let Some(aim) = aim else {
+        return Ok(());
+    };
+    let to = address_digits(aim.to);
+    match aim.named {
+        None => push_detail(out, &[b"-> ", &to, b": ", aim.words]),
+        Some(at) => push_detail(out, &[b"-> ", &to, b": ", aim.words, &address_digits(at)]),
     }
 }
 
-/// Adds the lines about a fault: the name of its address and its bundle, if it has an address, the target of a refused direct
-/// transfer, and what the fault means.
-pub(crate) fn push_explained(
-    alloc: Global,
+/// Adds the lines about a fault.
+pub(crate) fn push_finding(
     out: &mut Vec<u8>,
-    limit: u32,
-    base: u32,
-    code: &[u8],
     labels: &Labels,
-    fault: VetFault,
+    finding: &Finding,
 ) -> Result<(), AllocError>
-    requires placed { HasFaultPlace base code.now fault }
-    requires real { IsRealTarget limit base code.now fault }
-    ensures { OnOk result (AddsLines out.old.items out.new.items (Explains limit base code.now labels.now fault)) }
+    ensures { OnOk result (Adds out.old.items out.new.items AreDetails) }
 {
-    let Some(at) = place_of(fault) else {
-        return push_words(out, words_about(code, fault, 0));
-    };
-    let size = BUNDLE as usize;
-    let place = (at - base) as usize;
-    let before = place % size;
-    let start = place - before;
-    push_label(alloc, out, labels, at)?;
-    push_bundle(out, base + start as u32, &code[start..start + size], before)?;
-    push_more(out, limit, base, code, fault)?;
-    push_words(out, words_about(code, fault, place))
+    push_label(out, labels, finding.at)?;
+    push_bundle(out, finding)?;
+    push_aim(out, finding.aim)?;
+    push_detail(out, &[finding.meaning])
 }

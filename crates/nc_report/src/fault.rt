@@ -22,9 +22,6 @@ pub enum ReportFault {
     /// No region can have this number of bundles.
     #[error("bad size")]
     BadSize,
-    /// The number of workers isn't in 1 to 16.
-    #[error("bad workers")]
-    BadWorkers,
     /// There was no memory for vetting or for the text.
     #[error("out of memory")]
     OutOfMemory,

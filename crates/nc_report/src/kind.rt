@@ -1,8 +1,5 @@
 //! The kinds of refused instructions, and the words about each.
 
-ghost use Rattle.std.specs.Prelude.{◌≡◌};
-ghost use Rattle.nc_report.specs.Advice.{words_on};
-
 use crate::words::*;
 
 /// A kind of instruction that isn't permitted.
@@ -76,9 +73,7 @@ pub(crate) enum Kind {
 
 impl Kind {
     /// The words about this kind: what it is, and how to build code without it.
-    pub fn words(self) -> &'static [u8]
-        ensures { result.now ≡ words_on self }
-    {
+    pub fn words(self) -> &'static [u8] {
         match self {
             Kind::General => GENERAL,
             Kind::Return => RETURN,

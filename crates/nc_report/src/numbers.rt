@@ -1,9 +1,8 @@
 //! Adding text, and numbers and bytes as text.
 
-ghost use Rattle.std.specs.Prelude.{◌≡◌, ◌≤◌, ◌+◌, ◌++◌, ◌∷◌, [], Bool, if◌then◌else◌, OnOk, codes, length, take};
+ghost use Rattle.std.specs.Prelude.{◌≡◌, ◌≤◌, ◌+◌, ◌++◌, ◌∷◌, [], if◌then◌else◌, OnOk, length};
 ghost use Rattle.hex.specs.Hex.{encode_lower};
 ghost use Rattle.nc_output.specs.Verdicts.{address_digits};
-ghost use Rattle.nc_report.specs.Listing.{spaced};
 ghost use Rattle.nc_report.specs.machinery.Texts.{all_of};
 
 use std::alloc::AllocError;
@@ -55,39 +54,11 @@ pub(crate) fn address_digits(at: u32) -> [u8; 8]
 
 /// Puts a space and a byte in hexadecimal at a place of some text.
 #[inline(always)]
-fn put_byte(text: &mut [u8], at: usize, byte: u8)
+pub(crate) fn put_byte(text: &mut [u8], at: usize, byte: u8)
     requires { at + 3 ≤ length text.old }
-    ensures value { take (at + 3) text.new ≡ take at text.old ++ spaced (byte ∷ []) }
-    ensures long { length text.new ≡ length text.old }
+    ensures { length text.new ≡ length text.old }
 {
     text[at] = b' ';
     text[at + 1] = DIGITS[byte as usize / 16];
     text[at + 2] = DIGITS[byte as usize % 16];
-}
-
-/// Puts a space and a byte in hexadecimal at a place of some text, and then a bar, which counts only if `barred`. Returns the
-/// place after what counts.
-#[inline(always)]
-pub(crate) fn put_barred(text: &mut [u8], at: usize, byte: u8, barred: bool) -> usize
-    requires { at + 5 ≤ length text.old }
-    ensures value { take result text.new ≡ take at text.old ++ (spaced (byte ∷ []) ++ (if barred then codes " |" else [])) }
-    ensures within { result ≤ at + 5 }
-    ensures long { length text.new ≡ length text.old }
-{
-    put_byte(text, at, byte);
-    text[at + 3] = b' ';
-    text[at + 4] = b'|';
-    if barred { at + 5 } else { at + 3 }
-}
-
-/// Adds at most 32 bytes in hexadecimal, each after a space.
-pub(crate) fn push_bytes(out: &mut Vec<u8>, bytes: &[u8]) -> Result<(), AllocError>
-    requires { length bytes.now ≤ 32 }
-    ensures { OnOk result (out.new.items ≡ out.old.items ++ spaced bytes.now) }
-{
-    let mut text = [0u8; 96];
-    for (n, byte) in bytes.iter().enumerate() {
-        put_byte(&mut text, 3 * n, *byte);
-    }
-    push_text(out, &text[..3 * bytes.len()])
 }

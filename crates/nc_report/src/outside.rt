@@ -4,7 +4,7 @@ ghost use Rattle.std.specs.Prelude.{◌≡◌, ◌++◌, ◌+◌, ◌<◌, ◌^�
 ghost use Rattle.std.specs.List.Sorted.{IsNonDecreasing};
 ghost use Rattle.nc_vet.specs.Chunk.{Piece, code_of, AreSpelled};
 ghost use Rattle.nc_report.specs.Outside.{sent_outside, row_words, ListsOutside};
-ghost use Rattle.nc_report.specs.Report.{detail_line};
+ghost use Rattle.nc_report.specs.Shown.{detail_line};
 ghost use Rattle.nc_report.specs.machinery.Found.{AddsLines};
 ghost use Rattle.nc_report.specs.machinery.Runs.{IsSent, BeginsWithRun, AddsCounts};
 
@@ -63,10 +63,10 @@ fn run_of(numbers: &[u32]) -> usize
 }
 
 /// Adds the line about an address and the number of transfers to it.
-fn push_row(alloc: Global, out: &mut Vec<u8>, to: u32, times: usize) -> Result<(), AllocError>
+fn push_row(out: &mut Vec<u8>, to: u32, times: usize) -> Result<(), AllocError>
     ensures { OnOk result (out.new.items ≡ out.old.items ++ detail_line (row_words (record { to = to; times = times }))) }
 {
-    let count = times.to_string(alloc)?;
+    let count = times.to_string(*out.allocator())?;
     push_all(
         out,
         &[
@@ -81,31 +81,26 @@ fn push_row(alloc: Global, out: &mut Vec<u8>, to: u32, times: usize) -> Result<(
 }
 
 /// Adds a line for each distinct one of these numbers, which are in ascending order, with the number of its occurrences.
-fn push_counts(alloc: Global, out: &mut Vec<u8>, numbers: &[u32]) -> Result<(), AllocError>
+fn push_counts(out: &mut Vec<u8>, numbers: &[u32]) -> Result<(), AllocError>
     requires { IsNonDecreasing numbers.now }
     ensures { OnOk result (AddsCounts numbers.now out.old.items out.new.items) }
 {
     let mut rest = numbers;
     while !rest.is_empty() {
         let times = run_of(rest);
-        push_row(alloc, out, rest[0], times)?;
+        push_row(out, rest[0], times)?;
         rest = &rest[times..];
     }
     Ok(())
 }
 
 /// Adds the lines about the addresses outside some code that its direct transfers target.
-pub(crate) fn push_outside(
-    alloc: Global,
-    out: &mut Vec<u8>,
-    base: u32,
-    code: &[u8],
-) -> Result<(), AllocError>
+pub(crate) fn push_outside(out: &mut Vec<u8>, base: u32, code: &[u8]) -> Result<(), AllocError>
     requires { base + length code.now < 2 ^ 32 }
     ensures { OnOk result ((pieces : List Piece) → AreSpelled pieces → code.now ≡ code_of pieces
         → AddsLines out.old.items out.new.items (ListsOutside base pieces)) }
 {
-    let mut sent = all_sent(alloc, base, code)?;
+    let mut sent = all_sent(*out.allocator(), base, code)?;
     sent.sort_unstable();
-    push_counts(alloc, out, &sent)
+    push_counts(out, &sent)
 }

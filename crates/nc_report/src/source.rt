@@ -20,13 +20,6 @@ pub struct Source {
     pub labels: Labels,
 }
 
-/// The name and the labels of a source, without its code.
-#[derive(Drop)]
-pub(crate) struct Title {
-    pub name: Vec<u8>,
-    pub labels: Labels,
-}
-
 /// Reads a source to its end. Memory for `expected` bytes is allocated first; that number is only a guess.
 ///
 /// A reader that gives more than [`MOST_BYTES`] bytes isn't read further, so an endless device is refused at that point.

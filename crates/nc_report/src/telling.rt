@@ -1,31 +1,34 @@
 //! The report on one source.
 
-ghost use Rattle.std.specs.Prelude.{◌≡◌, ◌≢◌, ◌++◌, IfOk, IfErr, OnOk, OnErr};
+ghost use Rattle.std.specs.Prelude.{◌≡◌, ◌≢◌, ◌++◌, Bool, IfOk, IfErr, OnOk, OnErr};
 ghost use Rattle.nc_vet.specs.Faults.{HasFault};
 ghost use Rattle.nc_vet.specs.declared.fault.VetFault.TheVariants.{OutOfMemory};
-ghost use Rattle.nc_output.specs.Verdicts.{with_line_end, refused_words, fault_words};
-ghost use Rattle.nc_report.specs.Report.{said_of, accepted_words};
-ghost use Rattle.nc_report.specs.machinery.Found.{IsFinding, code_of_verdict, HasFaultPlace, IsRealTarget, AddsAccepted, AddsRefused, TellsOne};
-ghost use Rattle.nc_report.specs.machinery.Found.{IsOfWriting, IsCutOff, WritesLines, CutsLines, AreMore, AreSomeMore};
+ghost use Rattle.nc_output.specs.Verdicts.{with_line_end, place_of};
+ghost use Rattle.nc_report.specs.Shown.{AreDetails};
+ghost use Rattle.nc_report.specs.Report.{said_of, accepted_words, refused_line, end_of, TellsAccepted, TellsFault, TellsMore, TellsRefused, Tells};
+ghost use Rattle.nc_report.specs.Report.{HasWritten, HasBegun};
+ghost use Rattle.nc_report.specs.machinery.Added.{Adds, After, WritesOn, IsOfWriting};
+ghost use Rattle.nc_report.specs.machinery.Found.{IsPlaced, AddsAccepted};
 
+use crate::advice::words_about;
 use crate::counting::count_instructions;
-use crate::explaining::push_explained;
+use crate::explaining::push_finding;
 use crate::fault::ReportFault;
-use crate::labels::Labels;
-use crate::numbers::push_all;
+use crate::finding::own_finding;
+use crate::judged::Judged;
+use crate::numbers::{push_all, push_text};
 use crate::objects::{push_accepted_object, push_refused_object};
 use crate::others::write_others;
 use crate::outside::push_outside;
-use crate::source::Title;
+use crate::shown::push_detail;
+use crate::source::Source;
 use nc_output::{Detail, place_of, push_fault, write_out};
-use nc_vet::{VetFault, Vetted};
-use nc_work::Verdict;
+use nc_vet::{VetFault, Vetted, vet};
 use std::alloc::{AllocError, Global};
 use std::io::Write;
 
 /// Adds the verdict on an accepted source.
 fn push_ok(
-    alloc: Global,
     out: &mut Vec<u8>,
     name: &[u8],
     bytes: usize,
@@ -33,27 +36,21 @@ fn push_ok(
 ) -> Result<(), AllocError>
     ensures { OnOk result (out.new.items ≡ out.old.items ++ said_of name.now (with_line_end (accepted_words bytes instructions))) }
 {
-    let words = format!(in alloc; ": ok, {bytes} bytes, {instructions} instructions\n")?;
+    let words = format!(in *out.allocator(); ": ok, {bytes} bytes, {instructions} instructions\n")?;
     push_all(out, &[name, words.as_bytes()])
 }
 
 /// Adds the verdict on an accepted source, and the addresses outside it that its direct transfers target.
-fn push_calls(
-    alloc: Global,
-    out: &mut Vec<u8>,
-    name: &[u8],
-    chunk: &Vetted,
-) -> Result<(), AllocError>
+fn push_calls(out: &mut Vec<u8>, name: &[u8], chunk: &Vetted) -> Result<(), AllocError>
     ensures { OnOk result (AddsAccepted out.old.items out.new.items Detail.Calls name.now chunk.now) }
 {
     let code = chunk.code();
-    push_ok(alloc, out, name, code.len(), count_instructions(chunk))?;
-    push_outside(alloc, out, chunk.base(), code)
+    push_ok(out, name, code.len(), count_instructions(chunk))?;
+    push_outside(out, chunk.base(), code)
 }
 
 /// Adds the report on an accepted source.
 fn push_accepted(
-    alloc: Global,
     out: &mut Vec<u8>,
     name: &[u8],
     chunk: &Vetted,
@@ -64,75 +61,81 @@ fn push_accepted(
     let bytes = chunk.code().len();
     match detail {
         Detail::Brief => Ok(()),
-        Detail::Usual => push_ok(alloc, out, name, bytes, count_instructions(chunk)),
-        Detail::All => push_ok(alloc, out, name, bytes, count_instructions(chunk)),
-        Detail::Calls => push_calls(alloc, out, name, chunk),
+        Detail::Usual => push_ok(out, name, bytes, count_instructions(chunk)),
+        Detail::All => push_ok(out, name, bytes, count_instructions(chunk)),
+        Detail::Calls => push_calls(out, name, chunk),
         Detail::Object => {
             let count = count_instructions(chunk);
-            push_accepted_object(alloc, out, name, chunk.base(), bytes, count)
+            push_accepted_object(out, name, chunk.base(), bytes, count)
         }
     }
 }
 
-/// Writes the report on an accepted source, and returns that no source is refused: 0.
+/// Writes the report on an accepted source.
 fn tell_accepted<W: Write>(
     alloc: Global,
-    title: &Title,
+    name: &[u8],
     chunk: &Vetted,
     detail: Detail,
     writer: &mut W,
-) -> Result<usize, ReportFault>
-    ensures ok { IfOk result (TellsOne chunk.now.limit chunk.now.base detail title.now.name.items chunk.now.code title.now.labels
+) -> Result<(), ReportFault>
+    ensures ok { OnOk result (HasWritten (TellsAccepted chunk.now.limit chunk.now.base detail name.now chunk.now.code)
         (W.contents writer.old) (W.contents writer.new)) }
-    ensures cut { OnErr result
-        (IsCutOff chunk.now.limit chunk.now.base detail title.now.name.items chunk.now.code title.now.labels
+    ensures cut { OnErr result (HasBegun (TellsAccepted chunk.now.limit chunk.now.base detail name.now chunk.now.code)
         (W.contents writer.old) (W.contents writer.new)) }
     ensures faults { IfErr result IsOfWriting }
 {
-    let name = title.name.as_slice();
     let mut out = Vec::new(alloc);
-    match push_accepted(alloc, &mut out, name, chunk, detail) {
+    match push_accepted(&mut out, name, chunk, detail) {
         Ok(()) => {}
         Err(_) => return Err(ReportFault::OutOfMemory),
     }
     match write_out(writer, &out) {
-        Ok(()) => Ok(0),
+        Ok(()) => Ok(()),
         Err(_) => Err(ReportFault::WriteFailed),
     }
 }
 
 /// Adds the verdict on a refused source. Lack of memory is not a verdict: it is returned as an error.
 fn push_refusal(out: &mut Vec<u8>, name: &[u8], fault: VetFault) -> Result<(), AllocError>
-    ensures { OnOk result ((fault ≢ OutOfMemory)
-        × (out.new.items ≡ out.old.items ++ said_of name.now (with_line_end (refused_words (fault_words fault))))) }
+    ensures { OnOk result ((fault ≢ OutOfMemory) × (out.new.items ≡ out.old.items ++ refused_line name.now fault)) }
 {
     push_all(out, &[name, b": "])?;
     push_fault(out, fault)
 }
 
-/// Adds the verdict on a refused source, and the lines about its fault. Lack of memory is not a verdict: it is returned as an
+/// Adds the lines about a fault.
+fn push_explained(out: &mut Vec<u8>, judged: &Judged<'_>, fault: VetFault) -> Result<(), AllocError>
+    requires { IsPlaced judged.now.base judged.now.code.now (place_of fault) }
+    ensures { OnOk result (Adds out.old.items out.new.items AreDetails) }
+{
+    let Some(at) = place_of(fault) else {
+        return push_detail(out, &[words_about(judged.code, fault, 0)]);
+    };
+    let place = (at - judged.base) as usize;
+    let finding = own_finding(*out.allocator(), judged, fault, place)?;
+    push_finding(out, judged.labels, &finding)
+}
+
+/// Adds the verdict on a refused source, and what is shown about its fault. Lack of memory is not a verdict: it is returned as an
 /// error.
 fn push_refused(
-    alloc: Global,
     out: &mut Vec<u8>,
     name: &[u8],
-    limit: u32,
-    base: u32,
-    code: &[u8],
-    labels: &Labels,
+    judged: &Judged<'_>,
     fault: VetFault,
     detail: Detail,
 ) -> Result<(), AllocError>
-    requires placed { HasFaultPlace base code.now fault }
-    requires real { IsRealTarget limit base code.now fault }
-    ensures { OnOk result (AddsRefused out.old.items out.new.items detail name.now limit base code.now labels.now fault) }
+    requires { IsPlaced judged.now.base judged.now.code.now (place_of fault) }
+    ensures { OnOk result ((fault ≢ OutOfMemory)
+        × Adds out.old.items out.new.items (TellsFault detail judged.now.base name.now fault)) }
 {
     match detail {
-        Detail::Object => push_refused_object(alloc, out, name, base, code, labels, fault),
+        Detail::Object => push_refused_object(out, name, judged, fault),
         Detail::Brief => push_refusal(out, name, fault),
         _ => {
             push_refusal(out, name, fault)?;
-            push_explained(alloc, out, limit, base, code, labels, fault)
+            push_explained(out, judged, fault)
         }
     }
 }
@@ -140,97 +143,106 @@ fn push_refused(
 /// Writes the lines about the other faults of a refused source, if they are asked for. Text that isn't written yet is kept
 /// in `out`.
 fn write_more<W: Write>(
-    alloc: Global,
     out: &mut Vec<u8>,
-    base: u32,
-    limit: u32,
-    code: &[u8],
-    labels: &Labels,
+    judged: &Judged<'_>,
     fault: VetFault,
     detail: Detail,
     writer: &mut W,
 ) -> Result<(), ReportFault>
-    requires { HasFault base limit code.now fault }
-    ensures ok { OnOk result (WritesLines (W.contents writer.old) (W.contents writer.new) out.old.items out.new.items
-        (AreMore detail limit base code.now labels.now fault)) }
-    ensures cut { OnErr result (CutsLines (W.contents writer.old) (W.contents writer.new) out.old.items
-        (AreSomeMore detail limit base code.now labels.now fault)) }
+    requires { HasFault judged.now.base judged.now.limit judged.now.code.now fault }
+    ensures ok { OnOk result (WritesOn (W.contents writer.old) (W.contents writer.new) out.old.items out.new.items
+        (TellsMore detail judged.now.limit judged.now.base judged.now.code.now fault)) }
+    ensures cut { OnErr result (HasBegun (After out.old.items
+        (TellsMore detail judged.now.limit judged.now.base judged.now.code.now fault)) (W.contents writer.old) (W.contents writer.new)) }
     ensures faults { IfErr result IsOfWriting }
 {
     match detail {
-        Detail::Brief => return Ok(()),
-        Detail::Usual => return Ok(()),
-        Detail::Calls => return Ok(()),
-        Detail::Object => return Ok(()),
         Detail::All => {}
+        _ => return Ok(()),
     }
     let Some(at) = place_of(fault) else {
         return Ok(());
     };
-    let own = (at - base) as usize;
-    write_others(alloc, out, base, limit, code, labels, own, writer)
+    write_others(out, judged, (at - judged.base) as usize, writer)
 }
 
-/// Writes the report on a refused source, and returns that one source is refused: 1.
+/// Adds what ends the report on a refused source.
+fn push_end(out: &mut Vec<u8>, detail: Detail) -> Result<(), AllocError>
+    ensures { OnOk result (out.new.items ≡ out.old.items ++ end_of detail) }
+{
+    match detail {
+        Detail::Object => push_text(out, b"}\n"),
+        _ => Ok(()),
+    }
+}
+
+/// Writes the report on a refused source.
 fn tell_refused<W: Write>(
     alloc: Global,
-    title: &Title,
-    base: u32,
-    limit: u32,
-    code: &[u8],
+    name: &[u8],
+    judged: &Judged<'_>,
     fault: VetFault,
     detail: Detail,
     writer: &mut W,
-) -> Result<usize, ReportFault>
-    requires { HasFault base limit code.now fault }
-    ensures ok { IfOk result (TellsOne limit base detail title.now.name.items code.now title.now.labels
+) -> Result<(), ReportFault>
+    requires { HasFault judged.now.base judged.now.limit judged.now.code.now fault }
+    ensures ok { OnOk result (HasWritten (TellsRefused judged.now.limit judged.now.base detail name.now judged.now.code.now)
         (W.contents writer.old) (W.contents writer.new)) }
-    ensures cut { OnErr result (IsCutOff limit base detail title.now.name.items code.now title.now.labels
+    ensures cut { OnErr result (HasBegun (TellsRefused judged.now.limit judged.now.base detail name.now judged.now.code.now)
         (W.contents writer.old) (W.contents writer.new)) }
     ensures faults { IfErr result IsOfWriting }
 {
-    let name = title.name.as_slice();
-    let labels = &title.labels;
     let mut out = Vec::new(alloc);
-    match push_refused(
-        alloc, &mut out, name, limit, base, code, labels, fault, detail,
-    ) {
+    match push_refused(&mut out, name, judged, fault, detail) {
         Ok(()) => {}
         Err(_) => return Err(ReportFault::OutOfMemory),
     }
-    match write_more(
-        alloc, &mut out, base, limit, code, labels, fault, detail, writer,
-    ) {
+    match write_more(&mut out, judged, fault, detail, writer) {
         Ok(()) => {}
         Err(fault) => return Err(fault),
     }
+    match push_end(&mut out, detail) {
+        Ok(()) => {}
+        Err(_) => return Err(ReportFault::OutOfMemory),
+    }
     match write_out(writer, &out) {
-        Ok(()) => Ok(1),
+        Ok(()) => Ok(()),
         Err(_) => Err(ReportFault::WriteFailed),
     }
 }
 
-/// Writes the report on a source with this verdict, and returns 1 if the source is refused, otherwise 0.
+/// Vets a source, and writes the report on it. Returns whether it is refused.
 pub(crate) fn tell<W: Write>(
     alloc: Global,
-    title: Title,
-    verdict: Verdict,
+    source: Source,
     base: u32,
     limit: u32,
     detail: Detail,
     writer: &mut W,
-) -> Result<usize, ReportFault>
-    requires { IsFinding base limit verdict }
-    ensures ok { IfOk result (TellsOne limit base detail title.name.items (code_of_verdict verdict) title.labels
+) -> Result<bool, ReportFault>
+    ensures ok { IfOk result (λ refused. HasWritten (Tells limit base detail source.name.items source.code.items refused)
         (W.contents writer.old) (W.contents writer.new)) }
-    ensures cut { OnErr result (IsCutOff limit base detail title.name.items (code_of_verdict verdict) title.labels
+    ensures cut { OnErr result (HasBegun (λ text. (refused : Bool) × Tells limit base detail source.name.items source.code.items refused text)
         (W.contents writer.old) (W.contents writer.new)) }
     ensures faults { IfErr result IsOfWriting }
 {
-    match verdict {
-        Ok(chunk) => tell_accepted(alloc, &title, &chunk, detail, writer),
+    let Source { name, code, labels } = source;
+    match vet(base, limit, code) {
+        Ok(chunk) => match tell_accepted(alloc, &name, &chunk, detail, writer) {
+            Ok(()) => Ok(false),
+            Err(fault) => Err(fault),
+        },
         Err((code, fault)) => {
-            tell_refused(alloc, &title, base, limit, &code, fault, detail, writer)
+            let judged = Judged {
+                base,
+                limit,
+                code: &code,
+                labels: &labels,
+            };
+            match tell_refused(alloc, &name, &judged, fault, detail, writer) {
+                Ok(()) => Ok(true),
+                Err(fault) => Err(fault),
+            }
         }
     }
 }

@@ -1,19 +1,20 @@
 //! The last lines about a refused chunk: the number of its faults, and whether the code is in bundles.
 
-ghost use Rattle.std.specs.Prelude.{false, ◌≡◌, ◌<◌, ◌≤◌, ◌+◌, ◌/◌, ◌^◌, ◌++◌, ◌∷◌, Bool, if◌then◌else◌, ◌==◌, codes, length, map, OnOk};
+ghost use Rattle.std.specs.Prelude.{false, ◌≡◌, ◌<◌, ◌≤◌, ◌+◌, ◌/◌, ◌^◌, ◌++◌, Bool, if◌then◌else◌, ◌==◌, codes, length, map, List, ℕ, OnOk};
 ghost use Rattle.std.specs.Fmt.{decimal};
-ghost use Rattle.std.specs.List.{flat_map};
-ghost use Rattle.nc_report.specs.Report.{detail_line};
-ghost use Rattle.nc_report.specs.Totals.{total, kinds_from, totals_line, starts_inside, adrift_lines};
+ghost use Rattle.nc_report.specs.Shown.{AreDetails, detail_line};
+ghost use Rattle.nc_report.specs.Totals.{total, kinds_from, totals_line};
+ghost use Rattle.nc_report.specs.machinery.Added.{Adds};
 ghost use Rattle.nc_report.specs.machinery.Seen.{counted, kind_words};
 
 use crate::further::is_begun;
 use crate::numbers::{choose, push_all, push_text};
+use crate::shown::push_detail;
 use crate::spot::{Spot, spot_at};
 use crate::words::NOT_IN_BUNDLES;
 use nc_decode::BUNDLE;
 use nc_vet::VetFault;
-use std::alloc::{AllocError, Global};
+use std::alloc::AllocError;
 
 /// The number of faults of each kind.
 #[derive(Clone, Copy)]
@@ -53,16 +54,14 @@ pub(crate) fn counted(counts: Counts, found: Option<VetFault>) -> Counts
 
 /// 1 for a test that holds, otherwise 0.
 fn one(holds: bool) -> usize
-    ensures value { result ≡ (if holds then 1 else 0) }
-    ensures small { result ≤ 1 }
+    ensures { result ≤ 1 }
 {
     if holds { 1 } else { 0 }
 }
 
 /// The number of bundles that begin inside an instruction.
 fn count_inside(spots: &[Spot]) -> usize
-    ensures value { result ≡ starts_inside spots.now (length spots.now / 32) }
-    ensures within { result ≤ length spots.now / 32 }
+    ensures { result ≤ length spots.now / 32 }
 {
     let mut inside = 0;
     for n in 0..spots.len() / BUNDLE as usize {
@@ -73,7 +72,6 @@ fn count_inside(spots: &[Spot]) -> usize
 
 /// Adds a number of faults with the name of their kind, if it isn't 0, after a comma if a kind has been written.
 fn push_kind(
-    alloc: Global,
     out: &mut Vec<u8>,
     begun: bool,
     n: usize,
@@ -84,7 +82,7 @@ fn push_kind(
     if n == 0 {
         return Ok(());
     }
-    let count = n.to_string(alloc)?;
+    let count = n.to_string(*out.allocator())?;
     push_all(
         out,
         &[choose(begun, b", ", b""), count.as_bytes(), b" ", name],
@@ -92,40 +90,35 @@ fn push_kind(
 }
 
 /// Adds the kinds whose number isn't 0, with a comma before each but the first.
-fn push_kinds(
-    alloc: Global,
-    out: &mut Vec<u8>,
-    kinds: &[(usize, &'static [u8])],
-) -> Result<(), AllocError>
+fn push_kinds(out: &mut Vec<u8>, kinds: &[(usize, &'static [u8])]) -> Result<(), AllocError>
     ensures { OnOk result (out.new.items ≡ out.old.items ++ kinds_from false (map (λ kind. (kind.0, kind.1.now)) kinds.now)) }
 {
     let mut begun = false;
     for (n, name) in kinds {
-        push_kind(alloc, out, begun, *n, name)?;
+        push_kind(out, begun, *n, name)?;
         begun |= *n != 0;
     }
     Ok(())
 }
 
 /// Adds the number of all faults.
-fn push_total(alloc: Global, out: &mut Vec<u8>, n: usize) -> Result<(), AllocError>
+fn push_total(out: &mut Vec<u8>, n: usize) -> Result<(), AllocError>
     ensures { OnOk result (out.new.items
         ≡ out.old.items ++ (codes "  " ++ (decimal n ++ (if n == 1 then codes " fault: " else codes " faults: ")))) }
 {
-    let total = n.to_string(alloc)?;
+    let total = n.to_string(*out.allocator())?;
     let faults = choose(n == 1, b" fault: ", b" faults: ");
     push_all(out, &[b"  ", total.as_bytes(), faults])
 }
 
 /// Adds the line of totals.
-fn push_totals(alloc: Global, out: &mut Vec<u8>, counts: Counts) -> Result<(), AllocError>
+fn push_totals(out: &mut Vec<u8>, counts: Counts) -> Result<(), AllocError>
     requires { total counts < 2 ^ 63 }
     ensures { OnOk result (out.new.items ≡ out.old.items ++ detail_line (totals_line counts)) }
 {
     let n = counts.crosses + counts.not_permitted + counts.bare + counts.bad_target;
-    push_total(alloc, out, n)?;
+    push_total(out, n)?;
     push_kinds(
-        alloc,
         out,
         &[
             (counts.crosses, b"Crosses"),
@@ -138,38 +131,23 @@ fn push_totals(alloc: Global, out: &mut Vec<u8>, counts: Counts) -> Result<(), A
 }
 
 /// Adds that the code isn't in bundles, if more than half of them begin inside an instruction.
-fn push_adrift(
-    alloc: Global,
-    out: &mut Vec<u8>,
-    inside: usize,
-    bundles: usize,
-) -> Result<(), AllocError>
+fn push_adrift(out: &mut Vec<u8>, inside: usize, bundles: usize) -> Result<(), AllocError>
     requires { inside < 2 ^ 62 }
-    ensures { OnOk result (out.new.items ≡ out.old.items ++ flat_map detail_line (adrift_lines inside bundles)) }
+    ensures { OnOk result (Adds out.old.items out.new.items AreDetails) }
 {
     if 2 * inside <= bundles {
         return Ok(());
     }
-    let share = format!(in alloc; "  the code isn't in bundles: {inside} of {bundles}")?;
-    push_all(out, &[share.as_bytes(), NOT_IN_BUNDLES, b"\n"])
+    let share = format!(in *out.allocator(); "the code isn't in bundles: {inside} of {bundles}")?;
+    push_detail(out, &[share.as_bytes(), NOT_IN_BUNDLES])
 }
 
 /// Adds the last lines: the totals, and whether the code is in bundles.
-pub(crate) fn push_last(
-    alloc: Global,
-    out: &mut Vec<u8>,
-    counts: Counts,
-    spots: &[Spot],
-) -> Result<(), AllocError>
+pub(crate) fn push_last(out: &mut Vec<u8>, counts: Counts, spots: &[Spot]) -> Result<(), AllocError>
     requires { total counts < 2 ^ 63 }
-    ensures { OnOk result (out.new.items ≡ out.old.items ++ flat_map detail_line (totals_line counts
-        ∷ adrift_lines (starts_inside spots.now (length spots.now / 32)) (length spots.now / 32))) }
+    ensures { OnOk result ((last : List ℕ) × AreDetails last
+        × (out.new.items ≡ out.old.items ++ (detail_line (totals_line counts) ++ last))) }
 {
-    push_totals(alloc, out, counts)?;
-    push_adrift(
-        alloc,
-        out,
-        count_inside(spots),
-        spots.len() / BUNDLE as usize,
-    )
+    push_totals(out, counts)?;
+    push_adrift(out, count_inside(spots), spots.len() / BUNDLE as usize)
 }

@@ -4,7 +4,7 @@ use Rattle.std.specs.List.{flat_map}
 use Rattle.std.specs.List.Sorted.{IsNonDecreasing}
 use Rattle.nc_vet.specs.Chunk.{Piece, code_of, place, AreSpelled}
 use Rattle.nc_report.specs.Outside.{OutsideRow, AscendFrom, all_sent, row_words}
-use Rattle.nc_report.specs.Report.{detail_line}
+use Rattle.nc_report.specs.Shown.{detail_line}
 
 -- the instructions before a place have been read, and their targets outside are known
 pub record KnowsSent (base len : ℕ) (pieces : List Piece) (at : ℕ) (sent : List ℕ) : Type 0 where

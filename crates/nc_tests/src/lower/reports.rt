@@ -6,9 +6,7 @@ use nc_output::Detail;
 use nc_report::{Label, Labels, ReportFault, Source, report};
 use std::alloc::Global;
 use std::io::{ErrorKind, Write};
-use std::sync::Wait;
 use std::test::Fail;
-use std::thread::Threads;
 
 /// An address and its name.
 type Named = (u32, &'static [u8]);
@@ -27,43 +25,43 @@ type Row = (
     &'static [Named],
     Detail,
     Option<ErrorKind>,
-    Result<usize, ReportFault>,
+    Result<bool, ReportFault>,
     &'static [u8],
 );
 
 #[rattlefmt::skip]
 static ROWS: [Row; 10] = [
     // The label of an address may lie below the code; offsets of one digit and of more.
-    (b"a", RETURN, &[(0xFFFF, b"f")], Detail::Usual, None, Ok(1),
+    (b"a", RETURN, &[(0xFFFF, b"f")], Detail::Usual, None, Ok(true),
         b"a: refused NotPermitted 00010000\n\
         \x20 00010000 <f+0x1>\n\
         \x20 00010000: > c3 90 90 90 90 90 90 90 90 90 90 90 90 90 90 90 90 90 90 90 90 90 90 90 90 90 90 90 90 90 90 90\n\
         \x20 a return (ret): compile with nc-cc, or pop the address into a register, mask it, and jump through it: see docs/GUIDE.md\n"),
-    (b"a", RETURN, &[(0, b"zero"), (0xFFFF_FFFF, b"top")], Detail::Usual, None, Ok(1),
+    (b"a", RETURN, &[(0, b"zero"), (0xFFFF_FFFF, b"top")], Detail::Usual, None, Ok(true),
         b"a: refused NotPermitted 00010000\n\
         \x20 00010000 <zero+0x10000>\n\
         \x20 00010000: > c3 90 90 90 90 90 90 90 90 90 90 90 90 90 90 90 90 90 90 90 90 90 90 90 90 90 90 90 90 90 90 90\n\
         \x20 a return (ret): compile with nc-cc, or pop the address into a register, mask it, and jump through it: see docs/GUIDE.md\n"),
     // Bytes that would end the line, or control a terminal; a space, and bytes of UTF-8; an empty name.
-    (b"a", RETURN, &[(0x1_0000, b"\x00a\nb\x1b[1m\x1f \x7e\x7f\x80\xc3\xa9\xff")], Detail::Usual, None, Ok(1),
+    (b"a", RETURN, &[(0x1_0000, b"\x00a\nb\x1b[1m\x1f \x7e\x7f\x80\xc3\xa9\xff")], Detail::Usual, None, Ok(true),
         b"a: refused NotPermitted 00010000\n\
         \x20 00010000 <?a?b?[1m? ~?\x80\xc3\xa9\xff>\n\
         \x20 00010000: > c3 90 90 90 90 90 90 90 90 90 90 90 90 90 90 90 90 90 90 90 90 90 90 90 90 90 90 90 90 90 90 90\n\
         \x20 a return (ret): compile with nc-cc, or pop the address into a register, mask it, and jump through it: see docs/GUIDE.md\n"),
-    (b"a", RETURN, &[(0xFFFF, b"")], Detail::Usual, None, Ok(1),
+    (b"a", RETURN, &[(0xFFFF, b"")], Detail::Usual, None, Ok(true),
         b"a: refused NotPermitted 00010000\n\
         \x20 00010000 <+0x1>\n\
         \x20 00010000: > c3 90 90 90 90 90 90 90 90 90 90 90 90 90 90 90 90 90 90 90 90 90 90 90 90 90 90 90 90 90 90 90\n\
         \x20 a return (ret): compile with nc-cc, or pop the address into a register, mask it, and jump through it: see docs/GUIDE.md\n"),
-    (b"a", RETURN, &[(0xFFFF, b"\"\\\n\x7f\xc3\xa9")], Detail::Object, None, Ok(1),
+    (b"a", RETURN, &[(0xFFFF, b"\"\\\n\x7f\xc3\xa9")], Detail::Object, None, Ok(true),
         b"{\"file\":\"a\",\"address\":\"00010000\",\"verdict\":\"refused\",\"fault\":\"NotPermitted\",\"at\":\"00010000\",\
         \"symbol\":\"\\\"\\\\\\u000a\\u007f\\u00c3\\u00a9+0x1\",\"meaning\":\
         \"a return (ret): compile with nc-cc, or pop the address into a register, mask it, and jump through it: see docs/GUIDE.md\"}\n"),
     // A name with each byte that JSON requires to be escaped, and an empty name.
-    (b"a\"b\\c/\x00\x0a\x1f ~\x7f\x80\xc3\xa9\xff", NOPS, &[], Detail::Object, None, Ok(0),
+    (b"a\"b\\c/\x00\x0a\x1f ~\x7f\x80\xc3\xa9\xff", NOPS, &[], Detail::Object, None, Ok(false),
         b"{\"file\":\"a\\\"b\\\\c/\\u0000\\u000a\\u001f ~\\u007f\\u0080\\u00c3\\u00a9\\u00ff\",\"address\":\"00010000\",\
         \"verdict\":\"ok\",\"bytes\":64,\"instructions\":64}\n"),
-    (b"", NOPS, &[], Detail::Object, None, Ok(0),
+    (b"", NOPS, &[], Detail::Object, None, Ok(false),
         b"{\"file\":\"\",\"address\":\"00010000\",\"verdict\":\"ok\",\"bytes\":64,\"instructions\":64}\n"),
     // A flush that fails after everything was taken is a failed write.
     (b"a", NOPS, &[], Detail::Usual, Some(ErrorKind::Other), Err(ReportFault::WriteFailed), b"a: ok, 64 bytes, 64 instructions\n"),
@@ -91,53 +89,50 @@ fn list(alloc: Global, rows: &[Named]) -> Vec<Label> {
     list
 }
 
-/// A list of one source, with this name, code and labels.
-fn only(alloc: Global, name: &[u8], code: &[u8], labels: Labels) -> Vec<Source> {
-    let mut sources = Vec::new(alloc);
-    let _is_there = sources.push(Source {
+/// A source with this name, code and labels.
+fn only(alloc: Global, name: &[u8], code: &[u8], labels: Labels) -> Source {
+    Source {
         name: copied(alloc, name),
         code: copied(alloc, code),
         labels,
-    });
-    sources
+    }
 }
 
-/// Writes the report on sources in a region of five bundles, by one worker. The function has no clause, so that proofs of its
-/// callers don't deal with the contract of `report`.
-fn told<T: Threads + Wait + Sync, W: Write>(
-    rt: &T,
+/// Writes the report on a source in a region of five bundles. The function has no clause, so that proofs of its callers don't deal
+/// with the contract of `report`.
+fn told<W: Write>(
     alloc: Global,
-    sources: Vec<Source>,
+    source: Source,
     detail: Detail,
     writer: &mut W,
-) -> Result<usize, ReportFault> {
-    report(rt, alloc, sources, 0x10000, 5, 1, detail, writer)
+) -> Result<bool, ReportFault> {
+    report(alloc, source, 0x10000, 5, detail, writer)
 }
 
 /// Whether the report on a source is as its row says. The output is flushed once.
-fn is_reported<T: Threads + Wait + Sync>(rt: &T, alloc: Global, row: &Row) -> bool {
+fn is_reported(alloc: Global, row: &Row) -> bool {
     let (name, code, named, detail, flush_error, due, owed) = *row;
     let Some(labels) = Labels::new(list(alloc, named)) else {
         return false;
     };
-    let sources = only(alloc, name, code, labels);
+    let source = only(alloc, name, code, labels);
     let mut writer = Slow::new(alloc, 7, None, flush_error);
-    told(rt, alloc, sources, detail, &mut writer) == due && writer.has(owed)
+    told(alloc, source, detail, &mut writer) == due && writer.has(owed)
 }
 
 /// Tries each row.
-fn try_rows<T: Threads + Wait + Sync>(rt: &T, alloc: Global, rows: &[Row]) -> Result<(), Fail> {
+fn try_rows(alloc: Global, rows: &[Row]) -> Result<(), Fail> {
     let mut number = 0u32;
     for row in rows {
         number = number.wrapping_add(1);
-        right(is_reported(rt, alloc, row), number)?;
+        right(is_reported(alloc, row), number)?;
     }
     Ok(())
 }
 
 #[test]
 fn reports(rt: HostRuntime) -> Result<(), Fail> {
-    try_rows(&rt, rt.alloc(), &ROWS)
+    try_rows(rt.alloc(), &ROWS)
 }
 
 /// Whether these are accepted as labels.

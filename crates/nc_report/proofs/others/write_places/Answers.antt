@@ -1,64 +1,63 @@
-use Rattle.std.proofs.Common.{◌≡◌, ◌+◌, ◌++◌, List, ℕ, length, inl, refl, sym, ap, ◌∙◌, subst, arith}
-use Rattle.nc_report.specs.Further.{lines_at}
+use Rattle.std.proofs.Common.{◌≡◌, ◌+◌, ◌++◌, List, [], ℕ, length, inl, refl, sym, ap, ◌∙◌, subst, arith}
+use Rattle.nc_vet.specs.declared.fault.VetFault.{VetFault}
+use Rattle.nc_report.specs.Further.{others_at, others_to}
 use Rattle.nc_report.specs.Totals.{counts_to}
+use Rattle.nc_report.specs.Report.{TellsEach}
 use Rattle.nc_report.specs.declared.totals.Counts.{Counts}
-use Rattle.nc_report.specs.machinery.Found.{WritesLines, AreLinesTo, AreSomeLines}
+use Rattle.nc_report.specs.machinery.Added.{WritesOn}
 use Rattle.nc_report.specs.machinery.Seen.{counted}
+use Rattle.nc_report.proofs.Additions.{writes_none, writes_more, cut_here, cut_in}
 use Rattle.nc_report.proofs.CountedFaults.{counts_more, counts_small}
-use Rattle.nc_report.proofs.FurtherLines.{none_written, written_more, cut_here, cut_in, lines_more}
-use Rattle.nc_report.proofs.QuietPlaces.{AreFaultless, quiet_none, lines_over, counts_over}
+use Rattle.nc_report.proofs.FurtherTexts.{completed, told_more}
+use Rattle.nc_report.proofs.QuietPlaces.{AreFaultless, quiet_none, others_over, counts_over}
 use Rattle.nc_report.proofs.others.write_places.Goals as goal
 
 pub loop-k-init : goal.loop-k-init
-loop-k-init g c = record {
-  within = omega arith;
-  lines = none_written _ _ c.args.base c.args.limit c.args.code.now c.args.labels.now c.args.spots.now c.args.own;
-  counts = refl;
-}
+loop-k-init g c = record { within = omega arith; text = writes_none _ _ (TellsEach []) refl; counts = refl }
 
 pub returns-in-Err-clause-cut : goal.returns-in-Err-clause-cut
 returns-in-Err-clause-cut g c =
-    cut_here _ _ _ _ (AreLinesTo c.args.base c.args.limit c.args.code.now c.args.labels.now c.args.spots.now c.args.own c.loop-k.k)
-    (AreSomeLines c.args.base c.args.limit c.args.code.now c.args.labels.now c.args.spots.now c.args.own)
-    c.loop-k.invariant.lines (λ lines h. (c.loop-k.k, c.loop-k.invariant.within, h))
+    let judged = c.args.judged.now in
+    let code = judged.code.now in
+    let faults = others_to judged.base judged.limit code c.args.spots.now c.args.own in
+    cut_here _ _ _ _ (TellsEach (faults c.loop-k.k)) (TellsEach (faults (length code)))
+    (completed judged.base judged.limit code c.args.spots.now c.args.own c.loop-k.k (length code) c.loop-k.invariant.within)
+    c.loop-k.invariant.text
 
 pub returns-in-Err-write_much-clause-cut : goal.returns-in-Err-write_much-clause-cut
 returns-in-Err-write_much-clause-cut g c =
+    let judged = c.args.judged.now in
+    let code = judged.code.now in
+    let spots = c.args.spots.now in
     let k = c.loop-k.k in
-    let more = lines_at c.args.base c.args.limit c.args.code.now c.args.labels.now c.args.spots.now c.args.own k in
-    cut_in _ _ _ _ _ _ c.in-Err-write_much.ensures.cut.0
-    (AreLinesTo c.args.base c.args.limit c.args.code.now c.args.labels.now c.args.spots.now c.args.own k)
-    (AreSomeLines c.args.base c.args.limit c.args.code.now c.args.labels.now c.args.spots.now c.args.own) more
-    c.loop-k.invariant.lines c.in-Ok.ensures
-    (λ lines h. (
-      k + 1,
-      omega (arith, c.loop-k-test.true),
-      ap (λ (z : List (List ℕ)). z ++ more) h ∙ sym (lines_more c.args.base c.args.limit c.args.code.now c.args.labels.now c.args.spots.now c.args.own k),
-    ))
-    c.in-Err-write_much.ensures.cut.1
+    let faults = others_to judged.base judged.limit code spots c.args.own in
+    cut_in _ _ _ _ _ _ c.in-Err-write_much.ensures.cut.0 (TellsEach (faults k))
+    (TellsEach (others_at judged.base judged.limit code spots c.args.own k)) (TellsEach (faults (length code)))
+    (λ a b h i. completed judged.base judged.limit code spots c.args.own (k + 1) (length code) (omega (arith, c.loop-k-test.true)) (a ++ b)
+    (told_more judged.base judged.limit code spots c.args.own k a b h i))
+    c.loop-k.invariant.text c.in-Ok.ensures c.in-Err-write_much.ensures.cut.1
 
 pub loop-k-preserved : goal.loop-k-preserved
 loop-k-preserved g c =
-    let base = c.args.base in
-    let limit = c.args.limit in
-    let code = c.args.code.now in
-    let labels = c.args.labels.now in
+    let judged = c.args.judged.now in
+    let base = judged.base in
+    let limit = judged.limit in
+    let code = judged.code.now in
     let spots = c.args.spots.now in
     let own = c.args.own in
     let k = c.loop-k.k in
     let next = c.next_suspect-k.result in
     let low = c.next_suspect-k.ensures.low in
+    let faults = others_to base limit code spots own in
     let quiet : AreFaultless base limit code spots (k + 1) next
     = λ j a b. quiet_none base limit code spots j (c.next_suspect-k.ensures.quiet j a b) in
-    let more = lines_at base limit code labels spots own k in
     let (part, appended, kept) = c.in-Ok-write_much.ensures.ok in
     record {
       within = c.next_suspect-k.ensures.within;
-      lines = written_more _ _ _ _ _ _ _ part (AreLinesTo base limit code labels spots own k) (AreLinesTo base limit code labels spots own next)
-          more c.loop-k.invariant.lines c.in-Ok.ensures
-          (λ lines h. ap (λ (z : List (List ℕ)). z ++ more) h ∙ sym (lines_more base limit code labels spots own k)
-          ∙ sym (lines_over base limit code labels spots own (k + 1) next low quiet))
-          appended kept;
+      text = writes_more _ _ _ _ _ _ _ part (TellsEach (faults k)) (TellsEach (others_at base limit code spots own k)) (TellsEach (faults next))
+          (λ a b h i. subst (λ (fs : List VetFault). TellsEach fs (a ++ b)) (sym (others_over base limit code spots own (k + 1) next low quiet))
+          (told_more base limit code spots own k a b h i))
+          c.loop-k.invariant.text c.in-Ok.ensures appended kept;
       counts = c.counted-counts.ensures ∙ ap (λ (x : Counts). counted x c.fault_at-found.result) c.loop-k.invariant.counts
           ∙ ap (counted (counts_to base limit code spots k)) c.fault_at-found.ensures ∙ counts_more base limit code spots k
           ∙ sym (counts_over base limit code spots (k + 1) next low quiet);
@@ -66,13 +65,15 @@ loop-k-preserved g c =
 
 pub returns-clause-ok : goal.returns-clause-ok
 returns-clause-ok g c =
-    subst (λ (n : ℕ). WritesLines (g.W.Write.contents c.args.writer.now) (g.W.Write.contents c.loop-k.writer) c.args.out.now.items c.loop-k.out.items
-    (AreLinesTo c.args.base c.args.limit c.args.code.now c.args.labels.now c.args.spots.now c.args.own n)) (omega arith) c.loop-k.invariant.lines
+    let judged = c.args.judged.now in
+    subst (λ (n : ℕ). WritesOn (g.W.Write.contents c.args.writer.now) (g.W.Write.contents c.loop-k.writer) c.args.out.now.items c.loop-k.out.items
+    (TellsEach (others_to judged.base judged.limit judged.code.now c.args.spots.now c.args.own n))) (omega arith) c.loop-k.invariant.text
 
 pub returns-clause-counts : goal.returns-clause-counts
 returns-clause-counts g c =
-    let all : c.loop-k.k ≡ length c.args.code.now = omega arith in
-    c.loop-k.invariant.counts ∙ ap (counts_to c.args.base c.args.limit c.args.code.now c.args.spots.now) all
+    let judged = c.args.judged.now in
+    let all : c.loop-k.k ≡ length judged.code.now = omega arith in
+    c.loop-k.invariant.counts ∙ ap (counts_to judged.base judged.limit judged.code.now c.args.spots.now) all
 
 pub returns-in-Err-clause-faults : goal.returns-in-Err-clause-faults
 returns-in-Err-clause-faults g c = inl refl
@@ -81,14 +82,14 @@ pub returns-in-Err-write_much-clause-faults : goal.returns-in-Err-write_much-cla
 returns-in-Err-write_much-clause-faults g c = c.in-Err-write_much.ensures.faults
 
 pub counted-counts-requires-clause-crosses : goal.counted-counts-requires-clause-crosses
-counted-counts-requires-clause-crosses g c = omega (arith, (counts_small c.args.base c.args.limit c.args.code.now c.args.spots.now c.loop-k.k c.loop-k.counts c.loop-k.invariant.counts).0, c.requires.span)
+counted-counts-requires-clause-crosses g c = omega (arith, (counts_small c.args.judged.now.base c.args.judged.now.limit c.args.judged.now.code.now c.args.spots.now c.loop-k.k c.loop-k.counts c.loop-k.invariant.counts).0, c.requires.span)
 
 pub counted-counts-requires-clause-not_permitted :
     goal.counted-counts-requires-clause-not_permitted
-counted-counts-requires-clause-not_permitted g c = omega (arith, (counts_small c.args.base c.args.limit c.args.code.now c.args.spots.now c.loop-k.k c.loop-k.counts c.loop-k.invariant.counts).1, c.requires.span)
+counted-counts-requires-clause-not_permitted g c = omega (arith, (counts_small c.args.judged.now.base c.args.judged.now.limit c.args.judged.now.code.now c.args.spots.now c.loop-k.k c.loop-k.counts c.loop-k.invariant.counts).1, c.requires.span)
 
 pub counted-counts-requires-clause-bare : goal.counted-counts-requires-clause-bare
-counted-counts-requires-clause-bare g c = omega (arith, (counts_small c.args.base c.args.limit c.args.code.now c.args.spots.now c.loop-k.k c.loop-k.counts c.loop-k.invariant.counts).2, c.requires.span)
+counted-counts-requires-clause-bare g c = omega (arith, (counts_small c.args.judged.now.base c.args.judged.now.limit c.args.judged.now.code.now c.args.spots.now c.loop-k.k c.loop-k.counts c.loop-k.invariant.counts).2, c.requires.span)
 
 pub counted-counts-requires-clause-bad_target : goal.counted-counts-requires-clause-bad_target
-counted-counts-requires-clause-bad_target g c = omega (arith, (counts_small c.args.base c.args.limit c.args.code.now c.args.spots.now c.loop-k.k c.loop-k.counts c.loop-k.invariant.counts).3, c.requires.span)
+counted-counts-requires-clause-bad_target g c = omega (arith, (counts_small c.args.judged.now.base c.args.judged.now.limit c.args.judged.now.code.now c.args.spots.now c.loop-k.k c.loop-k.counts c.loop-k.invariant.counts).3, c.requires.span)

@@ -1,6 +1,6 @@
 use Rattle.std.proofs.Common.{◌≡◌, ℕ, List, ◌++◌, rules, refl, sym, subst}
 use Rattle.std.proofs.lemmas.List.{take_rest, nil_from_length}
-use Rattle.nc_report.specs.Report.{detail_line}
+use Rattle.nc_report.specs.Shown.{detail_line}
 use Rattle.nc_report.specs.Outside.{row_words}
 use Rattle.nc_report.specs.machinery.Runs.{HasCounted}
 use Rattle.nc_report.proofs.CountedRuns.{none_counted, count_more, all_counted}

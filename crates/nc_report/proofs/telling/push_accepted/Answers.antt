@@ -2,7 +2,7 @@ use Rattle.std.proofs.Common.{ℕ, List, ◌++◌, length, ap, ◌∙◌}
 use Rattle.std.proofs.lemmas.Result.{on_ok_weaker}
 use Rattle.nc_output.specs.Verdicts.{with_line_end}
 use Rattle.nc_report.specs.Objects.{accepted_object}
-use Rattle.nc_report.proofs.ToldSources.{adds_none, adds_object}
+use Rattle.nc_report.proofs.AcceptedTexts.{adds_none, adds_object}
 use Rattle.nc_report.proofs.telling.push_accepted.Goals as goal
 
 pub returns-in-Brief : goal.returns-in-Brief

@@ -4,7 +4,7 @@ use Rattle.nc_output.specs.Verdicts.{with_line_end}
 use Rattle.nc_report.specs.Outside.{ListsOutside}
 use Rattle.nc_report.specs.Report.{said_of, accepted_words}
 use Rattle.nc_report.specs.machinery.Found.{AddsLines}
-use Rattle.nc_report.proofs.ToldSources.{adds_calls}
+use Rattle.nc_report.proofs.AcceptedTexts.{adds_calls}
 use Rattle.nc_report.proofs.telling.push_calls.Goals as goal
 
 pub returns : goal.returns

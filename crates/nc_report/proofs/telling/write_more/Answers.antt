@@ -1,52 +1,50 @@
-use Rattle.std.proofs.Common.{◌-◌, sym, ◌∙◌}
+use Rattle.std.proofs.Common.{◌-◌, [], sym, subst, ◌∙◌, append-nil}
 use Rattle.std.proofs.lemmas.Result.{on_ok_weaker, on_err_weaker}
-use Rattle.nc_report.specs.Report.{ReportsOthers, ReportsSome}
-use Rattle.nc_report.specs.machinery.Found.{AreMore, AreSomeMore}
-use Rattle.nc_report.proofs.RefusedTexts.{brief_more, usual_more, calls_more, object_more, none_more, some_more, nothing_more, writes_so, cuts_so}
+use Rattle.nc_report.specs.Report.{TellsOthers, TellsMore}
+use Rattle.nc_report.proofs.Placed.{good_span}
+use Rattle.nc_report.proofs.Additions.{writes_none, writes_so, begun_after}
+use Rattle.nc_report.proofs.RefusedTexts.{none_asked, none_placed, others_told}
 use Rattle.nc_report.proofs.telling.write_more.Goals as goal
-
-pub returns-in-Brief-clause-ok : goal.returns-in-Brief-clause-ok
-returns-in-Brief-clause-ok g c =
-    nothing_more _ _ (AreMore c.args.detail c.args.limit c.args.base c.args.code.now c.args.labels.now c.args.fault)
-    (brief_more (ReportsOthers c.args.limit c.args.base c.args.code.now c.args.labels.now) c.args.base c.args.detail c.args.fault c.in-Brief.is)
-
-pub returns-in-Usual-clause-ok : goal.returns-in-Usual-clause-ok
-returns-in-Usual-clause-ok g c =
-    nothing_more _ _ (AreMore c.args.detail c.args.limit c.args.base c.args.code.now c.args.labels.now c.args.fault)
-    (usual_more (ReportsOthers c.args.limit c.args.base c.args.code.now c.args.labels.now) c.args.base c.args.detail c.args.fault c.in-Usual.is)
-
-pub returns-in-Calls-clause-ok : goal.returns-in-Calls-clause-ok
-returns-in-Calls-clause-ok g c =
-    nothing_more _ _ (AreMore c.args.detail c.args.limit c.args.base c.args.code.now c.args.labels.now c.args.fault)
-    (calls_more (ReportsOthers c.args.limit c.args.base c.args.code.now c.args.labels.now) c.args.base c.args.detail c.args.fault c.in-Calls.is)
-
-pub returns-in-Object-clause-ok : goal.returns-in-Object-clause-ok
-returns-in-Object-clause-ok g c =
-    nothing_more _ _ (AreMore c.args.detail c.args.limit c.args.base c.args.code.now c.args.labels.now c.args.fault)
-    (object_more (ReportsOthers c.args.limit c.args.base c.args.code.now c.args.labels.now) c.args.base c.args.detail c.args.fault c.in-Object.is)
 
 pub returns-in_default-clause-ok : goal.returns-in_default-clause-ok
 returns-in_default-clause-ok g c =
-    nothing_more _ _ (AreMore c.args.detail c.args.limit c.args.base c.args.code.now c.args.labels.now c.args.fault)
-    (none_more (ReportsOthers c.args.limit c.args.base c.args.code.now c.args.labels.now) c.args.base c.args.detail c.args.fault c.in-All.is
-    (sym c.place_of.ensures ∙ c.in_default.is))
+    let judged = c.args.judged.now in
+    writes_none _ _ (TellsMore c.args.detail judged.limit judged.base judged.code.now c.args.fault)
+    (none_asked c.args.detail judged.limit judged.base judged.code.now c.args.fault (λ e. c.in_default.not-All e))
+
+pub returns-in_default-place_of-clause-ok : goal.returns-in_default-place_of-clause-ok
+returns-in_default-place_of-clause-ok g c =
+    let judged = c.args.judged.now in
+    writes_none _ _ (TellsMore c.args.detail judged.limit judged.base judged.code.now c.args.fault)
+    (none_placed c.args.detail judged.limit judged.base judged.code.now c.args.fault c.in-All.is
+    (sym c.place_of.ensures ∙ c.in_default-place_of.is))
+
+pub write_others-requires : goal.write_others-requires
+write_others-requires g c =
+    let judged = c.args.judged.now in
+    good_span judged.base judged.limit c.in-Some.at judged.code.now c.args.fault (sym c.place_of.ensures ∙ c.in-Some.is) c.requires
 
 pub returns-clause-ok : goal.returns-clause-ok
 returns-clause-ok g c =
-    let Others = ReportsOthers c.args.limit c.args.base c.args.code.now c.args.labels.now in
+    let judged = c.args.judged.now in
+    let code = judged.code.now in
     on_ok_weaker c.write_others.result
-    (λ w. writes_so _ _ _ _ (Others (c.in-Some.at - c.args.base))
-    (AreMore c.args.detail c.args.limit c.args.base c.args.code.now c.args.labels.now c.args.fault) w
-    (λ lines h. some_more Others c.args.base c.args.detail c.args.fault c.in-Some.at lines c.in-All.is
+    (writes_so _ _ _ _ (TellsOthers judged.limit judged.base code (c.in-Some.at - judged.base))
+    (TellsMore c.args.detail judged.limit judged.base code c.args.fault)
+    (λ text h. others_told c.args.detail judged.limit judged.base c.in-Some.at code c.args.fault text c.in-All.is
     (sym c.place_of.ensures ∙ c.in-Some.is) h))
     c.write_others.ensures.ok
 
 pub returns-clause-cut : goal.returns-clause-cut
 returns-clause-cut g c =
-    let Some-of = ReportsSome c.args.limit c.args.base c.args.code.now c.args.labels.now in
+    let judged = c.args.judged.now in
+    let code = judged.code.now in
     on_err_weaker c.write_others.result
-    (λ w. cuts_so _ _ _ (Some-of (c.in-Some.at - c.args.base))
-    (AreSomeMore c.args.detail c.args.limit c.args.base c.args.code.now c.args.labels.now c.args.fault) w
-    (λ lines h. some_more Some-of c.args.base c.args.detail c.args.fault c.in-Some.at lines c.in-All.is
-    (sym c.place_of.ensures ∙ c.in-Some.is) h))
+    (begun_after _ _ c.args.out.now.items (TellsOthers judged.limit judged.base code (c.in-Some.at - judged.base))
+    (TellsMore c.args.detail judged.limit judged.base code c.args.fault)
+    (λ text h. (
+      [],
+      subst (TellsMore c.args.detail judged.limit judged.base code c.args.fault) (sym (append-nil text))
+          (others_told c.args.detail judged.limit judged.base c.in-Some.at code c.args.fault text c.in-All.is (sym c.place_of.ensures ∙ c.in-Some.is) h),
+    )))
     c.write_others.ensures.cut

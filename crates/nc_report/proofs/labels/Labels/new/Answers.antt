@@ -1,10 +1,21 @@
-use Rattle.std.proofs.Common.{Bool, List, leb, rules, subst}
+use Rattle.std.proofs.Common.{◌≡◌, ◌+◌, Bool, true, false, List, [], ◌∷◌, leb, leb-true, leb-false, rules, sym, subst, arith}
 use Rattle.std.specs.Prelude.{MatchBool}
+use Rattle.std.specs.List.{IsAllAdjacentAnswer}
+use Rattle.std.proofs.lemmas.List.Sorted.{IsNonDecreasingBy-from_all_adjacent}
 use Rattle.std.proofs.lemmas.Fn.{always_returns_same}
 use Rattle.nc_report.specs.declared.labels.Label.{Label}
 use Rattle.nc_report.specs.Labels.{LabelsAscend}
-use Rattle.nc_report.proofs.NearestLabels.{ascending_by}
 use Rattle.nc_report.proofs.labels.Labels.new.Goals as goal
+
+-- whether each address and the next are in order tells whether all ascend
+ascending_by : (labels : List Label) (test : Bool) → IsAllAdjacentAnswer (λ (x y : Label) (b : Bool). b ≡ leb x.address y.address) labels test
+    → MatchBool test (LabelsAscend labels) (LabelsAscend labels → ⊥)
+ascending_by labels true h =
+    IsNonDecreasingBy-from_all_adjacent (λ (l : Label). l.address) labels (λ k d lt. leb-true _ _ (sym (h k d lt)))
+ascending_by [] false (k, lt, falls) = λ rises. absurd (omega (arith, lt))
+ascending_by (label ∷ labels) false (k, lt, falls) = λ rises.
+    let higher = leb-false _ _ (sym (falls label)) in
+    omega (arith, higher, rises k (k + 1) label (omega arith) lt)
 
 pub returns-then-not-is_sorted_by-clause-none : goal.returns-then-not-is_sorted_by-clause-none
 returns-then-not-is_sorted_by-clause-none c =

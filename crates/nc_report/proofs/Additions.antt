@@ -1,0 +1,171 @@
+-- Texts that are added one after the other, and prefixes of them that are written.
+use Rattle.std.proofs.Common.{◌≡◌, ℕ, Bool, true, List, [], ◌∷◌, ◌++◌, take, drop, refl, sym, subst, ◌∙◌, ap, append_assoc, append-nil, Option, inl, inr}
+use Rattle.std.specs.Prelude.{◌&&◌, ◌⊎◌}
+use Rattle.std.specs.List.{flat_map, list_all}
+use Rattle.std.specs.Io.KnownBytes.{Appends, Keeps}
+use Rattle.std.proofs.KnownBytes.{Appends-trans, Appends-nil, Appends-kept}
+use Rattle.std.proofs.lemmas.List.{take-append-drop}
+use Rattle.std.proofs.lemmas.List.Folds.{list_all-append}
+use Rattle.nc_vet.proofs.Offered.{flat_map-append}
+use Rattle.nc_report.specs.Shown.{is_shown, IsShown, detail_line, AreDetails}
+use Rattle.nc_report.specs.Report.{HasWritten, HasBegun}
+use Rattle.nc_report.specs.machinery.Added.{Adds, After, WritesOn}
+
+-- what two lists pass, both together pass
+all_both : {X : Type 0} (p : X → Bool) (a b : List X) → list_all p a ≡ true → list_all p b ≡ true → list_all p (a ++ b) ≡ true
+all_both p a b e f = list_all-append p a b ∙ ap (λ (x : Bool). x && list_all p b) e ∙ f
+
+-- text was added twice
+adds_both : (P Q R : List ℕ → Type 0) (old mid new : List ℕ) → ((a b : List ℕ) → P a → Q b → R (a ++ b)) → Adds old mid P → Adds mid new Q
+    → Adds old new R
+adds_both P Q R old mid new f a b = record {
+  text = a.text ++ b.text;
+  says = f a.text b.text a.says b.says;
+  added = b.added ∙ ap (λ (z : List ℕ). z ++ b.text) a.added ∙ append_assoc old a.text b.text;
+}
+
+-- nothing was added
+pub adds_none : (P : List ℕ → Type 0) (old : List ℕ) → P [] → Adds old old P
+adds_none P old p = record { text = []; says = p; added = sym (append-nil old) }
+
+-- shown text was added twice
+pub shown_both : (old mid new : List ℕ) → Adds old mid IsShown → Adds mid new IsShown → Adds old new IsShown
+shown_both old mid new = adds_both IsShown IsShown IsShown old mid new (all_both is_shown)
+
+-- no details
+pub no_details : AreDetails []
+no_details = record { lines = []; shown = refl; is = refl }
+
+-- details after others
+two_details : (a b : List ℕ) → AreDetails a → AreDetails b → AreDetails (a ++ b)
+two_details a b d e = record {
+  lines = d.lines ++ e.lines;
+  shown = all_both (list_all is_shown) d.lines e.lines d.shown e.shown;
+  is = ap (λ (z : List ℕ). z ++ b) d.is ∙ ap (λ (z : List ℕ). flat_map detail_line d.lines ++ z) e.is
+      ∙ sym (flat_map-append detail_line d.lines e.lines);
+}
+
+pub details_both : (old mid new : List ℕ) → Adds old mid AreDetails → Adds mid new AreDetails → Adds old new AreDetails
+details_both old mid new = adds_both AreDetails AreDetails AreDetails old mid new two_details
+
+-- a line
+pub line_details : (old start mid new : List ℕ) → start ≡ old ++ 32 ∷ 32 ∷ [] → Adds start mid IsShown → new ≡ mid ++ 10 ∷ []
+    → Adds old new AreDetails
+line_details old start mid new e a f = record {
+  text = detail_line a.text;
+  says = record {
+    lines = a.text ∷ [];
+    shown = ap (λ (b : Bool). b && true) a.says;
+    is = sym (append-nil (detail_line a.text));
+  };
+  added = f ∙ ap (λ (z : List ℕ). z ++ 10 ∷ []) (a.added ∙ ap (λ (z : List ℕ). z ++ a.text) e)
+      ∙ append_assoc (old ++ 32 ∷ 32 ∷ []) a.text (10 ∷ []) ∙ append_assoc old (32 ∷ 32 ∷ []) (a.text ++ 10 ∷ []);
+}
+
+-- nothing was added or written
+pub writes_none : (before : Option (List ℕ)) (out : List ℕ) (P : List ℕ → Type 0) → P [] → WritesOn before before out out P
+writes_none before out P p = record {
+  text = [];
+  says = p;
+  part = [];
+  written = Appends-nil before;
+  kept = sym (append-nil out);
+}
+
+-- what was added says what it has to
+pub writes_so : (before after : Option (List ℕ)) (old new : List ℕ) (P Q : List ℕ → Type 0) → ((text : List ℕ) → P text → Q text)
+    → WritesOn before after old new P → WritesOn before after old new Q
+writes_so before after old new P Q f w =
+    record { text = w.text; says = f w.text w.says; part = w.part; written = w.written; kept = w.kept }
+
+-- more text was added, and some of what is kept was written
+pub writes_more : (before mid after : Option (List ℕ)) (old out added new part : List ℕ) (P Q R : List ℕ → Type 0)
+    → ((a b : List ℕ) → P a → Q b → R (a ++ b)) → WritesOn before mid old out P → Adds out added Q → Appends mid after part
+    → part ++ new ≡ added → WritesOn before after old new R
+writes_more before mid after old out added new part P Q R f w a p e = record {
+  text = w.text ++ a.text;
+  says = f w.text a.text w.says a.says;
+  part = w.part ++ part;
+  written = Appends-trans before mid after w.part part w.written p;
+  kept = append_assoc w.part part new ∙ ap (λ (z : List ℕ). w.part ++ z) (e ∙ a.added)
+      ∙ sym (append_assoc w.part out a.text) ∙ ap (λ (z : List ℕ). z ++ a.text) w.kept ∙ append_assoc old w.text a.text;
+}
+
+-- what is written so far is a prefix, if the text can be completed
+pub cut_here : (before after : Option (List ℕ)) (old out : List ℕ) (P Q : List ℕ → Type 0)
+    → ((text : List ℕ) → P text → (more : List ℕ) × Q (text ++ more)) → WritesOn before after old out P → HasBegun (After old Q) before after
+cut_here before after old out P Q f w =
+    let (more, q) = f w.text w.says in
+    record {
+      part = w.part;
+      begins = inr (
+        out ++ more,
+        (
+          w.text ++ more,
+          q,
+          sym (append_assoc w.part out more) ∙ ap (λ (z : List ℕ). z ++ more) w.kept ∙ append_assoc old w.text more,
+        ),
+      );
+      written = w.written;
+    }
+
+-- so it is where some of what is kept was written
+pub cut_in : (before mid after : Option (List ℕ)) (old out added : List ℕ) (n : ℕ) (P Q R : List ℕ → Type 0)
+    → ((a b : List ℕ) → P a → Q b → (more : List ℕ) × R ((a ++ b) ++ more)) → WritesOn before mid old out P → Adds out added Q
+    → Appends mid after (take n added) → HasBegun (After old R) before after
+cut_in before mid after old out added n P Q R f w a p =
+    cut_here before after old (drop n added) (λ text. (more : List ℕ) × R (text ++ more)) R (λ text h. h)
+    (writes_more before mid after old out added (drop n added) (take n added) P Q (λ text. (more : List ℕ) × R (text ++ more)) f w a p
+    (take-append-drop n added))
+
+-- nothing was written
+pub begun_none : (P : List ℕ → Type 0) (before : Option (List ℕ)) → HasBegun P before before
+begun_none P before = record { part = []; begins = inl refl; written = Appends-nil before }
+
+-- a prefix of a text that can be completed to another one
+pub begun_so : (P Q : List ℕ → Type 0) (before after : Option (List ℕ)) → ((text : List ℕ) → P text → (more : List ℕ) × Q (text ++ more))
+    → HasBegun P before after → HasBegun Q before after
+begun_so P Q before after f h = record { part = h.part; begins = go h.begins; written = h.written }
+  where
+    go : (h.part ≡ []) ⊎ ((rest : List ℕ) × P (h.part ++ rest)) → (h.part ≡ []) ⊎ ((rest : List ℕ) × Q (h.part ++ rest))
+    go (inl e) = inl e
+    go (inr (rest, p)) =
+        let (more, q) = f (h.part ++ rest) p in
+        inr (rest ++ more, subst Q (append_assoc h.part rest more) q)
+
+-- a text that was added by itself is what was written of it
+pub begun_written : (P : List ℕ → Type 0) (before after : Option (List ℕ)) (text : List ℕ) (n : ℕ) → P text → Appends before after (take n text)
+    → HasBegun P before after
+begun_written P before after text n p w = record {
+  part = take n text;
+  begins = inr (drop n text, subst P (sym (take-append-drop n text)) p);
+  written = w;
+}
+
+-- a text is kept where the writer is only flushed
+pub written_kept : (P : List ℕ → Type 0) (before mid after : Option (List ℕ)) → Keeps mid after → HasWritten P before mid
+    → HasWritten P before after
+written_kept P before mid after k h = record {
+  text = h.text;
+  says = h.says;
+  written = Appends-kept before mid after h.text h.written k;
+}
+
+-- all of a text is a prefix of it
+pub begun_all : (P : Bool → List ℕ → Type 0) (refused : Bool) (before mid after : Option (List ℕ)) → Keeps mid after → HasWritten (P refused) before mid
+    → HasBegun (λ text. (refused : Bool) × P refused text) before after
+begun_all P refused before mid after k h = record {
+  part = h.text;
+  begins = inr ([], (refused, subst (P refused) (sym (append-nil h.text)) h.says));
+  written = Appends-kept before mid after h.text h.written k;
+}
+
+-- a prefix of text after other text, where the text can be completed
+pub begun_after : (before after : Option (List ℕ)) (old : List ℕ) (P Q : List ℕ → Type 0)
+    → ((text : List ℕ) → P text → (more : List ℕ) × Q (text ++ more)) → HasBegun (After old P) before after → HasBegun (After old Q) before after
+begun_after before after old P Q f = begun_so (After old P) (After old Q) before after (λ whole h. go whole h)
+  where
+    go : (whole : List ℕ) → After old P whole → (more : List ℕ) × After old Q (whole ++ more)
+    go whole (text, p, e) =
+        let (more, q) = f text p in
+        (more, (text ++ more, q, ap (λ (z : List ℕ). z ++ more) e ∙ append_assoc old text more))

@@ -1,0 +1,12 @@
+//! Code that is judged.
+
+use crate::labels::Labels;
+
+/// Code that is judged, with the address of its first byte, the end of its region, and names for its addresses.
+#[derive(Clone, Copy)]
+pub(crate) struct Judged<'a> {
+    pub base: u32,
+    pub limit: u32,
+    pub code: &'a [u8],
+    pub labels: &'a Labels,
+}
