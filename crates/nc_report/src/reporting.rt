@@ -24,7 +24,8 @@ fn tell_all<W: Write>(
 ) -> Result<bool, ReportFault>
     ensures ok { IfOk result (λ refused. HasWritten (Tells limit base detail source.name.items source.code.items refused)
         (W.contents writer.old) (W.contents writer.new)) }
-    ensures cut { OnErr result (HasBegun (λ text. (refused : Bool) × Tells limit base detail source.name.items source.code.items refused text)
+    ensures cut { OnErr result (HasBegun
+        (λ text. (refused : Bool) × Tells limit base detail source.name.items source.code.items refused text)
         (W.contents writer.old) (W.contents writer.new)) }
     ensures faults { IfErr result IsOfWriting }
 {
@@ -63,7 +64,8 @@ pub fn report<W: Write>(
 
     // Exactly the report on the source was written, and the result says whether the source is refused.
     ensures ok { IfOk result (λ refused. HasWritten
-        (Tells (limit_after bundles) base detail source.name.items source.code.items refused) (W.contents writer.old) (W.contents writer.new)) }
+        (Tells (limit_after bundles) base detail source.name.items source.code.items refused)
+        (W.contents writer.old) (W.contents writer.new)) }
 
     // If the writer fails or memory runs out, nothing was written, or a prefix of a report on the source.
     ensures write_failed { IsErrOf result ReportFault.WriteFailed → HasBegun

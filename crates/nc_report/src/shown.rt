@@ -8,18 +8,24 @@ ghost use Rattle.nc_report.specs.machinery.Added.{Adds};
 use crate::numbers::push_text;
 use std::alloc::AllocError;
 
-/// A byte that isn't a control byte. A control byte could end the line, or be a command to a terminal.
+/// A byte that isn't a control byte. A control byte could end the line, or be a command to a terminal. No branches, so that many
+/// bytes are tested at once.
+#[inline(always)]
 fn is_shown(byte: u8) -> bool
     ensures { result ≡ is_shown byte }
 {
-    byte >= 0x20 && byte != 0x7f
+    (byte >= 0x20) & (byte != 0x7f)
 }
 
 /// No byte of the text is a control byte.
 fn are_shown(text: &[u8]) -> bool
     ensures { result ≡ list_all is_shown text.now }
 {
-    text.iter().all(|byte| is_shown(*byte))
+    let mut all = true;
+    for byte in text {
+        all &= is_shown(*byte);
+    }
+    all
 }
 
 /// A byte as it is shown: a question mark in place of a control byte.

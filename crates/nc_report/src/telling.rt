@@ -222,7 +222,8 @@ pub(crate) fn tell<W: Write>(
 ) -> Result<bool, ReportFault>
     ensures ok { IfOk result (λ refused. HasWritten (Tells limit base detail source.name.items source.code.items refused)
         (W.contents writer.old) (W.contents writer.new)) }
-    ensures cut { OnErr result (HasBegun (λ text. (refused : Bool) × Tells limit base detail source.name.items source.code.items refused text)
+    ensures cut { OnErr result (HasBegun
+        (λ text. (refused : Bool) × Tells limit base detail source.name.items source.code.items refused text)
         (W.contents writer.old) (W.contents writer.new)) }
     ensures faults { IfErr result IsOfWriting }
 {
