@@ -7,7 +7,7 @@ use Rattle.nc_output.specs.Verdicts.{with_line_end}
 use Rattle.nc_report.specs.Objects.{escaped, file_member, string_member, file_object}
 
 -- a byte that stands for itself
-pub escaped_plain : (byte : ℕ) → byte ≢ 0x22 → byte ≢ 0x5C → 0x20 ≤ byte → byte < 0x7F → escaped byte ≡ byte ∷ []
+pub escaped_plain : (byte : ℕ) → byte ≢ 0x22 → byte ≢ 0x5C → 0x20 ≤ byte → byte ≢ 0x7F → escaped byte ≡ byte ∷ []
 escaped_plain byte quoted slashed low high = grind (arith, nat_tests)
 
 -- the bytes of a string, escaped

@@ -19,13 +19,13 @@ use nc_output::{Detail, fault_name, place_of};
 use nc_vet::VetFault;
 use std::alloc::{AllocError, Global};
 
-/// Adds a byte of a string, escaped where necessary.
+/// Adds a byte of a string, escaped if it is a quotation mark, a backslash or a control byte. So UTF-8 stays UTF-8.
 fn push_escaped(out: &mut Vec<u8>, byte: u8) -> Result<(), AllocError>
     ensures { OnOk result (out.new.items ≡ out.old.items ++ escaped byte) }
 {
     if byte == b'"' || byte == b'\\' {
         push_text(out, &[b'\\', byte])
-    } else if byte < 0x20 || byte >= 0x7f {
+    } else if byte < 0x20 || byte == 0x7f {
         push_all(out, &[b"\\u00", &byte_digits(byte)])
     } else {
         push_text(out, &[byte])

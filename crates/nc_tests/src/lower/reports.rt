@@ -55,11 +55,11 @@ static ROWS: [Row; 10] = [
         \x20 a return (ret): compile with nc-cc, or pop the address into a register, mask it, and jump through it: see docs/GUIDE.md\n"),
     (b"a", RETURN, &[(0xFFFF, b"\"\\\n\x7f\xc3\xa9")], Detail::Object, None, Ok(true),
         b"{\"file\":\"a\",\"address\":\"00010000\",\"verdict\":\"refused\",\"fault\":\"NotPermitted\",\"at\":\"00010000\",\
-        \"symbol\":\"\\\"\\\\\\u000a\\u007f\\u00c3\\u00a9+0x1\",\"meaning\":\
+        \"symbol\":\"\\\"\\\\\\u000a\\u007f\xc3\xa9+0x1\",\"meaning\":\
         \"a return (ret): compile with nc-cc, or pop the address into a register, mask it, and jump through it: see docs/GUIDE.md\"}\n"),
     // A name with each byte that JSON requires to be escaped, and an empty name.
     (b"a\"b\\c/\x00\x0a\x1f ~\x7f\x80\xc3\xa9\xff", NOPS, &[], Detail::Object, None, Ok(false),
-        b"{\"file\":\"a\\\"b\\\\c/\\u0000\\u000a\\u001f ~\\u007f\\u0080\\u00c3\\u00a9\\u00ff\",\"address\":\"00010000\",\
+        b"{\"file\":\"a\\\"b\\\\c/\\u0000\\u000a\\u001f ~\\u007f\x80\xc3\xa9\xff\",\"address\":\"00010000\",\
         \"verdict\":\"ok\",\"bytes\":64,\"instructions\":64}\n"),
     (b"", NOPS, &[], Detail::Object, None, Ok(false),
         b"{\"file\":\"\",\"address\":\"00010000\",\"verdict\":\"ok\",\"bytes\":64,\"instructions\":64}\n"),

@@ -3,9 +3,9 @@ use Rattle.std.proofs.lemmas.Result.{on_ok_weaker}
 use Rattle.nc_report.proofs.ObjectTexts.{escaped_plain}
 use Rattle.nc_report.proofs.objects.push_escaped.Goals as goal
 
-pub returns-else-byte-ge127 : goal.returns-else-byte-ge127
-returns-else-byte-ge127 c =
+pub returns-else-byte-eq127 : goal.returns-else-byte-eq127
+returns-else-byte-eq127 c =
     let plain = escaped_plain c.args.byte (omega arith) (omega arith) (omega arith) (omega arith) in
-    on_ok_weaker c.push_text-else-byte-ge127.result
+    on_ok_weaker c.push_text-else-byte-eq127.result
     (λ e. e ∙ ap (λ (z : List ℕ). c.args.out.now.items ++ z) (sym plain))
-    c.push_text-else-byte-ge127.ensures
+    c.push_text-else-byte-eq127.ensures
