@@ -5,7 +5,7 @@ use crate::parts::{Part, parts_of};
 use nc_command::CheckAsk;
 use nc_elf::{ElfFault, is_elf};
 use nc_output::{Detail, write_out};
-use nc_report::{ReportFault, Source, push_file_object, report};
+use nc_report::{ReportFault, Source, is_hexadecimal, push_file_object, report};
 use std::alloc::{AllocError, Global};
 use std::io::{Input, Write};
 use std::rt::Files;
@@ -120,6 +120,34 @@ fn judge_elf<W: Write>(
     }
 }
 
+/// What is said about an accepted file of hexadecimal text, whose characters were judged.
+const NOTE: &[u8] =
+    b"  this is hexadecimal text: its characters were judged, and not the bytes that they spell; turn it into bytes with xxd -r -p\n";
+
+/// Whether more than the verdict is written about an accepted file, in lines of text.
+fn has_lines(detail: Detail) -> bool {
+    match detail {
+        Detail::Brief | Detail::Object => false,
+        Detail::Usual | Detail::All | Detail::Calls => true,
+    }
+}
+
+/// Judges raw code, and writes the report on it, with a note on an accepted file of hexadecimal text. Returns whether it was refused.
+fn judge_raw<W: Write>(
+    alloc: Global,
+    ask: &CheckAsk<'_>,
+    source: Source,
+    writer: &mut W,
+) -> Result<bool, Unjudged> {
+    let base = ask.base;
+    let is_noted = has_lines(ask.detail) && is_hexadecimal(source.code.as_slice());
+    let is_refused = judge_part(alloc, ask, Part { base, source }, writer)?;
+    if is_noted && !is_refused && write_out(writer, NOTE).is_err() {
+        return Err(Unjudged::WriteFailed);
+    }
+    Ok(is_refused)
+}
+
 /// Judges the code of a file, and writes the report on it. Returns whether any of it was refused.
 fn judge_source<W: Write>(
     alloc: Global,
@@ -129,8 +157,7 @@ fn judge_source<W: Write>(
     writer: &mut W,
 ) -> Result<bool, Unjudged> {
     if ask.raw || !is_elf(source.code.as_slice()) {
-        let base = ask.base;
-        judge_part(alloc, ask, Part { base, source }, writer)
+        judge_raw(alloc, ask, source, writer)
     } else {
         judge_elf(alloc, ask, file, &source, writer)
     }

@@ -2,10 +2,13 @@
 
 ghost use Rattle.std.specs.Prelude.{◌≤◌, length};
 
+use crate::forms::form_words;
+use crate::judged::Judged;
 use crate::kind::Kind;
 use crate::words::*;
-use nc_decode::BUNDLE;
+use nc_decode::{BUNDLE, MAX_BUNDLES, START};
 use nc_vet::VetFault;
+use std::alloc::{AllocError, Global};
 
 /// The kind of bytes whose first three, as one big-endian number of 24 bits, masked with `mask` are `key`.
 #[derive(Clone, Copy)]
@@ -206,61 +209,42 @@ fn meaning(fault: VetFault, bytes: &[u8]) -> &'static [u8] {
     }
 }
 
-/// The code begins as an ELF file does.
-fn is_elf(code: &[u8]) -> bool {
-    key_of(code) == 0x7F_45_4C && byte_at(code, 3) == 0x46
-}
-
-/// The code begins as an archive made by `ar` does.
-fn is_archive(code: &[u8]) -> bool {
-    code.starts_with(b"!<arch>\n")
-}
-
-/// A printable character.
-fn is_printable(byte: u8) -> bool {
-    byte >= 0x20 && byte < 0x7F
-}
-
-/// A tab, or the end of a line.
-fn is_blank(byte: u8) -> bool {
-    byte == b'\t' || byte == b'\n' || byte == b'\r'
-}
-
-/// A byte of ASCII text: a printable character, a tab, or the end of a line.
-fn is_of_text(byte: u8) -> bool {
-    is_printable(byte) || is_blank(byte)
-}
-
-/// Each of these bytes is a byte of text.
-fn are_of_text(bytes: &[u8]) -> bool {
-    bytes.iter().all(|byte| is_of_text(*byte))
-}
-
-/// The first 32 bytes, or all if there are fewer.
-fn first_bundle(code: &[u8]) -> &[u8] {
-    if code.len() < BUNDLE as usize {
-        return code;
+/// The number of bundles of the smallest region that has room for the code and its guard, if there is one.
+fn enough_bundles(judged: &Judged<'_>) -> Option<u64> {
+    let end = u64::from(judged.base).saturating_add(judged.code.len() as u64);
+    let count = end
+        .saturating_sub(u64::from(START))
+        .div_ceil(u64::from(BUNDLE))
+        + 1;
+    if count <= u64::from(MAX_BUNDLES) {
+        Some(count)
+    } else {
+        None
     }
-    &code[..BUNDLE as usize]
 }
 
-/// There is code, and its first 32 bytes, or all if there are fewer, are text.
-fn is_text(code: &[u8]) -> bool {
-    code.len() > 0 && are_of_text(first_bundle(code))
+/// The words about a fault that has no place.
+pub(crate) fn words_without_place(
+    alloc: Global,
+    judged: &Judged<'_>,
+    fault: VetFault,
+) -> Result<Vec<u8>, AllocError> {
+    let mut words = Vec::from_slice(alloc, words_about(judged.code, fault, 0))?;
+    if fault == VetFault::OutOfRange && form_words(judged.code).is_none() {
+        if let Some(count) = enough_bundles(judged) {
+            let more = format!(in alloc; ", or give --bundles of at least {count}")?;
+            words.extend_from_slice(more.as_bytes())?;
+        }
+    }
+    Ok(words)
 }
 
 /// The words about a fault at a place of the code, 0 if it has none.
 pub(crate) fn words_about(code: &[u8], fault: VetFault, place: usize) -> &'static [u8]
     requires { place ≤ length code.now }
 {
-    if is_elf(code) {
-        return ELF_FILE;
+    match form_words(code) {
+        Some(words) => words,
+        None => meaning(fault, &code[place..]),
     }
-    if is_archive(code) {
-        return ARCHIVE;
-    }
-    if is_text(code) {
-        return TEXT;
-    }
-    meaning(fault, &code[place..])
 }

@@ -22,6 +22,7 @@ mod counting;
 mod explaining;
 mod fault;
 mod finding;
+mod forms;
 mod further;
 mod judged;
 mod kind;
@@ -45,6 +46,7 @@ mod totals;
 mod words;
 
 pub use fault::{ReportFault, SourceFault};
+pub use forms::is_hexadecimal;
 pub use labels::{Label, Labels};
 pub use law::law_of_readings;
 pub use objects::push_file_object;

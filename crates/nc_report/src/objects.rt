@@ -9,7 +9,7 @@ ghost use Rattle.nc_report.specs.Report.{TellsFault};
 ghost use Rattle.nc_report.specs.machinery.Added.{Adds};
 ghost use Rattle.nc_report.specs.machinery.Found.{IsPlaced};
 
-use crate::advice::words_about;
+use crate::advice::{words_about, words_without_place};
 use crate::explaining::offset_words;
 use crate::judged::Judged;
 use crate::labels::Labels;
@@ -128,7 +128,8 @@ fn shown_members(alloc: Global, judged: &Judged<'_>, fault: VetFault) -> Result<
 {
     let mut members = Vec::new(alloc);
     let Some(at) = place_of(fault) else {
-        push_meaning(&mut members, words_about(judged.code, fault, 0))?;
+        let words = words_without_place(alloc, judged, fault)?;
+        push_meaning(&mut members, &words)?;
         return Ok(members);
     };
     push_symbol(&mut members, judged.labels, at)?;

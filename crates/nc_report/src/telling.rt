@@ -10,7 +10,7 @@ ghost use Rattle.nc_report.specs.Report.{HasWritten, HasBegun};
 ghost use Rattle.nc_report.specs.machinery.Added.{Adds, After, WritesOn, IsOfWriting};
 ghost use Rattle.nc_report.specs.machinery.Found.{IsPlaced, AddsAccepted};
 
-use crate::advice::words_about;
+use crate::advice::words_without_place;
 use crate::counting::count_instructions;
 use crate::explaining::push_finding;
 use crate::fault::ReportFault;
@@ -110,7 +110,8 @@ fn push_explained(out: &mut Vec<u8>, judged: &Judged<'_>, fault: VetFault) -> Re
     ensures { OnOk result (Adds out.old.items out.new.items AreDetails) }
 {
     let Some(at) = place_of(fault) else {
-        return push_detail(out, &[words_about(judged.code, fault, 0)]);
+        let words = words_without_place(*out.allocator(), judged, fault)?;
+        return push_detail(out, &[&words]);
     };
     let place = (at - judged.base) as usize;
     let finding = own_finding(*out.allocator(), judged, fault, place)?;

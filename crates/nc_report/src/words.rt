@@ -13,6 +13,19 @@ pub(crate) const ARCHIVE: &[u8] =
 /// The code begins as a text does.
 pub(crate) const TEXT: &[u8] =
     b"this is text, not code: compile or assemble it with nc-cc, and judge the linked file";
+/// The code begins as a module of WebAssembly does.
+pub(crate) const WEB_ASSEMBLY: &[u8] =
+    b"this is WebAssembly, not x86 code: compile its source with nc-cc";
+/// The code begins as a file compressed by gzip does.
+pub(crate) const GZIP: &[u8] =
+    b"this is compressed, not code: decompress it with gzip -d, and judge what comes out";
+/// The code begins as a Mach-O file does.
+pub(crate) const MACH_O: &[u8] = b"this is a Mach-O file, for macOS: compile its source with nc-cc";
+/// The code is a PE file.
+pub(crate) const WINDOWS: &[u8] = b"this is a PE file, for Windows: compile its source with nc-cc";
+/// The code is hexadecimal text.
+pub(crate) const HEXADECIMAL: &[u8] =
+    b"this is hexadecimal text, not code: turn it into bytes with xxd -r -p, and judge these";
 /// There is no code.
 pub(crate) const EMPTY_FILE: &[u8] =
     b"the file is empty: a chunk has at least one bundle of 32 bytes";
@@ -24,7 +37,7 @@ pub(crate) const BAD_LENGTH: &[u8] =
     b"the code is not whole bundles of 32 bytes: link it with nc-cc or chunk.ld, or fill the last bundle with 90 (nop)";
 /// The code doesn't fit into the region.
 pub(crate) const OUT_OF_RANGE: &[u8] =
-    b"the code reaches the region's last bundle, the guard: link it lower (nc-cc --base), or give --bundles of at least (base + length - 0x10000) / 32 + 1, at most 2097152";
+    b"the code reaches the region's last bundle, the guard, or beyond: link it lower (nc-cc --base)";
 /// An instruction is cut by the end of its bundle.
 pub(crate) const CROSSES: &[u8] =
     b"an instruction crosses the end of its bundle: put the code in bundles with nc-cc or .bundle_align_mode 5, or add nops before it";
