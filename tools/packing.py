@@ -82,8 +82,8 @@ FILES = [
 ]
 
 # Folders and files of the repository that pages name and that aren't installed, and what stands before their names on an installed page.
-ELSEWHERE = [".ci/", "bench/", "bindings/", "crates/", "examples/mapped/", "packaging/", "sandbox/", "tests/", "tools/"] + [
-    "examples/compile/" + name for name in ("build", "host.s", "instructions.txt", "nc-cc", "nc-c++", "to-bundles")]
+ELSEWHERE = [".ci/", "bench/", "bindings/", "crates/", "examples/mapped/", "examples/ports/", "packaging/", "sandbox/", "tests/",
+             "tools/"] + ["examples/compile/" + name for name in ("build", "host.s", "instructions.txt", "nc-cc", "nc-c++", "to-bundles")]
 ONLY_THERE = "Named on this page, and only in the source repository: "
 
 # Templates of packaging/, and where they go.

@@ -1,10 +1,12 @@
 """Builds the C library musl for the sandbox, by nc-cc: what the scripts `build` of this folder and of examples/boxes share."""
 
 import glob
+import hashlib
 import os
 import shutil
 import subprocess
 import sys
+import tarfile
 from typing import NamedTuple
 
 HERE = os.path.dirname(os.path.abspath(__file__))
@@ -54,6 +56,18 @@ def found(sources, patterns):
     return places[-1]
 
 
+def unpack(path, wanted, place):
+    """The files of an archive, which has to have its SHA-256. Its links are left out: rt refuses a repository with links in it."""
+    if not os.path.exists(path):
+        raise Fault("there is no %s: `build --help` says what to get" % path)
+    with open(path, "rb") as file:
+        if hashlib.sha256(file.read()).hexdigest() != wanted:
+            raise Fault("%s hasn't the SHA-256 %s" % (path, wanted))
+    with tarfile.open(path) as archive:
+        files = [entry for entry in archive if not entry.issym()]
+        archive.extractall(place, files, **({"filter": "data"} if hasattr(tarfile, "data_filter") else {}))
+
+
 def sources_of(name, sources):
     """The folder of a library, and its sources."""
     library = LIBRARIES[name]
@@ -72,6 +86,14 @@ def run(words, cc="gcc", **more):
     if done.returncode:
         raise Fault("%s ended with status %d: %s" % (" ".join(words[:6]), done.returncode, done.stderr.strip()[-400:]))
     return done.stdout
+
+
+def time_of(words):
+    """The time of a processor that a program takes, in milliseconds."""
+    started = subprocess.Popen(words, stdout=subprocess.DEVNULL)
+    _, status, used = os.wait4(started.pid, 0)
+    started.returncode = status
+    return 1000 * (used.ru_utime + used.ru_stime)
 
 
 def nc_cc(words, cc, **more):

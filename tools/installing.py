@@ -1,0 +1,56 @@
+"""What the scripts share that run programs with the C library of `tools/install --musl`."""
+
+import os
+import subprocess
+import sys
+
+from boxes import SYSTEM_LACKS
+from examples import TOP
+from executing import missing
+
+SOURCES = os.path.join(TOP, "out", "sources")
+ARCHIVE = os.path.join(SOURCES, "musl_1.2.3.orig.tar.gz")
+HELLO = os.path.join(TOP, "tests", "musl", "hello.c")
+SECONDS = 120
+
+
+def run(words, folder, **more):
+    return subprocess.run(words, **{"cwd": folder, "capture_output": True, "timeout": SECONDS, **more})
+
+
+def made(words, folder, env=None):
+    """Does what has to succeed, and prints nothing as an error."""
+    done = run(words, folder, env=env)
+    if done.returncode or done.stderr:
+        sys.exit("%s: status %d: %s" % (" ".join(words), done.returncode, done.stderr.decode(errors="replace")[-2000:]))
+
+
+def ended(words, folder, given=b""):
+    """What a program prints, and its status as a shell counts it."""
+    done = run(words, folder, input=given)
+    return done.stdout, done.stderr, done.returncode if done.returncode >= 0 else 128 - done.returncode
+
+
+def lacking(archive=ARCHIVE):
+    """What isn't there without which nothing can be installed, or None."""
+    return missing() or (None if os.path.exists(archive) else archive)
+
+
+def installed(folder, archive=ARCHIVE):
+    """The path below which everything is installed with the C library."""
+    prefix = os.path.join(folder, "prefix")
+    done = subprocess.run([os.path.join(TOP, "tools", "install"), prefix, "--musl", archive], capture_output=True, text=True)
+    if done.returncode:
+        sys.exit("tools/install: status %d: %s" % (done.returncode, done.stderr[-2000:]))
+    return prefix
+
+
+def no_boxes(prefix, folder):
+    """What the system lacks without which nc-run runs nothing, or None. The first program that anybody writes has to run."""
+    made([os.path.join(prefix, "bin/nc-cc"), HELLO, "-o", "hello"], folder)
+    got = ended([os.path.join(prefix, "bin/nc-run"), "hello"], folder)
+    if got[2] == SYSTEM_LACKS:
+        return got[1].decode(errors="replace").strip()
+    if got != (b"hello, world\n", b"", 0):
+        sys.exit("hello: %s" % (got,))
+    return None
