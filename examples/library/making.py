@@ -57,7 +57,7 @@ def found(sources, patterns):
 
 
 def unpack(path, wanted, place):
-    """The files of an archive, which has to have its SHA-256. Its links are left out: rt refuses a repository with links in it."""
+    """The files of an archive, which has to have its SHA-256. Its symbolic links are left out: rt refuses a repository with them."""
     if not os.path.exists(path):
         raise Fault("there is no %s: `build --help` says what to get" % path)
     with open(path, "rb") as file:

@@ -24,7 +24,7 @@ static const char SCRIPT[] =
     "see(1e15, 2 ^ 53, tonumber('0x1p4'), tonumber('1e1'), 10 / 2, 0.1 + 0.2, 1e-310 / 3, load('return 1 +'), load('return 6 * 7')())\n"
     "see(string.pack('>I3d', 5, 0.1):byte(1, -1))\n"
     "for k = 1, 300 do local text = ('%d:%s'):format(k, ('ab'):rep(k % 7)) list[text] = #text end\n"
-    "collectgarbage() see(utf8.char(233, 8364), utf8.len('\\u{e9}x'), os.time({year = 2020, month = 1, day = 1, hour = 12}) % 3600)\n"
+    "collectgarbage() see(utf8.char(233, 8364), utf8.len('\\u{e9}x'), os.date('!%c', 1e9))\n"
     "return table.concat(seen, ' ')\n";
 
 /* What the script gives in a state of its own, as a checksum behind others. */

@@ -56,7 +56,7 @@ PORTS = {
     # Without __native_client__ it has xgetbv, which is refused.
     "webp": Port(
         "libwebp_1.2.4.orig.tar.gz", "7bf5a8a28cc69bcfa8cb214f2c3095703c6b73ac5fba4d5480c205331d9494df",
-        "src/dec/*.c src/enc/*.c src/dsp/*.c src/utils/*.c sharpyuv/*.c", headers=". src", flags="-D__native_client__"),
+        "src/dec/*.c src/enc/*.c src/dsp/*.c src/utils/*.c sharpyuv/*.c", headers=". src", flags="-DHAVE_CONFIG_H -D__native_client__"),
     "opus": Port(
         "opus_1.3.1.orig.tar.gz", "65b58e1e25b2a114157014736a3d9dfeaad8d41be1c8179866f144a2fb44ff9d",
         "src/*.c celt/*.c silk/*.c silk/fixed/*.c", "opus_compare.c opus_demo.c repacketizer_demo.c opus_custom_demo.c",

@@ -3,7 +3,6 @@
 #include <string.h>
 
 #include "port.h"
-#include "src/dsp/dsp.h"
 #include "webp/decode.h"
 #include "webp/encode.h"
 
@@ -53,7 +52,6 @@ static unsigned work(unsigned sum, int lossless, float quality, int method) {
 
 int main(int argc, char **argv) {
     unsigned sum = 0;
-    VP8GetCPUInfo = NULL; /* the functions in C, and none with vector instructions */
     make_picture();
     for (int k = rounds_of(argc, argv); k > 0; k--) {
         sum = work(sum, 0, 75, 4);
