@@ -4,9 +4,10 @@ import functools
 import pathlib
 import re
 
+import specs
+
 HEADER = pathlib.Path("include/nc_host.h")
 CRATES = pathlib.Path("crates")
-PAGE = pathlib.Path("docs/DEFINITIONS.md")
 
 COMMENT = re.compile(r"/\*[^*]*\*+(?:[^/*][^*]*\*+)*/")
 OTHER_LINES = re.compile(r"^#(?:.*\\\n)*.*$|^extern \"C\" \{$|^\}$", re.M)
@@ -183,12 +184,12 @@ UNWRITTEN = {"UnmarkSpan", "Look"}
 
 
 class Crates:
-    """The exported functions with their contracts, the structs of C, the numbers with their places, and the definitions explained."""
+    """The exported functions with their contracts, the structs of C, the numbers with their places, and the definitions with a comment."""
 
     def __init__(self):
         self.calls, self.structs, self.unread = {}, {}, []
         self.numbers = {"NC_OK": {0: "each contract"}}
-        self.definitions = set(re.findall(r"^- `(\w+)", PAGE.read_text(encoding="utf-8"), re.M))
+        self.definitions = commented()
         for path in sorted(CRATES.glob("*/src/**/*.rt")):
             text = path.read_text(encoding="utf-8")
             self.read_functions(path, text)
@@ -227,6 +228,12 @@ class Crates:
                 self.add("VERSION_" + part, value >> shift & 0xFF, path)
             return
         self.numbers.setdefault(prefix + OTHER_NAMES.get(name, name), {}).setdefault(value, str(path))
+
+
+def commented():
+    """The names of all definitions that have a comment above them."""
+    files = [specs.File(*specs.in_crate(source)) for source in specs.sources()]
+    return {name for file in files for name, comment in file.comments.items() if comment}
 
 
 def snake(name):

@@ -8,6 +8,7 @@ from string import Template
 
 from building import DEFAULT, boxes, libraries, program
 from examples import TOP
+from explaining import all_definitions
 from manual import pages
 from placing import File, Link
 
@@ -181,6 +182,7 @@ def tree(cpu=DEFAULT, anew=False):
     made = {}
     for path, to in FILES:
         made.update(copied(path, to))
+    made[DOC + "docs/DEFINITIONS-ALL.md"] = File(all_definitions().encode(), 0o644)
     for path in [path for path in made if path.endswith(".md")]:
         made[path] = File(as_installed(made[path].content.decode(), path, made).encode(), made[path].mode)
     for template, to in TEMPLATES:

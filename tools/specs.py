@@ -4,6 +4,8 @@ import pathlib
 import re
 import sys
 
+TOP = pathlib.Path(__file__).resolve().parent.parent
+CRATES = TOP / "crates"
 STANDS_FOR = {("nc_decode", "specs/machinery/Reading.antt", "reading"): ("nc_decode", "specs/Front.antt", "IsExact")}
 # A definition that is only a premise, with the files whose public functions are each proved to meet it, and the clauses that say so. (The
 # other clauses of these functions say what else their bodies do.)
@@ -25,6 +27,7 @@ LABEL = re.compile(r"(?<=[{;])\s*\w+ =(?= )")
 BOUND = re.compile(r"\(([^():]*) :")
 EQUATION = re.compile(r"^[A-Za-z_][\w']* ([^=:]+) =", re.M)
 NAME = re.compile(r"[a-z_][\w']*")
+PUBLIC = r"^(?:abbrev |unfoldable )?pub (?:record |data )?%s "
 
 
 def counted(lines):
@@ -34,11 +37,11 @@ def counted(lines):
 
 
 class File:
-    """The definitions of one file, by name, with the comment above each; the comment at its head; and what it imports."""
+    """The definitions of one file, by name, with the comment above each and its place; the comment at its head; and what it imports."""
 
-    def __init__(self, crate, path):
-        text = pathlib.Path("crates", crate, path).read_text(encoding="utf-8")
-        self.crate, self.path, self.parts, self.owner, self.comments = crate, path, {}, {}, {}
+    def __init__(self, crate, path, text=None):
+        text = (CRATES / crate / path).read_text(encoding="utf-8") if text is None else text
+        self.crate, self.path, self.parts, self.owner, self.comments, self.places = crate, path, {}, {}, {}, {}
         self.about = " ".join(line.strip("- ") for line in re.match(r"(--.*\n)*", text).group().splitlines())
         (self.cut_types if path.startswith("src/") else self.cut_definitions)(text)
         self.imports, self.modules = {}, {}
@@ -53,22 +56,23 @@ class File:
     def cut_definitions(self, text):
         """Finds each definition, with the constructors of a data type as names of it."""
         name, above = None, []
-        for raw in text.split("\n"):
+        for number, raw in enumerate(text.split("\n"), 1):
             if raw.startswith("--"):
                 above.append(raw.strip("- "))
                 continue
             for line in counted([raw]):
-                name = self.cut_line(line, name, above)
+                name = self.cut_line(line, name, above, number)
             above = []
 
-    def cut_line(self, line, name, above):
-        """The name of the definition that a line is of, after the one of the line before, with the comment above it."""
+    def cut_line(self, line, name, above, number):
+        """The name of the definition that a line is of, after the one of the line before, with the comment above it and its place."""
         head = START.match(line)
         if re.match(r"(use|pub use|pub mod|module|infix)", line):
             return None if line.startswith("module") else name
         if head and (re.match(r"(abbrev|unfoldable|pub|record|data) ", line) or head.group(2) not in self.parts):
             name, self.constructors = head.group(2), head.group(1) == "data"
             self.parts[name], self.owner[name], self.comments[name] = [], name, " ".join(above)
+            self.places[name] = number
         elif name and self.constructors and re.match(r"^  \w+ :", line):
             self.owner[line.split()[0]] = name
         if name:
@@ -119,6 +123,22 @@ def place_of(crate, module):
     return "src/" + declared.group(1).replace(".", "/") + ".rt", None if declared.group(2) == "TheConstants" else declared.group(2)
 
 
+def sources():
+    """Each file with definitions."""
+    return sorted(CRATES.glob("nc_*/specs/**/*.antt"))
+
+
+def crates_in_order():
+    """The names of the crates, from the lowest one up."""
+    return [line.split(":")[0].split()[0] for line in (TOP / "crates.txt").read_text(encoding="utf-8").splitlines()]
+
+
+def in_crate(source):
+    """The crate of a file, and its path in the crate."""
+    crate, *path = source.relative_to(CRATES).parts
+    return crate, "/".join(path)
+
+
 class Files:
     """Files of the crates, each read once."""
 
@@ -156,7 +176,7 @@ class Definitions(Files):
 
     def clauses(self, crate, path, names):
         """The definitions that the clauses of these names, the conditions and the types of a file's public functions name."""
-        text = pathlib.Path("crates", crate, path).read_text(encoding="utf-8")
+        text = (CRATES / crate / path).read_text(encoding="utf-8")
         found = re.findall(r'^pub (?:extern "C" )?fn .*?^{', text, re.M | re.S)
         parts = [part for function in found for part in re.split(r"^(?=    ensures )", function, flags=re.M)]
         kept = [part for part in parts if not part.startswith("    ensures ") or part.split()[1] in names]
@@ -164,16 +184,14 @@ class Definitions(Files):
 
     def law(self, name):
         """The definitions that the clauses of a public function name, or None if there is no such function."""
-        for source in sorted(pathlib.Path("crates").glob("nc_*/src/**/*.rt")):
+        for source in sorted(CRATES.glob("nc_*/src/**/*.rt")):
             clauses = re.search(rf'^pub (?:extern "C" )?fn {name}\(.*?^{{', source.read_text(encoding="utf-8"), re.M | re.S)
             if clauses:
-                file = self.file(source.parts[1], "/".join(source.parts[2:]))
+                file = self.file(*in_crate(source))
                 return file.names(counted(clauses.group().split("\n")))
         return None
 
     def definition(self, name):
-        """The public definition of this name."""
-        for source in sorted(pathlib.Path("crates").glob("nc_*/specs/**/*.antt")):
-            if re.search(rf"^(?:abbrev |unfoldable )?pub (?:record |data )?{name} ", source.read_text(encoding="utf-8"), re.M):
-                return [(source.parts[1], "/".join(source.parts[2:]), name)]
-        sys.exit(f"no public function and no definition {name} in crates/nc_*")
+        """The public definitions of this name."""
+        found = [(*in_crate(source), name) for source in sources() if re.search(PUBLIC % name, source.read_text(encoding="utf-8"), re.M)]
+        return found or sys.exit(f"no public function and no definition {name} in crates/nc_*")
