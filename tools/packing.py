@@ -58,6 +58,7 @@ FILES = [
     ("README.md", DOC + "README.md"),
     ("SECURITY.md", DOC + "SECURITY.md"),
     ("CHANGELOG.md", DOC + "CHANGELOG.md"),
+    ("CONTRIBUTING.md", DOC + "CONTRIBUTING.md"),
     ("VERSION", DOC + "VERSION"),
     ("docs", DOC + "docs"),
     ("docs/charts", DOC + "docs/charts"),
