@@ -5,7 +5,11 @@ from .tools import is_clang
 FREESTANDING = "-ffreestanding"
 DEFAULTS = ["-fno-pic", "-fno-pie", "-fno-jump-tables", "-fno-asynchronous-unwind-tables"]
 DEFAULTS_CXX = ["-fno-exceptions", "-fno-rtti", "-fno-threadsafe-statics", "-fno-use-cxa-atexit"]
-NEEDED = ["-m32", "-march=i686", "-mno-sse", "-mno-mmx", "-mlong-double-64", "-fcf-protection=none", "-fno-stack-protector"]
+# Conventions by which a return keeps %ecx, or has a part of the result there. A rewritten return goes by %ecx, so functions have the usual
+# convention instead. The attribute that stands for theirs does nothing.
+CONVENTIONS = ["no_caller_saved_registers", "preserve_most", "preserve_all", "regcall", "swiftcall"]
+NO_CONVENTIONS = [*("-D%s=__unused__" % form for name in CONVENTIONS for form in (name, "__%s__" % name)), "-D__regcall="]
+NEEDED = ["-m32", "-march=i686", "-mno-sse", "-mno-mmx", "-mlong-double-64", "-fcf-protection=none", "-fno-stack-protector", *NO_CONVENTIONS]
 NEEDED_GCC = ["-mno-80387", "-msoft-float", "-fno-ipa-ra", "-mindirect-branch-register"]
 # clang's driver does nothing on -msoft-float; with -mno-80387 clang 14 has no `long double`, and fails where a `double` becomes a `long long`.
 # With the two features clang calls by a register that has no argument, and never through memory: see bundling/thunks.py.
