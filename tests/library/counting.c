@@ -1,4 +1,4 @@
-/* The library's calls of malloc, realloc and free, which tools/try-library links to these by --wrap: they are counted, and a test can have
+/* The library's calls of malloc, realloc and free, which tools/try/library links to these by --wrap: they are counted, and a test can have
    allocations refused, or one of them held up. */
 #include <sched.h>
 #include <stdatomic.h>

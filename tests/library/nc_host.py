@@ -1,6 +1,6 @@
 """The library nc_host for tests in Python: the calls of include/nc_host.h by ctypes, with their names and numbers.
 
-The environment variable NC_HOST names the shared library, which `tools/try-library` makes, with places.c, counting.c and depth.c in it.
+The environment variable NC_HOST names the shared library, which `tools/try/library` makes, with places.c, counting.c and depth.c in it.
 A call answers with a named tuple that has the fields of its struct in C; one that writes into a buffer has the list of what was written in
 place of `count`.
 """

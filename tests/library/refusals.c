@@ -1,7 +1,7 @@
 /*
  * The library's calls that take memory, and others that take none, each made once: refusals [CALL].
  *
- * The line `call` is written directly before a call and the line `answer` directly after it: tools/refuse-growths refuses allocations
+ * The line `call` is written directly before a call and the line `answer` directly after it: tools/try/refused-growths refuses allocations
  * between these two lines. Then come the fault and what stands after the call. A call that lacked memory is made once more, with ample
  * memory, and has to leave what it leaves otherwise. Without CALL each call is made in turn; tests/refusals/ample.txt is what is printed
  * then.
@@ -345,7 +345,7 @@ static void prepare(const Call *call) {
     need(stand < SEATS || (seat() == NC_OK && nc_region_seat(&region, &seats[1]) == NC_OK));
 }
 
-/* Writes at once, past the buffer in which all else that is printed waits: tools/refuse.c counts these lines. */
+/* Writes at once, past the buffer in which all else that is printed waits: tools/sources/refuse.c counts these lines. */
 static void write_line(const char *words) {
     char line[32];
     int size = snprintf(line, sizeof line, "%s\n", words);

@@ -10,7 +10,7 @@ import unittest
 
 import nc_host as nc
 
-sys.path.insert(0, os.path.join(os.path.dirname(os.path.abspath(__file__)), "..", "..", "tools"))
+sys.path.insert(0, os.path.join(os.path.dirname(os.path.abspath(__file__)), "..", "..", "tools", "lib"))
 import elf_changes  # noqa: E402
 import elf_files  # noqa: E402
 from elf_files import CODE, NOPS, R, W, X, elf, segment  # noqa: E402
@@ -20,7 +20,7 @@ UNTOUCHED = nc.Segment.made([0xFFFFFFFF] * 5)
 # What readelf prints of a segment: type, offset, addresses, lengths, flags.
 LISTED = re.compile(r"^  LOAD +(0x\w+) (0x\w+) 0x\w+ (0x\w+) (0x\w+) (R| )(W| )(E| ) ", re.M)
 
-# The faults, by the words that tools/elf_files.py and tools/elf_changes.py have for them; those of a segment follow its number.
+# The faults, by the words that tools/lib/elf_files.py and tools/lib/elf_changes.py have for them; those of a segment follow its number.
 NAMED = {
     "the file ends in its ELF header": nc.ELF_SHORT_HEADER,
     elf_files.WIDE: nc.ELF_64_BITS,
@@ -73,7 +73,7 @@ def fault_of(words):
 
 
 def changed(at, digits):
-    """The file of tools/elf_changes.py with other bytes from a place on."""
+    """The file of tools/lib/elf_changes.py with other bytes from a place on."""
     new = bytes.fromhex(digits)
     return elf_changes.CODE_FILE[:at] + new + elf_changes.CODE_FILE[at + len(new) :]
 

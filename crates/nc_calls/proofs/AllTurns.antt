@@ -38,7 +38,7 @@ pub same_region : (old new : Region) → new.marked ≡ old.marked → new.chunk
 same_region old new marked chunks region =
     subst (λ (m : MarkedText). IsRegion m new.chunks) (sym marked) (subst (IsRegion old.marked) (sym chunks) region)
 
--- with the events of a turn
+-- what a history keeps stays with the events of one more turn
 turn_stays : (limit seats : ℕ) (before events : List Event) (old new : Region) → Stays limit seats before old
     → Grows limit seats before events new → IsRegion new.marked new.chunks → Stays limit seats (before ++ events) new
 turn_stays limit seats before events old new s g region =
@@ -53,7 +53,7 @@ still_same limit seats before old turn s threads same own =
     (goes_on limit seats before turn.events old turn.region s.led same own threads)
     (same_region old turn.region (ap (λ (r : Region). r.marked) same) (ap (λ (r : Region). r.chunks) same) s.region)
 
--- each call
+-- each call of a history keeps what a history keeps (`Stays`)
 pub call_stays : (limit seats : ℕ) (before : List Event) (old : Region) (turn : Turn) → Stays limit seats before old
     → ThreadsMay (world_after (first_world limit seats) before) turn.events
     → KnowsNoMore turn.region.keeper.numbers (world_after (first_world limit seats) (before ++ turn.events)).keeper
@@ -83,7 +83,7 @@ call_stays limit seats before old turn s threads found (Refuses is) =
     (refusal_silent old turn.region (writers turn.events) is)
 call_stays limit seats before old turn s threads found (Keeps same own) = still_same limit seats before old turn s threads same own
 
--- one after the other
+-- turns, one after the other, keep what a history keeps (`Stays`)
 turns_stay : (limit seats : ℕ) (turns : List Turn) (before : List Event) (r : Region) → Stays limit seats before r
     → AreTurns limit seats before r turns → Stays limit seats (happened before turns) (region_at_end r turns)
 turns_stay limit seats [] before r s are = s
@@ -91,7 +91,7 @@ turns_stay limit seats (turn ∷ rest) before r s are =
     turns_stay limit seats rest (before ++ turn.events) turn.region
     (call_stays limit seats before r turn s are.0.threads are.0.keeper are.0.call) are.1
 
--- a whole history
+-- a whole history keeps what each turn does (`Stays`)
 history_stays : (limit seats : ℕ) (first : List Event) (r : Region) (turns : List Turn) → IsHistory limit seats first r turns
     → Stays limit seats (happened first turns) (region_at_end r turns)
 history_stays limit seats first r turns h =
@@ -139,12 +139,12 @@ none_in_freed limit seats first events later r turns span h is =
     let s = history_stays limit seats first r turns h in
     none_is_within_freed limit seats events later span h.lawful (subst (AreAllowed (first_world limit seats)) is s.led.allowed)
 
--- the world stands for the region
+-- the world after a history stands for the region at its end
 pub text_at_end : (limit seats : ℕ) (first : List Event) (r : Region) (turns : List Turn) → IsHistory limit seats first r turns
     → StandsFor (world_after (first_world limit seats) (happened first turns)) (region_at_end r turns)
 text_at_end limit seats first r turns h = (history_stays limit seats first r turns h).led.stands
 
--- whose text is confined
+-- the text of the region at the end of a history is confined
 pub confined_at_end : (limit seats : ℕ) (first : List Event) (r : Region) (turns : List Turn) → IsHistory limit seats first r turns
     → IsConfined (region_at_end r turns).marked.bytes
 confined_at_end limit seats first r turns h =

@@ -94,7 +94,7 @@ no_end base len [] [] none = cc
 no_end base len [] (e ∷ z) none = cc
 no_end base len (e ∷ y) z none = cc
 
--- each attempt is of this form
+-- events at the front of a deletion before its retiring are an attempt at it (`IsPart`)
 pub is_part : (marks : List Mark) (base len : ℕ) (part rest : List Event)
     → part ++ (rest ++ Retires base len ∷ []) ≡ delete_events marks base len → IsPart marks base len part
 is_part marks base len part rest is =
@@ -183,7 +183,7 @@ record HasBegun (w : World) (c : Chunk) (now : List ℕ) (before : List (List �
   agrees : Agrees c.base c.length w.marked.bytes bytes
   views : Views (λ view. Good view w.marked.marks w.retired) bytes earlier
 
--- one attempt
+-- one attempt at a deletion is allowed, and leaves views good and other places as they were
 part_begun : (w : World) (chunks : List Chunk) (k : ℕ) (c : Chunk) → IsDeleting w chunks k c → (now : List ℕ) (before : List (List ℕ))
     → Agrees c.base c.length w.marked.bytes now → Views (λ view. Good view w.marked.marks w.retired) now before → (part : List Event)
     → IsPart w.marked.marks c.base c.length part → HasBegun w c now before part
@@ -225,7 +225,7 @@ part_begun w chunks k c r now before agrees good part (OfOthers n le is) =
       views = λ view v. (b.views view v).good;
     })
 
--- any number of them
+-- any number of attempts at a deletion are allowed, and leave views good and other places as they were
 begun : (w : World) (chunks : List Chunk) (k : ℕ) (c : Chunk) → IsDeleting w chunks k c → (made : List Event)
     → AreAttempts w.marked.marks c.base c.length made → HasBegun w c w.marked.bytes w.earlier made
 begun w chunks k c r [] NoneYet =

@@ -114,7 +114,7 @@ fits_free chunks base len k at fit low high =
     (each_map (λ (c : Chunk). c.base + c.length ≤ base) _ (λ c h live inside. omega (arith, h, inside.1, low)) (take k chunks) fit.1)
     (each_map (λ (c : Chunk). base + len ≤ c.base) _ (λ c h live inside. omega (arith, h, inside.0, high)) (drop k chunks) fit.2))
 
--- so it is where the call begins
+-- where a creation begins, each view is as while its span is filled (`Filling`)
 start_filling : (w : World) (chunks : List Chunk) (base len k : ℕ) → Keeps w → ViewsKeep w chunks → IsUnused w.marked base len
     → 65536 ≤ base → FitsAt base len chunks k → Views (Filling w base len) w.marked.bytes w.earlier
 start_filling w chunks base len k keeps views unused above fit = λ view v.
@@ -135,7 +135,7 @@ record IsNearly (final view : List ℕ) : Type 0 where
   as_long : length view ≡ length final
   each : (at : ℕ) → 65536 ≤ at → (byte_at view at ≡ byte_at final at) ⊎ ((byte_at view at ≡ 244) × IsBundleStart at)
 
--- it is good then
+-- a text that is a good final one, but for stops at bundle starts, is good
 nearly_good : (final view : List ℕ) (marks : List Mark) (spans : List RetiredSpan) → Good final marks spans → IsNearly final view
     → Good view marks spans
 nearly_good final view marks spans good n =
@@ -192,7 +192,7 @@ nearly_put final view at byte inside is n =
           ];
     }
 
--- two such texts differ at bundle starts only
+-- two texts that are the final one, but for stops at bundle starts, differ at bundle starts only
 nearly_same : (final one other : List ℕ) (at : ℕ) → IsNearly final one → IsNearly final other → 65536 ≤ at → at % 32 ≢ 0
     → byte_at one at ≡ byte_at other at
 nearly_same final one other at n m low not =
@@ -205,7 +205,7 @@ nearly_same final one other at n m low not =
       | inr stop ↦ absurd (not stop.1)
     ]
 
--- so the instruction that begins at a bundle start is put whole
+-- a byte of the final text put at a bundle start puts the instruction there whole
 whole_start : (w : World) (final view text : List ℕ) (at byte : ℕ) → Good final w.marked.marks w.retired → InRegion view at
     → InRegion text at → IsBundleStart at → byte ≡ byte_at final at → IsNearly final view → IsNearly final text
     → PutsWhole w.marked.marks view text at byte
@@ -303,7 +303,7 @@ chunk_fits marked chunks v k region valid limit fit =
       unused = unused_if_apart marked chunks k v.base (length v.code) region chunk.placed fit.1 fit.2;
     }
 
--- with the chunk it is a region's text
+-- the text with a valid chunk put in where it fits is a region's
 pub created_region : (marked : MarkedText) (chunks : List Chunk) (v : MarkedChunk) (k : ℕ) → IsRegion marked chunks → IsValid v
     → v.limit ≡ limit_of marked.bytes → FitsAt v.base (length v.code) chunks k
     → IsRegion (with_chunk marked v.base v.code v.marks) (insert chunks k (live_chunk v))

@@ -88,14 +88,14 @@ pub record IsDeleting (w : World) (chunks : List Chunk) (k : ℕ) (c : Chunk) : 
   pub here : get_or chunks k c ≡ c
   pub live : IsLive c.state
 
--- it lies in the region
+-- a chunk that is deleted lies in the region
 pub placed_there : (w : World) (chunks : List Chunk) (k : ℕ) (c : Chunk) → IsDeleting w chunks k c
     → HasGoodSpan c.base (limit_of w.marked.bytes) c.length
 placed_there w chunks k c r =
     subst (λ (d : Chunk). HasGoodSpan d.base (limit_of w.marked.bytes) d.length) r.here
     (each_get (λ (d : Chunk). HasGoodSpan d.base (limit_of w.marked.bytes) d.length) chunks k c r.inside r.region.placed)
 
--- the retired spans lie beside it
+-- the retired spans lie beside a chunk that is deleted
 beside_there : (w : World) (chunks : List Chunk) (k : ℕ) (c : Chunk) → IsDeleting w chunks k c → All (IsBeside c.base c.length) w.retired
 beside_there w chunks k c r =
     all_spans (IsBeside c.base c.length) w.retired chunks r.spans
@@ -196,7 +196,7 @@ emptied_first w base len now mid good has =
       outside = λ at low out. refl;
     }
 
--- outside the span an instruction is as in the other text
+-- outside the span of a deletion an instruction of one view is as in another
 emptied_keeps : (w : World) (base len : ℕ) (mid view other : List ℕ) (now : State) → HasGoodSpan base (limit_of w.marked.bytes) len
     → Emptied w base len mid view → Emptied w base len mid other → IsMarked w.marked.marks now
     → (base ≤ now.place → now.place < base + len → ⊥) → KeepsInstruction other view now.place
@@ -209,7 +209,7 @@ emptied_keeps w base len mid view other now placed f g m out = λ i is fits k lt
     ] in
     f.outside (now.place + k) (omega (arith, m.0)) beside ∙ sym (g.outside (now.place + k) (omega (arith, m.0)) beside)
 
--- so the span is shut in the one where it is in the other
+-- the span of a deletion is shut in one view where it is in another
 emptied_shut : (w : World) (base len stamp : ℕ) (mid view other : List ℕ) → HasGoodSpan base (limit_of w.marked.bytes) len
     → Emptied w base len mid view → Emptied w base len mid other
     → IsShut other w.marked.marks (record { base = base; length = len; stamp = stamp })
@@ -229,7 +229,7 @@ emptied_shut w base len stamp mid view other placed f g shut =
 abbrev pub stopped : World → Chunk → MarkedText
 stopped w c = text_of (with_span w.marked.bytes (c.base - 65536) (replicate c.length 244)) w.marked.marks
 
--- it is as long
+-- the text in which the chunk is stops is as long as it was
 stopped_long : (w : World) (chunks : List Chunk) (k : ℕ) (c : Chunk) → IsDeleting w chunks k c
     → length (stopped w c).bytes ≡ length w.marked.bytes
 stopped_long w chunks k c r =
@@ -241,7 +241,7 @@ stopped_long w chunks k c r =
 abbrev retired_list : World → List Chunk → ℕ → Chunk → List Chunk
 retired_list w chunks k c = set chunks k (record c { state = Retired (w.keeper.generation + 1) })
 
--- with the chunk retired it is a region's text
+-- the text with the chunk's stops and the list with the chunk retired are a region
 region_after : (w : World) (chunks : List Chunk) (k : ℕ) (c : Chunk) → IsDeleting w chunks k c
     → Good (stopped w c).bytes w.marked.marks w.retired → IsRegion (stopped w c) (retired_list w chunks k c)
 region_after w chunks k c r good =
@@ -261,7 +261,7 @@ region_after w chunks k c r good =
       marks_are = refl;
     })
 
--- its span may be retired then
+-- the span of a deleted chunk may be retired once stops have been put in all of it
 may_retire : (w : World) (chunks : List Chunk) (k : ℕ) (c : Chunk) (earlier : List (List ℕ)) (mid : List ℕ) → IsDeleting w chunks k c
     → Views (Emptied w c.base c.length mid) (stopped w c).bytes earlier
     → IsAllowed (record w { marked = stopped w c; earlier = earlier }) (Retires c.base c.length)
@@ -289,7 +289,7 @@ pub record Agrees (base len : ℕ) (old now : List ℕ) : Type 0 where
   pub as_long : length now ≡ length old
   pub outside : (at : ℕ) → 65536 ≤ at → (at < base) ⊎ (base + len ≤ at) → byte_at now at ≡ byte_at old at
 
--- it does after more puts in the span
+-- a text that agrees with another outside a span does so after more puts in the span
 pub put_agrees : (chosen : ℕ → Bool) (base len count : ℕ) (bytes old now new : List ℕ) → count ≤ len
     → HasPut chosen base bytes count now new → Agrees base len old now → Agrees base len old new
 put_agrees chosen base len count bytes old now new le has a =
@@ -302,14 +302,14 @@ put_agrees chosen base len count bytes old now new le has a =
           ];
     }
 
--- an element outside the span
+-- a text that agrees with another outside a span has its elements there
 agrees_at : (base len : ℕ) (old now : List ℕ) (k : ℕ) → Agrees base len old now → (65536 + k < base) ⊎ (base + len ≤ 65536 + k)
     → get_or now k 0 ≡ get_or old k 0
 agrees_at base len old now k a out =
     let e : 65536 + k - 65536 ≡ k = omega arith in
     subst (λ (i : ℕ). get_or now i 0 ≡ get_or old i 0) e (a.outside (65536 + k) (omega arith) out)
 
--- with stops in all of the span both are the same
+-- texts that agree outside a span are the same with stops in all of it
 same_stopped : (base len : ℕ) (old now : List ℕ) → 65536 ≤ base → base + len ≤ 65536 + length old → Agrees base len old now
     → with_span now (base - 65536) (replicate len 244) ≡ with_span old (base - 65536) (replicate len 244)
 same_stopped base len old now low fits a =

@@ -17,12 +17,12 @@ use Rattle.nc_calls.specs.Calls.{Details, no_details, events_of_act, events_of_l
 abbrev pub events_of : Details → List Act → List Event
 events_of d acts = flat_map (events_of_act d) acts
 
--- those of acts that aren't settled between
+-- the events of a log with no settling are those of its acts
 pub unsettled_events : (d : Details) (acts : List Act) → events_of_log d (unsettled acts) ≡ events_of d acts
 unsettled_events d [] = refl
 unsettled_events d (act ∷ acts) = ap (λ (z : List Event). events_of_act d act ++ z) (unsettled_events d acts)
 
--- the events of some entries after others
+-- the events of two logs are those of the one and then those of the other
 log_append : (d : Details) (xs ys : List Entry) → events_of_log d (xs ++ ys) ≡ events_of_log d xs ++ events_of_log d ys
 log_append d [] ys = refl
 log_append d (Did act ∷ xs) ys =
@@ -30,13 +30,13 @@ log_append d (Did act ∷ xs) ys =
     ∙ sym (append_assoc (events_of_act d act) (events_of_log d xs) (events_of_log d ys))
 log_append d (Settled ∷ xs) ys = ap (λ (z : List Event). Settles ∷ z) (log_append d xs ys)
 
--- acts, and then some entries
+-- the events of acts and then a log are those of the acts and then those of the log
 acts_then : (d : Details) (acts : List Act) (rest : List Entry)
     → events_of_log d (unsettled acts ++ rest) ≡ events_of d acts ++ events_of_log d rest
 acts_then d acts rest =
     log_append d (unsettled acts) rest ∙ ap (λ (z : List Event). z ++ events_of_log d rest) (unsettled_events d acts)
 
--- a creation
+-- the events of a creation, part by part
 pub create_is : (v : MarkedChunk) → create_events v ≡ events_of (record no_details { marks = v.marks }) (puts_where is_inside v.base v.code)
     ++ (Settles ∷ events_of (record no_details { marks = v.marks }) (MarkSpan v.base (length v.code) ∷ puts_where is_start v.base v.code))
 create_is v =
@@ -48,7 +48,7 @@ create_is v =
     ++ (Settles ∷ (events_of_act (record no_details { marks = v.marks }) (MarkSpan v.base (length v.code)) ++ z)))
     (unsettled_events (record no_details { marks = v.marks }) (puts_where is_start v.base v.code))
 
--- a deletion
+-- the events of a deletion, part by part
 pub delete_is : (marks : List Mark) (base len : ℕ) → delete_events marks base len
     ≡ events_of (record no_details { base = base; len = len }) (puts_where (is_marked_at marks) base (replicate len 244))
     ++ (Settles ∷ (events_of (record no_details { base = base; len = len }) (puts_where (is_unmarked_at marks) base (replicate len 244))
@@ -67,7 +67,7 @@ instruction_events at (byte ∷ []) = Puts at byte ∷ []
 instruction_events at (byte ∷ next ∷ rest) =
     Puts at 244 ∷ Settles ∷ (events_of no_details (puts_where any_place (at + 1) (next ∷ rest)) ++ (Settles ∷ Puts at byte ∷ []))
 
--- all of them
+-- the events of all instructions of a patch
 abbrev pub patch_events : List ℕ → ℕ → List Piece → List Event
 patch_events text at [] = []
 patch_events text at (p ∷ rest) =
@@ -81,13 +81,13 @@ instruction_is at (byte ∷ next ∷ rest) =
     ap (λ (z : List Event). Puts at 244 ∷ Settles ∷ z)
     (acts_then no_details (puts_where any_place (at + 1) (next ∷ rest)) (Settled ∷ Did (Act.Put at byte) ∷ []))
 
--- made or not
+-- the events of an instruction's log, made or not, are its events
 turn_is : (b : Bool) (at : ℕ) (bytes : List ℕ)
     → events_of_log no_details (cond b [] (log_of_instruction at bytes)) ≡ cond b [] (instruction_events at bytes)
 turn_is true at bytes = refl
 turn_is false at bytes = instruction_is at bytes
 
--- a patch
+-- the events of a patch are those of its instructions
 pub modify_is : (text : List ℕ) (at : ℕ) (news : List Piece) → modify_events text at news ≡ patch_events text at news
 modify_is text at [] = refl
 modify_is text at (n ∷ ns) =

@@ -19,7 +19,7 @@ all_fetch_whole w keeps whole =
     (λ now. 65536 ≤ now.place → StoodWhole w.marked.bytes w.earlier now.place)
     (λ now known low. elim known [ inl m ↦ whole now m | inr z ↦ absurd (omega (arith, low, z.0)) ]) (keeps.seats k lt).stands)
 
--- so after every event
+-- after every event of a schedule that stays whole, threads fetch whole instructions
 pub fetch_whole_after : (limit seats : ℕ) (events later : List Event) → IsLawfulLimit limit
     → AreAllowed (first_world limit seats) (events ++ later) → StaysWhole (first_world limit seats) (events ++ later)
     → AllFetchWhole (world_after (first_world limit seats) events)

@@ -30,11 +30,11 @@ pub record IsThinned (w v : World) : Type 0 where
   pub earlier : v.earlier ≡ w.earlier
   pub fewer : (now : State) → IsMarked v.marked.marks now → IsMarked w.marked.marks now
 
--- nothing changed
+-- a world in which nothing changed is thinned
 thinned_none : (w : World) → IsThinned w w
 thinned_none w = record { bytes = refl; earlier = refl; fewer = λ now m. m }
 
--- a span is freed
+-- a world in which a span is freed is thinned
 thinned_frees : (w : World) (span : RetiredSpan) → Keeps w → AreAllowed w (Frees span ∷ []) → IsThinned w (after w (Frees span))
 thinned_frees w span keeps allowed =
     record {
@@ -43,12 +43,12 @@ thinned_frees w span keeps allowed =
       fewer = λ now m. freed_was w.marked span (may_free_now w span keeps allowed.0.0) now m;
     }
 
--- one after the other
+-- a world that is thinned twice is thinned
 thinned_more : (w v u : World) → IsThinned w v → IsThinned v u → IsThinned w u
 thinned_more w v u a b =
     record { bytes = b.bytes ∙ a.bytes; earlier = b.earlier ∙ a.earlier; fewer = λ now m. a.fewer now (b.fewer now m) }
 
--- a thread's event
+-- a world is thinned by an event that leaves its text and views
 thinned_beside : (w v : World) → v.marked ≡ w.marked → v.earlier ≡ w.earlier → IsThinned w v
 thinned_beside w v marked earlier =
     record {
@@ -68,7 +68,7 @@ pub record Thins (w : World) (events : List Event) : Type 0 where
   pub thinned : IsThinned w (world_after w events)
   pub whole : IsWholeIn w → StaysWhole w events
 
--- an event before others
+-- events thin a world with one that does before them
 thins_more : (w : World) (event : Event) (events : List Event) → IsThinned w (after w event) → Thins (after w event) events
     → Thins w (event ∷ events)
 thins_more w event events t rest =

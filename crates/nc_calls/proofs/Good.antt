@@ -16,7 +16,7 @@ use Rattle.nc_region.specs.schedules.Spans.{RetiredSpan, IsShut}
 use Rattle.nc_region.proofs.Offered.{some_same}
 use Rattle.nc_calls.specs.Views.{AreParted}
 
--- bytes with marks
+-- bytes and marks, as a text
 abbrev pub text_of : List ℕ → List Mark → MarkedText
 text_of bytes marks = record { bytes = bytes; marks = marks }
 
@@ -26,7 +26,7 @@ pub record Good (text : List ℕ) (marks : List Mark) (spans : List RetiredSpan)
   pub shut : All (IsShut text marks) spans
   pub parted : AreParted text marks
 
--- the instruction at a place has its bytes in the other text too
+-- the instruction at a place, if it lies in one bundle, has its bytes in both texts
 abbrev pub KeepsInstruction : List ℕ → List ℕ → ℕ → Type 0
 KeepsInstruction old text at = (i : Instr) → instruction_at old at ≡ Some i → IsInOneBundle at i.len → KeepsBytes old text at i.len
 
@@ -70,7 +70,7 @@ stop_ends text at k i inside stop is some less =
     let one : 1 ≡ i.len = ap (λ (j : Instr). j.len) same in
     omega (arith, one, some, less)
 
--- each span stays shut
+-- a text has each span shut if each marked place is a stop or borrows its instruction from a good text
 shut_by_places : (old text : List ℕ) (marks : List Mark) (spans : List RetiredSpan) → Good old marks spans → length text ≡ length old
     → ((now : State) → IsMarked marks now → (byte_at text now.place ≡ 244) ⊎ Borrowed text marks spans now)
     → All (IsShut text marks) spans
@@ -103,7 +103,7 @@ parted_by_places old text marks spans good long each = λ now i k m is some less
           b.good.parted now e.i k m e.is some (omega (arith, less, ap (λ (j : Instr). j.len) same))
     ]
 
--- so the text is good
+-- a text is good if each marked place is a stop or borrows its instruction from a good text
 pub good_by_places : (old text : List ℕ) (marks : List Mark) (spans : List RetiredSpan) → Good old marks spans → length text ≡ length old
     → ((now : State) → IsMarked marks now → (byte_at text now.place ≡ 244) ⊎ Borrowed text marks spans now) → Good text marks spans
 good_by_places old text marks spans good long each =

@@ -1,5 +1,5 @@
 -- Schedules that have led to a region, and one call more.
-use Rattle.std.proofs.Common.{◌≡◌, ℕ, ◌+◌, ◌-◌, ◌≤◌, Bool, true, false, cond, List, [], ◌∷◌, ◌++◌, set, replicate, arith}
+use Rattle.std.proofs.Common.{◌≡◌, ℕ, ◌+◌, ◌-◌, ◌≤◌, Bool, List, [], ◌∷◌, ◌++◌, set, replicate, arith}
 use Rattle.std.proofs.Common.{◌∙◌, sym, ap, subst, append-nil, append_assoc}
 use Rattle.std.specs.Prelude.{Contains, ◌↔◌}
 use Rattle.nc_decode.specs.declared.instruction.Mark.{Mark}
@@ -15,7 +15,6 @@ use Rattle.nc_region.specs.schedules.Spans.{RetiredSpan}
 use Rattle.nc_region.specs.schedules.World.{World, Seat, first_world}
 use Rattle.nc_region.specs.schedules.Events.{Event, Settles, Marks, Retires, after, world_after, AreAllowed}
 use Rattle.nc_region.proofs.Offered.{Keeps, keeps_reached, allowed_append, after_append}
-use Rattle.nc_region.specs.declared.acts.Act.TheVariants.{Put}
 use Rattle.nc_region.specs.Acts.{puts_where, is_inside, is_start, is_marked_at, is_unmarked_at}
 use Rattle.nc_region.specs.Chunks.{with_chunk}
 use Rattle.nc_region.specs.Quiet.{retired_spans}
@@ -34,19 +33,14 @@ use Rattle.nc_calls.proofs.Knowing.{knows_raised}
 use Rattle.nc_calls.proofs.Parting.{Kept}
 use Rattle.nc_calls.proofs.Putting.{Leads, Reaches, Views, leads_none}
 use Rattle.nc_calls.proofs.RetiredSpans.{retired_insert, same_spans_retired}
+use Rattle.nc_calls.proofs.Turning.{puts_keep}
 use Rattle.nc_calls.proofs.Whole.{IsWholeIn, StaysWhole}
 use Rattle.nc_calls.proofs.Woven.{ArePlain, weave, seated}
 
--- puts before plain events
+-- puts before plain events are plain with them
 pub plain_puts : (d : Details) (chosen : ℕ → Bool) (at : ℕ) (bytes : List ℕ) (more : List Event) → ArePlain more
     → ArePlain (events_of d (puts_where chosen at bytes) ++ more)
-plain_puts d chosen at [] more plain = plain
-plain_puts d chosen at (byte ∷ rest) more plain = go (chosen at) (plain_puts d chosen (at + 1) rest more plain)
-  where
-    go : (b : Bool) → ArePlain (events_of d (puts_where chosen (at + 1) rest) ++ more)
-        → ArePlain (events_of d (cond b (Put at byte ∷ puts_where chosen (at + 1) rest) (puts_where chosen (at + 1) rest)) ++ more)
-    go true p = p
-    go false p = p
+plain_puts = puts_keep ArePlain (λ at byte more plain. plain) (λ more plain. plain)
 
 -- the events of a creation are plain
 create_plain : (v : MarkedChunk) → ArePlain (create_events v)
@@ -61,7 +55,7 @@ create_plain v =
     (puts_where is_start v.base v.code)))
     (plain_puts (record { marks = v.marks; base = 0; len = 0; seats = 0; spans = [] }) is_start v.base v.code [] tt)))
 
--- those of a deletion too
+-- the events of a deletion are plain
 delete_plain : (marks : List Mark) (base len : ℕ) → ArePlain (delete_events marks base len)
 delete_plain marks base len =
     let d : Details = record { marks = []; base = base; len = len; seats = 0; spans = [] } in
@@ -86,7 +80,7 @@ part_plain marks base len part more (OfOthers n le is) plain =
     (plain_puts d (is_marked_at marks) base (replicate len 244) (Settles ∷ (others ++ more))
     (plain_puts d (is_unmarked_at marks) base (replicate n 244) more plain)))
 
--- any number of them
+-- any number of attempts at a deletion are plain before plain events
 begun_plain : (marks : List Mark) (base len : ℕ) (made more : List Event) → AreAttempts marks base len made → ArePlain more
     → ArePlain (made ++ more)
 begun_plain marks base len [] more NoneYet plain = plain
@@ -101,11 +95,11 @@ pub views_kept : (w : World) (chunks : List Chunk) (seats : List Seat) → Views
 views_kept w chunks seats views =
     record { parted = λ view is. (views view is).parted; stopped = λ view is. (views view is).stopped }
 
--- and back
+-- where the world's views keep what they have to, those of a call do
 pub views_keep : (w : World) (chunks : List Chunk) → ViewsKeep w chunks → Views (Kept w.marked.marks chunks) w.marked.bytes w.earlier
 views_keep w chunks keep = λ view is. record { parted = keep.parted view is; stopped = keep.stopped view is }
 
--- other seats make no other region
+-- a world stands for the same region whoever sits in it
 stands_seated : (w : World) (seats : List Seat) (r : Region) → StandsFor w r → StandsFor (seated w seats) r
 stands_seated w seats r s = record { marked = s.marked; keeper = s.keeper; spans = s.spans }
 
@@ -131,7 +125,7 @@ grown limit seats before events old new v h l stands views range =
       whole = l.whole;
     }
 
--- the same with threads between the writer's events
+-- a call's own events with threads between them lead to a world that stands for the new region
 pub grown_beside : (limit seats : ℕ) (before events own : List Event) (old new : Region) (v : World) → HasLedTo limit seats before old
     → writers events ≡ own → ArePlain own
     → Reaches (world_after (first_world limit seats) before) own v (Kept v.marked.marks new.chunks)
@@ -178,7 +172,7 @@ goes_on limit seats before events old new h others is threads =
     (record { marked = h.stands.marked; keeper = h.stands.keeper; spans = h.stands.spans }))
     (subst (λ (r : Region). r.keeper.numbers.generation ≤ last_generation) (sym others) h.in_range)
 
--- a creation
+-- the events of a creation lead to a world that stands for the new region
 pub created : (limit seats : ℕ) (before events : List Event) (old new : Region) (v : MarkedChunk)
     → HasLedTo limit seats before old → IsRegion old.marked old.chunks → IsValid v → v.limit ≡ limit_of old.marked.bytes
     → IsCreated old new v → writers events ≡ create_events v
@@ -217,7 +211,7 @@ created limit seats before events old new v h region valid lim is own threads =
     })
     (subst (λ (x : KeeperState). x.numbers.generation ≤ last_generation) (sym keeper) h.in_range)
 
--- a deletion, after unfinished attempts at it
+-- the events of a deletion, after unfinished attempts at it, lead to the new region
 pub deleted : (limit seats : ℕ) (before events : List Event) (old new : Region) (base stamp : ℕ) (made : List Event)
     → HasLedTo limit seats before old → IsRegion old.marked old.chunks → (is : IsDeleted old new base stamp)
     → AreAttempts old.marked.marks base is.chunk.length made

@@ -27,7 +27,7 @@ begins_unused limit seats r lawful marked chunks unused =
     (knows_as_much r.keeper.numbers (first_keeper_numbers seats) (sym unused))
     (subst (λ (k : KeeperNumbers). k.generation ≤ last_generation) (sym unused) (omega arith))).led
 
--- threads by themselves
+-- threads by themselves leave a world that stands for the same region
 pub threads_go_on : (limit seats : ℕ) (before events : List Event) (r : Region) → HasLedTo limit seats before r → writers events ≡ []
     → ThreadsMay (world_after (first_world limit seats) before) events → Grows limit seats before events r
 threads_go_on limit seats before events r h is threads = goes_on limit seats before events r r h refl is threads
@@ -40,7 +40,7 @@ refused limit seats before events old new h is threads =
     goes_on limit seats before events old new h (refusal_same old new (writers events) is) (refusal_silent old new (writers events) is)
     threads
 
--- a meeting
+-- a meeting with the keeper leads to a world that stands for the new region
 pub met : (limit seats : ℕ) (before events : List Event) (old new : Region) (pass after : PassState) → HasLedTo limit seats before old
     → HasMet pass old.keeper after new.keeper → new ≡ record old { keeper = new.keeper } → writers events ≡ Looks pass.seat ∷ []
     → ThreadsMay (world_after (first_world limit seats) before) events

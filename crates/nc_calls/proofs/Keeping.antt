@@ -21,7 +21,7 @@ use Rattle.nc_calls.proofs.Looking.{KeeperOnly, keeper_woven, placed}
 use Rattle.nc_calls.proofs.Parting.{Kept, region_kept}
 use Rattle.nc_calls.proofs.Putting.{settled_views}
 
--- the keeper by itself
+-- the keeper's own events lead to a world that stands for the new region
 pub keeper : (limit seats : ℕ) (before events : List Event) (old new : Region) → HasLedTo limit seats before old
     → new.marked ≡ old.marked → new.chunks ≡ old.chunks → All IsKeepers (writers events)
     → ThreadsMay (world_after (first_world limit seats) before) events

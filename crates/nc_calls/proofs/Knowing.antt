@@ -10,7 +10,7 @@ knows_as_much k world same =
     subst (λ (n : KeeperNumbers). KnowsNoMore n world) same
     (record { generation = refl; seats = refl; below = λ i lt. omega arith })
 
--- nor do numbers whose generation is raised with the world's
+-- a keeper that knows no more than the world still doesn't once the generation of both is raised
 pub knows_raised : (k world : KeeperNumbers) → KnowsNoMore k world → KnowsNoMore (generation_raised k) (generation_raised world)
 knows_raised k world knows =
     record { generation = ap (λ (n : ℕ). n + 1) knows.generation; seats = knows.seats; below = knows.below }

@@ -6,6 +6,7 @@ pub mod RetiredSpans
 pub mod Parting
 pub mod Woven
 pub mod Entries
+pub mod Turning
 pub mod Putting
 pub mod Creation
 pub mod Deletion

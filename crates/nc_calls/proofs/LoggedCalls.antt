@@ -47,13 +47,13 @@ keeps_logged seats old new same =
 logs_refusal : (old new : Region) → IsRefusal old new [] → LogsRefusal old new
 logs_refusal old new is = (ap (λ (r : Region). r.logged) (refusal_same old new [] is), is)
 
--- and is a call
+-- a refused call has logged nothing, and is logged as a call
 logs_both : (seats : ℕ) (old new : Region) → IsRefusal old new [] → LogsRefusal old new × LogsCall seats no_details old new
 logs_both seats old new is =
     let logs = logs_refusal old new is in
     (logs, logs_call seats no_details old new [] (logs_nothing old new logs.0) (Refuses is))
 
--- an accepted creation
+-- an accepted creation is logged as a call
 pub creates : {T E : Type 0} (answer : Result T E) (seats : ℕ) (old new : Region) (v : MarkedChunk) → IsValid v
     → OnOk answer (IsCreated old new v) → OnOk answer (Logs old.logged new.logged (log_of_create v.base v.code))
     → OnOk answer ((v.limit ≡ limit_of old.marked.bytes) × ¬ Meets v.base (length v.code) old.chunks)
@@ -62,7 +62,7 @@ creates (Ok x) seats old new v valid is log free =
     logs_call seats (record no_details { marks = v.marks }) old new (log_of_create v.base v.code) log (Creates v valid free.0 is refl)
 creates (Err e) seats old new v valid is log free = tt
 
--- a refused creation
+-- a refused creation is logged as a refusal and as a call
 pub refuses : {T : Type 0} (answer : Result T (MarkedChunk × CreateFault)) (seats : ℕ) (old new : Region) (v : MarkedChunk)
     → IfErr answer (λ e. (e.0 ≡ v) × IsRefused old new v e.1) → IfErr answer (λ e. MayRefuse old v e.1)
     → OnErr answer (LogsRefusal old new × LogsCall seats no_details old new)
@@ -81,13 +81,13 @@ patches (Ok x) seats old new at bytes lawful is log same =
     (Patches at bytes run.news lawful run.bytes is refl)
 patches (Err e) seats old new at bytes lawful is log same = keeps_logged seats old new same
 
--- a refused patch
+-- a refused patch is logged as a refusal
 pub patches_nothing : {T : Type 0} (answer : Result T ModifyFault) (old new : Region) (at : ℕ) (bytes : List ℕ)
     → IfErr answer (λ e. new ≡ old) → IfErr answer (MayRefusePatch old at bytes) → OnErr answer (LogsRefusal old new)
 patches_nothing (Ok x) old new at bytes same due = tt
 patches_nothing (Err e) old new at bytes same due = logs_refusal old new (OfPatch at bytes e due same refl)
 
--- an accepted deletion
+-- an accepted deletion is logged as a call
 pub deletes : {E : Type 0} (answer : Result ℕ E) (seats : ℕ) (old new : Region) (base : ℕ) → IfOk answer (IsDeleted old new base)
     → OnOk answer ((c : Chunk) × Contains old.chunks c × (c.base ≡ base)
     × LogsCall seats (record no_details { base = base; len = c.length }) old new)
@@ -101,20 +101,20 @@ deletes (Ok stamp) seats old new base is =
     )
 deletes (Err e) seats old new base is = tt
 
--- a refused deletion
+-- a refused deletion is logged as a refusal
 pub deletes_nothing : {T : Type 0} (answer : Result T DeleteFault) (seats : ℕ) (old new : Region) (base : ℕ)
     → OnErr answer (new ≡ old) → IfErr answer (MayRefuseDelete old base)
     → OnErr answer (LogsRefusal old new × LogsCall seats no_details old new)
 deletes_nothing (Ok x) seats old new base same due = tt
 deletes_nothing (Err e) seats old new base same due = logs_both seats old new (OfDeletion base e due same refl)
 
--- a reclaiming
+-- a reclaim is logged as a call
 pub reclaims : (seats : ℕ) (old new : Region) (count : ℕ) → IsReclaimed old new count
     → LogsCall seats (record no_details { seats = seats; spans = retired_spans old.chunks }) old new
 reclaims seats old new count is =
     logs_call seats (record no_details { seats = seats; spans = retired_spans old.chunks }) old new _ is.log (Reclaims count is refl)
 
--- a meeting
+-- a meeting with the keeper is a call
 pub meets : (seats : ℕ) (old new : Region) (pass after : PassState) → HasMet pass old.keeper after new.keeper
     → new ≡ record old { keeper = new.keeper } → IsCall seats old new (Looks pass.seat ∷ [])
 meets seats old new pass after met others =

@@ -23,7 +23,7 @@ fold_le : (a : ℕ) (xs : List ℕ) → fold min a xs ≤ a
 fold_le a [] = omega arith
 fold_le a (x ∷ xs) = let h = fold_le (min a x) xs in omega (arith, h)
 
--- and at most each that stays
+-- the least of some numbers is at most each of them that stays
 fold_below : (a : ℕ) (bs : List ℕ) (k : ℕ) → k < length bs → get_or bs k 0 ≢ left_word → fold min a (staying bs) ≤ get_or bs k 0
 fold_below a [] k lt stays = absurd (omega arith)
 fold_below a (b ∷ bs) zero lt stays =
@@ -87,7 +87,7 @@ pub record KeeperOnly (w : World) (keeper : KeeperNumbers) (seats : List Seat) (
   pub seats_after : List Seat
   pub after_is : world_after (placed w keeper seats) events ≡ placed w keeper_after seats_after
 
--- one more event
+-- an event that changes only the keeper's numbers and the seats may come before others like it
 keeper_more : (w : World) (keeper later : KeeperNumbers) (seats others : List Seat) (event : Event) (events : List Event)
     → IsAllowed (placed w keeper seats) event → after (placed w keeper seats) event ≡ placed w later others
     → KeeperOnly w later others events → KeeperOnly w keeper seats (event ∷ events)
@@ -142,7 +142,7 @@ pub threads_parted : (w : World) (xs ys : List Event) → ThreadsMay w (xs ++ ys
 threads_parted w [] ys t = (tt, t)
 threads_parted w (x ∷ xs) ys t = let r = threads_parted (after w x) xs ys t.1 in ((t.0, r.0), r.1)
 
--- the parts
+-- the events parted in two: those of the first list and those of the second, with threads between them
 pub record Parted (events xs ys : List Event) : Type 0 where
   pub first : List Event
   pub second : List Event

@@ -1,6 +1,5 @@
 -- A schedule that has led to a region, and a patch more.
-use Rattle.std.proofs.Common.{◌≡◌, ℕ, ◌+◌, ◌-◌, ◌≤◌, Bool, true, false, cond, List, [], ◌∷◌, ◌++◌, length, arith, ◌∙◌, sym, ap, subst}
-use Rattle.std.proofs.Common.{append_assoc}
+use Rattle.std.proofs.Common.{◌≡◌, ℕ, ◌-◌, ◌≤◌, List, ◌∙◌, sym, ap, subst}
 use Rattle.std.specs.Prelude.{Contains, ◌↔◌}
 use Rattle.nc_text.specs.MarkedText.{MarkedText, with_span}
 use Rattle.nc_gens.specs.Rule.{last_generation}
@@ -8,46 +7,28 @@ use Rattle.nc_gens.specs.Seen.{KeeperState}
 use Rattle.nc_vet.specs.Chunk.{Piece}
 use Rattle.nc_list.specs.declared.chunk.Chunk.{Chunk}
 use Rattle.nc_region.specs.schedules.World.{first_world}
-use Rattle.nc_region.specs.schedules.Events.{Event, Puts, Settles, world_after}
-use Rattle.nc_region.specs.Acts.{puts_where}
-use Rattle.nc_region.specs.Patch.{IsPatch, IsModified, AreBytesOf, any_place, stands_there}
+use Rattle.nc_region.specs.schedules.Events.{Event, world_after}
+use Rattle.nc_region.specs.Patch.{IsPatch, IsModified, AreBytesOf}
 use Rattle.nc_region.specs.machinery.PatchSteps.{CanPatch}
 use Rattle.nc_region.specs.Quiet.{retired_spans}
 use Rattle.nc_region.specs.Region.{Region, IsRegion}
-use Rattle.nc_region.proofs.Offered.{same_code, lies, changed}
+use Rattle.nc_region.proofs.Offered.{same_code, changed}
 use Rattle.nc_calls.specs.Weaving.{writers, ThreadsMay}
-use Rattle.nc_calls.specs.Calls.{KnowsNoMore, HasLedTo, no_details, modify_events}
+use Rattle.nc_calls.specs.Calls.{KnowsNoMore, HasLedTo, modify_events}
 use Rattle.nc_calls.proofs.Creation.{start_good}
-use Rattle.nc_calls.proofs.Entries.{events_of, instruction_events, patch_events, modify_is}
-use Rattle.nc_calls.proofs.Histories.{Grows, grown_beside, plain_puts, kept_there}
+use Rattle.nc_calls.proofs.Entries.{patch_events, modify_is}
+use Rattle.nc_calls.proofs.Histories.{Grows, grown_beside, kept_there}
 use Rattle.nc_calls.proofs.Parting.{Kept}
-use Rattle.nc_calls.proofs.Patching.{Sound, patch_leads}
+use Rattle.nc_calls.proofs.Patching.{Sound, patch_leads, patch_can, patch_ends}
 use Rattle.nc_calls.proofs.Putting.{Views, Reaches, reaches_as}
+use Rattle.nc_calls.proofs.Turning.{patch_keeps}
 use Rattle.nc_calls.proofs.Woven.{ArePlain}
 
--- the events of one instruction are plain
-instruction_plain : (at : ℕ) (bytes : List ℕ) (more : List Event) → ArePlain more → ArePlain (instruction_events at bytes ++ more)
-instruction_plain at [] more plain = plain
-instruction_plain at (byte ∷ []) more plain = plain
-instruction_plain at (byte ∷ next ∷ rest) more plain =
-    subst ArePlain
-    (sym (append_assoc (events_of no_details (puts_where any_place (at + 1) (next ∷ rest))) (Settles ∷ Puts at byte ∷ []) more))
-    (plain_puts no_details any_place (at + 1) (next ∷ rest) (Settles ∷ Puts at byte ∷ more) plain)
-
--- made or not
-turn_plain : (b : Bool) (at : ℕ) (bytes : List ℕ) (more : List Event) → ArePlain more
-    → ArePlain (cond b [] (instruction_events at bytes) ++ more)
-turn_plain true at bytes more plain = plain
-turn_plain false at bytes more plain = instruction_plain at bytes more plain
-
--- those of a patch are plain
+-- the events of a patch are plain
 patch_plain : (text : List ℕ) (at : ℕ) (news : List Piece) → ArePlain (patch_events text at news)
-patch_plain text at [] = tt
-patch_plain text at (n ∷ ns) =
-    turn_plain (stands_there text at n.bytes) at n.bytes (patch_events text (at + length n.bytes) ns)
-    (patch_plain text (at + length n.bytes) ns)
+patch_plain = patch_keeps ArePlain (λ at byte more plain. plain) (λ more plain. plain) tt
 
--- a patch
+-- the events of a patch lead to a world that stands for the new region
 pub modified : (limit seats : ℕ) (before events : List Event) (old new : Region) (at : ℕ) (bytes : List ℕ) (news : List Piece)
     → HasLedTo limit seats before old → IsRegion old.marked old.chunks → IsPatch old at bytes → AreBytesOf bytes news
     → IsModified old new at bytes → writers events ≡ modify_events old.marked.bytes at news
@@ -55,16 +36,9 @@ pub modified : (limit seats : ℕ) (before events : List Event) (old new : Regio
 modified limit seats before events old new at bytes news h region lawful b is own threads =
     let w = world_after (first_world limit seats) before in
     let here = h.stands.marked in
-    let c = lawful.1.0 in
     let held = lawful.1.1 in
-    let patch : CanPatch old.marked lawful.1.0 at bytes = record {
-      holds = lawful.1.2.0.holds;
-      run = lawful.1.2.0.run;
-      pairs = lawful.1.2.1;
-      targets = lawful.1.2.2;
-    } in
-    let l = lies old.marked lawful.1.0 region.whole lawful.1.2.0.holds in
-    let ends : at + length bytes ≤ c.base + c.length = omega (arith, lawful.0.1, held.2.0, held.2.1, l.start, l.whole) in
+    let patch = patch_can old at bytes lawful in
+    let ends = patch_ends old at bytes region lawful in
     let good = start_good w old.chunks (kept_there limit seats before old h) h.views in
     let views : Views (λ view. Sound (world_after (first_world limit seats) before) old.chunks view)
     (world_after (first_world limit seats) before).marked.bytes (world_after (first_world limit seats) before).earlier =

@@ -101,7 +101,7 @@ parted_live marked c t h now i k m inside is some less =
     first_of : (p q : Piece) (xs ys : List Piece) → p ∷ xs ≡ q ∷ ys → p ≡ q
     first_of p q xs ys e = cc
 
--- so it is in a region
+-- in a region no instruction reaches another marked place
 pub parted_region : (marked : MarkedText) (chunks : List Chunk) → IsRegion marked chunks → AreParted marked.bytes marked.marks
 parted_region marked chunks region = λ now i k m is some less.
     elim (live_or_free (λ (c : Chunk). IsLive c.state → HoldsValid marked c) chunks now.place region.live) [
@@ -127,7 +127,7 @@ region_good marked chunks spans region are =
     each_shut marked quiet = each_map (IsQuiet marked.bytes marked.marks) (IsShut marked.bytes marked.marks)
         (λ span q. shut_if_quiet marked.bytes marked.marks span q) (retired_spans chunks) quiet
 
--- and where no live chunk is, its marked places are stops
+-- where a region has no live chunk, its marked places are stops
 pub region_stopped : (marked : MarkedText) (chunks : List Chunk) → IsRegion marked chunks → AreStopped marked.bytes marked.marks chunks
 region_stopped marked chunks region = λ now m free.
     region.stops now.place (marked_inside marked.bytes marked.bytes marked.marks now region.whole.closed refl m) free
@@ -137,7 +137,7 @@ pub record Kept (marks : List Mark) (chunks : List Chunk) (view : List ℕ) : Ty
   pub parted : AreParted view marks
   pub stopped : AreStopped view marks chunks
 
--- a region's text does
+-- a region's text keeps what views have to (`Kept`)
 pub region_kept : (marked : MarkedText) (chunks : List Chunk) → IsRegion marked chunks → Kept marked.marks chunks marked.bytes
 region_kept marked chunks region =
     record { parted = parted_region marked chunks region; stopped = region_stopped marked chunks region }

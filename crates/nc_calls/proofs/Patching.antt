@@ -22,9 +22,9 @@ use Rattle.nc_region.specs.schedules.World.{World}
 use Rattle.nc_region.specs.schedules.Events.{Event, Puts, Settles}
 use Rattle.nc_region.proofs.Offered.{as_it_stands, only_as_it_stands}
 use Rattle.nc_region.specs.Acts.{is_mark, puts_where}
-use Rattle.nc_region.specs.Patch.{AreBytesOf, IsHeldBy, any_place, stands_there}
+use Rattle.nc_region.specs.Patch.{AreBytesOf, IsHeldBy, IsPatch, any_place, stands_there}
 use Rattle.nc_region.specs.machinery.PatchSteps.{Begins, IsReplacing, CanPatch}
-use Rattle.nc_region.specs.Region.{IsLive, IsInChunk, IsRegion}
+use Rattle.nc_region.specs.Region.{Region, IsLive, IsInChunk, IsRegion}
 use Rattle.nc_region.proofs.Offered.{Changes, changed, changed_holds, changed_text, changes_replace, region_patched}
 use Rattle.nc_region.proofs.Offered.{patch_final, single_span, span_behind, lies, turn, next_patch, spans_join, stands_same, same_stands}
 use Rattle.nc_region.proofs.Offered.{stands_with, some_same, each_get}
@@ -48,6 +48,23 @@ pub record SoundBy (marks : List Mark) (spans : List RetiredSpan) (chunks : List
 -- by a world's marks and retired spans
 abbrev pub Sound : World → List Chunk → List ℕ → Type 0
 Sound w chunks view = SoundBy w.marked.marks w.retired chunks view
+
+-- a lawful patch of a region can be made in the chunk that holds it
+pub patch_can : (old : Region) (at : ℕ) (bytes : List ℕ) (lawful : IsPatch old at bytes) → CanPatch old.marked lawful.1.0 at bytes
+patch_can old at bytes lawful = record {
+  holds = lawful.1.2.0.holds;
+  run = lawful.1.2.0.run;
+  pairs = lawful.1.2.1;
+  targets = lawful.1.2.2;
+}
+
+-- a lawful patch of a region ends in the chunk that holds it
+pub patch_ends : (old : Region) (at : ℕ) (bytes : List ℕ) → IsRegion old.marked old.chunks → (lawful : IsPatch old at bytes)
+    → at + length bytes ≤ lawful.1.0.base + lawful.1.0.length
+patch_ends old at bytes region lawful =
+    let held = lawful.1.1 in
+    let l = lies old.marked lawful.1.0 region.whole lawful.1.2.0.holds in
+    omega (arith, lawful.0.1, held.2.0, held.2.1, l.start, l.whole)
 
 -- An instruction is replaced in a world: at a marked place of a live chunk, by one of the same length that ends in it.
 record Replaces (w : World) (chunks : List Chunk) (at : ℕ) (new : List ℕ) : Type 0 where
@@ -96,7 +113,7 @@ byte_put w chunks at byte view r inside long there s =
       stopped = still_stopped w chunks at (byte ∷ []) view at byte r (omega arith) (omega (arith, r.replacing.some)) s.stopped;
     }
 
--- it is the whole instruction
+-- a byte that is all of the new instruction puts it whole
 whole_byte : (w : World) (chunks : List Chunk) (at byte : ℕ) (view text : List ℕ) → Replaces w chunks at (byte ∷ []) → InRegion view at
     → InRegion text at → length view ≡ length (changed w.marked at (byte ∷ [])).bytes
     → byte_at (changed w.marked at (byte ∷ [])).bytes at ≡ byte → Sound w chunks view
@@ -115,7 +132,7 @@ whole_byte w chunks at byte view text r inside within long there s =
     let same : e.i ≡ i = some_same (instruction_at (set view (at - 65536) byte) at) e.i i put_is is in
     omega (arith, one, ap (λ (j : Instr). j.len) same))
 
--- one byte replaced
+-- the put of a new instruction of one byte leads to the world with it in place
 single_leads : (w : World) (chunks : List Chunk) (at byte : ℕ) → Replaces w chunks at (byte ∷ [])
     → Views (λ view. Sound w chunks view) w.marked.bytes w.earlier
     → Reaches w (Puts at byte ∷ []) (record w { marked = changed w.marked at (byte ∷ []) }) (λ view. Sound w chunks view)
@@ -196,7 +213,7 @@ may_lay_rest w chunks at first rest r =
           (open_clear w chunks at (first ∷ rest) view (at + 1 + count) r o (omega arith) (omega (arith, lt)));
     }
 
--- several bytes replaced
+-- the events of a new instruction of several bytes lead to the world with it in place
 longer_leads : (w : World) (chunks : List Chunk) (at first : ℕ) (rest : List ℕ) → Replaces w chunks at (first ∷ rest)
     → Views (λ view. Sound w chunks view) w.marked.bytes w.earlier
     → Reaches w (Puts at 244 ∷ Settles ∷ (events_of no_details (puts_where any_place (at + 1) rest) ++ (Settles ∷ Puts at first ∷ [])))
@@ -249,7 +266,7 @@ longer_leads w chunks at first rest r views =
       views = subst (λ (z : List ℕ). Views (λ view. Sound w chunks view) z b.earlier) is b.views;
     }
 
--- one instruction replaced
+-- the events of a new instruction lead to the world with it in place
 instruction_leads : (w : World) (chunks : List Chunk) (at : ℕ) (new : List ℕ) → Replaces w chunks at new
     → Views (λ view. Sound w chunks view) w.marked.bytes w.earlier
     → Reaches w (instruction_events at new) (record w { marked = changed w.marked at new }) (λ view. Sound w chunks view)
@@ -257,7 +274,7 @@ instruction_leads w chunks at [] r views = absurd (omega (arith, r.replacing.som
 instruction_leads w chunks at (byte ∷ []) r views = single_leads w chunks at byte r views
 instruction_leads w chunks at (byte ∷ next ∷ rest) r views = longer_leads w chunks at byte (next ∷ rest) r views
 
--- or left as it stands
+-- a new instruction, put or left as it stands, leads to the world with it in place
 turn_leads : (w : World) (chunks : List Chunk) (at : ℕ) (new : List ℕ) → Replaces w chunks at new
     → Views (λ view. Sound w chunks view) w.marked.bytes w.earlier → (b : Bool) → stands_there w.marked.bytes at new ≡ b
     → Reaches w (cond b [] (instruction_events at new)) (record w { marked = changed w.marked at new }) (λ view. Sound w chunks view)
@@ -274,7 +291,7 @@ turn_leads w chunks at new r views false is = instruction_leads w chunks at new 
 same_news : (bytes : List ℕ) (xs ys : List Piece) → AreBytesOf bytes xs → AreBytesOf bytes ys → xs ≡ ys
 same_news bytes xs ys a b = same_pieces xs ys a.spelled b.spelled (sym a.parts ∙ b.parts)
 
--- no byte set anew
+-- a list with no element of a span set is the same
 span_none : (xs : List ℕ) (start : ℕ) → with_span xs start [] ≡ xs
 span_none xs start =
     let e : start + 0 ≡ start = omega arith in
@@ -380,7 +397,7 @@ no_patch : (marked : MarkedText) (at : ℕ) (new : List ℕ) → AreBytesOf new 
 no_patch marked at new b =
     sym (ap (λ (z : List ℕ). with_span marked.bytes (at - 65536) z) b.parts ∙ span_none marked.bytes (at - 65536))
 
--- with the patch it is a region's text
+-- a region's text with a lawful patch is a region's
 pub patched_region : (news : List Piece) (marked : MarkedText) (chunks : List Chunk) (c : Chunk) (at : ℕ) (new : List ℕ)
     → IsRegion marked chunks → Contains chunks c → IsLive c.state → c.base ≤ at → CanPatch marked c at new → AreBytesOf new news
     → at + length new ≤ c.base + c.length → IsRegion (changed marked at new) chunks
@@ -392,7 +409,7 @@ patched_region (n ∷ ns) marked chunks c at new region has live from patch b en
     (patched_region ns (changed marked at n.bytes) chunks c (at + length n.bytes) (code_of ns) s.region has live (omega (arith, from))
     s.patch_rest s.bytes_rest (omega (arith, ends, s.long)))
 
--- the instructions of a patch, one after the other
+-- the events of a patch's instructions lead to the world with the patch in place
 pub patch_leads : (news : List Piece) (w : World) (chunks : List Chunk) (c : Chunk) (at : ℕ) (new : List ℕ) → IsRegion w.marked chunks
     → AreSpansOf w.retired chunks → Contains chunks c → IsLive c.state → c.base ≤ at → CanPatch w.marked c at new → AreBytesOf new news
     → at + length new ≤ c.base + c.length → Views (λ view. Sound w chunks view) w.marked.bytes w.earlier

@@ -76,7 +76,7 @@ whole_put_single marks spans view text there byte good inside within marked shor
     whole_put_marked marks spans view text there byte good inside.0 marked (λ i is k lt.
     put_in_both view text there.place byte k inside within (omega (arith, lt, short i is)))
 
--- a stop is
+-- a stop put at a marked place puts a whole instruction
 pub whole_put_stop : (marks : List Mark) (spans : List RetiredSpan) (view text : List ℕ) (there : State) (byte : ℕ)
     → Good view marks spans → InRegion view there.place → InRegion text there.place → IsMarked marks there → byte ≡ 244
     → PutsWhole marks view text there.place byte

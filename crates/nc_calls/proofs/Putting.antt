@@ -39,16 +39,16 @@ pub record Leads (w : World) (events : List Event) (v : World) : Type 0 where
   pub whole : IsWholeIn w → StaysWhole w events
   pub after_is : world_after w events ≡ v
 
--- no event
+-- the empty list of events leads from a world to itself
 pub leads_none : (w : World) → Leads w [] w
 leads_none w = record { allowed = tt; whole = λ whole. whole; after_is = refl }
 
--- one event
+-- one allowed event leads to the world after it
 pub leads_one : (w : World) (event : Event) → IsAllowed w event → (IsWholeIn w → IsWholeIn (after w event))
     → Leads w (event ∷ []) (after w event)
 leads_one w event allowed keeps = record { allowed = (allowed, tt); whole = λ whole. (whole, keeps whole); after_is = refl }
 
--- events after events
+-- events after events lead where the later ones do
 pub leads_more : (w v u : World) (first second : List Event) → Leads w first v → Leads v second u → Leads w (first ++ second) u
 leads_more w v u first second a b =
     record {
@@ -72,7 +72,7 @@ pub record Reaches (w : World) (events : List Event) (v : World) (V : List ℕ �
   pub leads : Leads w events (record v { earlier = earlier })
   pub views : Views V v.marked.bytes earlier
 
--- what follows of each view
+-- what follows of each view holds of the views of the world reached
 pub reaches_as : (w : World) (events : List Event) (v : World) (V W : List ℕ → Type 0) → ((view : List ℕ) → V view → W view)
     → Reaches w events v V → Reaches w events v W
 reaches_as w events v V W f r = record { earlier = r.earlier; leads = r.leads; views = λ view is. f view (r.views view is) }
@@ -98,7 +98,7 @@ put_leads w V now before at byte inside good views put whole =
       views = later;
     }
 
--- a settling
+-- a settling leads to the world that has settled
 pub settling_leads : (w : World) (now : List ℕ) (before : List (List ℕ)) → Leads (with_text w now before) (Settles ∷ []) (settled w now)
 settling_leads w now before = leads_one (with_text w now before) Settles tt (λ whole. whole_settled w.marked.marks now)
 
@@ -112,7 +112,7 @@ pub record MayLay (w : World) (chosen : ℕ → Bool) (base : ℕ) (bytes : List
   pub whole : (view text : List ℕ) (count : ℕ) → count < length bytes → chosen (base + count) ≡ true → InRegion view (base + count)
       → InRegion text (base + count) → V view → V text → PutsWhole w.marked.marks view text (base + count) (get_or bytes count 0)
 
--- one more byte, put or passed over
+-- a run of puts goes on by one more byte, put or passed over
 lay_one : (w : World) (d : Details) (chosen : ℕ → Bool) (base : ℕ) (bytes old : List ℕ) (V : List ℕ → Type 0)
     → MayLay w chosen base bytes V → base + length bytes ≤ 65536 + length old
     → (byte : ℕ) (rest : List ℕ) (count at : ℕ) (now : List ℕ) (before : List (List ℕ)) → at ≡ base + count → count < length bytes
@@ -179,7 +179,7 @@ lay w d chosen base bytes old V may fits (byte ∷ rest) count at now before lef
     (omega (arith, here)) (omega (arith, lt)) next still)
     (chosen at) refl
 
--- all of them
+-- a run of puts lays all of its bytes at the chosen places
 pub lay_all : (w : World) (d : Details) (chosen : ℕ → Bool) (base : ℕ) (bytes now : List ℕ) (before : List (List ℕ))
     (V : List ℕ → Type 0) → MayLay w chosen base bytes V → base + length bytes ≤ 65536 + length now → Views V now before
     → HasLaid w now before (events_of d (puts_where chosen base bytes)) (HasPut chosen base bytes (length bytes) now) V

@@ -25,7 +25,7 @@ use Rattle.nc_calls.proofs.Putting.{Leads, leads_more}
 use Rattle.nc_calls.proofs.Reclaiming.{FreesMay, frees, frees_same, frees_woven, frees_done, finds_all, keeper_stays}
 use Rattle.nc_calls.proofs.Woven.{seated}
 
--- a reclaiming
+-- the events of a reclaim lead to a world that stands for the new region
 pub reclaimed : (limit seats : ℕ) (before events : List Event) (old new : Region) (count : ℕ)
     → HasLedTo limit seats before old → IsRegion old.marked old.chunks → IsReclaimed old new count
     → writers events ≡ reclaim_events seats (least_number new.keeper.numbers) old.chunks

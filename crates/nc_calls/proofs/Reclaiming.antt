@@ -85,7 +85,7 @@ frees_woven (Frees span ∷ events) w seats known keeps range knows may threads 
 
 -- ---- members of a filtered list
 
--- what is kept was there, and passes
+-- what a test keeps of a list was there, and passes
 filter_from : {X : Type 0} (p : X → Bool) (xs : List X) (x : X) → Contains (filter p xs) x → Contains xs x × (p x ≡ true)
 filter_from p xs x has = (
   All-contains (Contains xs) (filter p xs) x (All-filter p (Contains xs) xs (All-contains_itself xs)) has,
@@ -93,7 +93,7 @@ filter_from p xs x has = (
       (λ y. p y ≡ true) (filter p xs) x (filter_passes p xs) has,
 )
 
--- the first one is kept
+-- a member that passes is kept at the head
 filter_head : {X : Type 0} (p : X → Bool) (y x : X) (rest : List X) (b : Bool) → p y ≡ b → y ≡ x → p x ≡ true
     → Contains (cond b (y ∷ rest) rest) x
 filter_head p y x rest true e same is = subst (Contains (y ∷ rest)) same (Contains-append_left (y ∷ []) rest y (Contains-push [] y))
@@ -111,13 +111,13 @@ filter_at p [] x k lt e is = absurd (omega arith)
 filter_at p (y ∷ ys) x zero lt e is = filter_head p y x (filter p ys) (p y) refl e is
 filter_at p (y ∷ ys) x (suc k) lt e is = filter_later y x (filter p ys) (p y) (filter_at p ys x k (omega (arith, lt)) e is)
 
--- what was there and passes is kept
+-- what was in a list and passes a test is kept
 filter_to : {X : Type 0} (p : X → Bool) (xs : List X) (x : X) → Contains xs x → p x ≡ true → Contains (filter p xs) x
 filter_to p xs x has is = filter_at p xs x has.0 has.1 has.2 is
 
 -- ---- spans by their bases
 
--- the same span has the same base
+-- spans that the test finds to be the same have the same base
 same_base : (a b : RetiredSpan) → is_same_span a b ≡ true → a.base ≡ b.base
 same_base a b e =
     elim (eqb_tells a.base b.base) [
@@ -146,7 +146,7 @@ same_itself a =
 abbrev IsClear : ℕ → RetiredSpan → Type 0
 IsClear base span = base ≢ span.base
 
--- the other chunks of a rising list have other bases
+-- in a rising list each retired chunk but a given one has another base
 others_clear : (from : ℕ) (before after : List Chunk) (c : Chunk) (limit : ℕ) → IsRising from (before ++ c ∷ after)
     → Each (λ (d : Chunk). HasGoodSpan d.base limit d.length) (before ++ c ∷ after)
     → Each (λ (d : Chunk). (stamp : ℕ) → d.state ≡ Retired stamp → IsClear c.base
@@ -209,7 +209,7 @@ frees spans chunks = events_of (record { marks = []; base = 0; len = 0; seats = 
 abbrev pub Finds : List RetiredSpan → Chunk → Type 0
 Finds all c = (stamp : ℕ) → c.state ≡ Retired stamp → span_from all c.base ≡ record { base = c.base; length = c.length; stamp = stamp }
 
--- one more chunk before others doesn't hide what is found
+-- a chunk with another base in front doesn't hide the span that a base finds
 found_behind : (x c : Chunk) (s : ChunkState) (spans : List RetiredSpan) (to : RetiredSpan) → x.base ≢ c.base → span_from spans c.base ≡ to
     → span_from (with_retired x s spans) c.base ≡ to
 found_behind x c Live spans to ne e = e
@@ -217,7 +217,7 @@ found_behind x c (Retired stamp) spans to ne e =
     ap (λ (b : Bool). cond b (record { base = x.base; length = x.length; stamp = stamp }) (span_from spans c.base))
     (ne_eqb x.base c.base ne) ∙ e
 
--- the first one is found
+-- the span of a retired chunk in front is found by the chunk's base
 found_first : (c : Chunk) (s : ChunkState) (spans : List RetiredSpan) (stamp : ℕ) → s ≡ Retired stamp
     → span_from (with_retired c s spans) c.base ≡ record { base = c.base; length = c.length; stamp = stamp }
 found_first c s spans stamp is =
@@ -247,14 +247,14 @@ due_is least (Retired stamp) is = (stamp, refl, grind (arith, nat_tests, is))
 retired_dead : (s : ChunkState) (stamp : ℕ) → s ≡ Retired stamp → IsLive s → ⊥
 retired_dead s stamp is live = subst IsLive is live
 
--- that these events may free, which chunks are left, and which text
+-- what some frees have done: they were allowed, and which spans, text and keeper are left
 pub record FreesDone (v : World) (least : ℕ) (events : List Event) (left : List Chunk) (marked : MarkedText) : Type 0 where
   pub may : FreesMay v.retired least events
   pub spans : AreSameSpans (world_after v events).retired left
   pub marked_is : (world_after v events).marked ≡ marked
   pub keeper_is : (world_after v events).keeper ≡ v.keeper
 
--- one more chunk that is due
+-- frees go on over one more chunk that is due
 free_one : (least : ℕ) (all : List RetiredSpan) (done rest : List Chunk) (c : Chunk) (v : World) → IsRegion v.marked (done ++ c ∷ rest)
     → Finds all c → AreSameSpans v.retired (done ++ c ∷ rest)
     → ((w : World) → IsRegion w.marked (done ++ rest) → AreSameSpans w.retired (done ++ rest)
@@ -278,7 +278,7 @@ free_one least all done rest c v region finds same go stamp is le =
     (unmarked v.marked (c ∷ freed least rest))) (sym (finds stamp is))
     (record { may = (has, le, r.may); spans = r.spans; marked_is = r.marked_is; keeper_is = r.keeper_is })
 
--- one more chunk, due or not
+-- frees go on over one more chunk, due or not
 free_next : (least : ℕ) (all : List RetiredSpan) (done rest : List Chunk) (c : Chunk) (v : World) → IsRegion v.marked (done ++ c ∷ rest)
     → Finds all c → AreSameSpans v.retired (done ++ c ∷ rest)
     → ((before : List Chunk) (w : World) → IsRegion w.marked (before ++ rest) → AreSameSpans w.retired (before ++ rest)
@@ -295,7 +295,7 @@ free_next least all done rest c v region finds same go false due =
     (seam (kept least rest))
     (go (done ++ c ∷ []) v (subst (IsRegion v.marked) (sym (seam rest)) region) (subst (AreSameSpans v.retired) (sym (seam rest)) same))
 
--- all of them
+-- frees go on over all the chunks that are left
 pub frees_done : (least : ℕ) (all : List RetiredSpan) (rest done : List Chunk) (v : World) → IsRegion v.marked (done ++ rest)
     → Each (Finds all) rest → AreSameSpans v.retired (done ++ rest)
     → FreesDone v least (frees all (freed least rest)) (done ++ kept least rest) (unmarked v.marked (freed least rest))

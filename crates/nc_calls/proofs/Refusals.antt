@@ -21,13 +21,13 @@ refused_same old new v WrongLimit same = same_but_pages old new same
 refused_same old new v Occupied same = same_but_pages old new same
 refused_same old new v OutOfMemory pages = pages.0
 
--- and so does every refused call
+-- a refused call leaves the region as it was but for pages
 pub refusal_same : (old new : Region) (own : List Event) → IsRefusal old new own → new ≡ record old { made = new.made }
 refusal_same old new own (OfCreation v fault due is none) = refused_same old new v fault is
 refusal_same old new own (OfPatch at bytes fault due same none) = same_but_pages old new same
 refusal_same old new own (OfDeletion base fault due same none) = same_but_pages old new same
 
--- which has no event
+-- a refused call has no event
 pub refusal_silent : (old new : Region) (own : List Event) → IsRefusal old new own → own ≡ []
 refusal_silent old new own (OfCreation v fault due is none) = none
 refusal_silent old new own (OfPatch at bytes fault due same none) = none

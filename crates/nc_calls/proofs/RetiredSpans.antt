@@ -15,23 +15,23 @@ use Rattle.nc_region.specs.Quiet.{with_retired, retired_spans}
 use Rattle.nc_region.specs.Region.{IsLive}
 use Rattle.nc_region.proofs.Offered.{each_contains}
 
--- one chunk's span before others
+-- one chunk's span, if it is retired, before two lists of spans
 with_append : (c : Chunk) (s : ChunkState) (xs ys : List RetiredSpan) → with_retired c s (xs ++ ys) ≡ with_retired c s xs ++ ys
 with_append c Live xs ys = refl
 with_append c (Retired stamp) xs ys = refl
 
--- the spans of two lists
+-- the retired spans of two lists are those of the one and then those of the other
 pub retired_append : (xs ys : List Chunk) → retired_spans (xs ++ ys) ≡ retired_spans xs ++ retired_spans ys
 retired_append [] ys = refl
 retired_append (c ∷ xs) ys =
     ap (λ (z : List RetiredSpan). with_retired c c.state z) (retired_append xs ys) ∙ with_append c c.state (retired_spans xs) (retired_spans ys)
 
--- a live chunk adds none
+-- a live chunk adds no retired span
 pub live_none : (c : Chunk) (s : ChunkState) (rest : List RetiredSpan) → IsLive s → with_retired c s rest ≡ rest
 live_none c Live rest live = refl
 live_none c (Retired stamp) rest live = absurd live
 
--- nor where it is inserted
+-- a live chunk adds no retired span where it is inserted
 pub retired_insert : (chunks : List Chunk) (k : ℕ) (c : Chunk) → IsLive c.state
     → retired_spans (insert chunks k c) ≡ retired_spans chunks
 retired_insert chunks k c live =
@@ -39,7 +39,7 @@ retired_insert chunks k c live =
     ∙ (ap (λ (z : List RetiredSpan). retired_spans (take k chunks) ++ z) (live_none c c.state (retired_spans (drop k chunks)) live)
     ∙ (sym (retired_append (take k chunks) (drop k chunks)) ∙ ap retired_spans (take-append-drop k chunks)))
 
--- the span of a retired chunk before others
+-- what holds of each span still does with that of a retired chunk in front, if it holds of that
 with_each : (P : RetiredSpan → Type 0) (c : Chunk) (s : ChunkState) (spans : List RetiredSpan) → c.state ≡ s
     → ((stamp : ℕ) → c.state ≡ Retired stamp → P (record { base = c.base; length = c.length; stamp = stamp })) → Each P spans
     → Each P (with_retired c s spans)
@@ -82,11 +82,11 @@ into_middle xs ys y x has =
       | inr r ↦ Contains-append_right xs (y ∷ ys) x (Contains-append_right (y ∷ []) ys x r)
     ]
 
--- that one
+-- the element in the middle of a list is in it
 pub the_middle : {X : Type 0} (xs ys : List X) (y : X) → Contains (xs ++ y ∷ ys) y
 the_middle xs ys y = Contains-append_right xs (y ∷ ys) y (Contains-append_left (y ∷ []) ys y (Contains-push [] y))
 
--- a member is that one or another
+-- a member of a list is the one in the middle, or one of the others
 pub out_of_middle : {X : Type 0} (xs ys : List X) (y x : X) → Contains (xs ++ y ∷ ys) x → (y ≡ x) ⊎ Contains (xs ++ ys) x
 out_of_middle xs ys y x has =
     elim (Contains-append_cases xs (y ∷ ys) x has) [

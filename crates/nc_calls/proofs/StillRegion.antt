@@ -13,15 +13,14 @@ use Rattle.nc_gens.specs.Seen.{least_number}
 use Rattle.nc_region.specs.Chunks.{HasGoodSpan}
 use Rattle.nc_region.specs.Deletion.{is_due, freed, kept, unmarked, IsDeleted, IsReclaimed}
 use Rattle.nc_region.specs.Patch.{IsPatch, IsModified, AreBytesOf}
-use Rattle.nc_region.specs.machinery.PatchSteps.{CanPatch}
 use Rattle.nc_region.specs.Region.{Region, IsLive, IsRegion, IsCreated}
-use Rattle.nc_region.proofs.Offered.{due_dead, each_get, listed_there, same_code, lies, region_deleted, region_freed, changed}
+use Rattle.nc_region.proofs.Offered.{due_dead, each_get, listed_there, same_code, region_deleted, region_freed, changed}
 use Rattle.nc_region.proofs.Offered.{place_of, Before, Within, Behind, before_span, span_before, span_behind, span_within}
 use Rattle.nc_calls.proofs.Creation.{created_region}
 use Rattle.nc_calls.proofs.Good.{text_of}
-use Rattle.nc_calls.proofs.Patching.{patched_region}
+use Rattle.nc_calls.proofs.Patching.{patched_region, patch_can, patch_ends}
 
--- a creation
+-- after a creation the region is still one (`IsRegion`)
 pub still_created : (old new : Region) (v : MarkedChunk) → IsRegion old.marked old.chunks → IsValid v
     → v.limit ≡ limit_of old.marked.bytes → IsCreated old new v → IsRegion new.marked new.chunks
 still_created old new v region valid limit is =
@@ -32,20 +31,13 @@ still_created old new v region valid limit is =
     (subst (IsRegion (text_of (with_span old.marked.bytes (v.base - 65536) v.code) (with_span old.marked.marks (v.base - 65536) v.marks)))
     (sym is.chunks.2) (created_region old.marked old.chunks v is.chunks.0 region valid limit is.chunks.1))
 
--- a patch
+-- after a patch the region is still one (`IsRegion`)
 pub still_patched : (old new : Region) (at : ℕ) (bytes : List ℕ) (news : List Piece) → IsRegion old.marked old.chunks
     → IsPatch old at bytes → AreBytesOf bytes news → IsModified old new at bytes → IsRegion new.marked new.chunks
 still_patched old new at bytes news region lawful b is =
-    let c = lawful.1.0 in
     let held = lawful.1.1 in
-    let patch : CanPatch old.marked lawful.1.0 at bytes = record {
-      holds = lawful.1.2.0.holds;
-      run = lawful.1.2.0.run;
-      pairs = lawful.1.2.1;
-      targets = lawful.1.2.2;
-    } in
-    let l = lies old.marked lawful.1.0 region.whole lawful.1.2.0.holds in
-    let ends : at + length bytes ≤ c.base + c.length = omega (arith, lawful.0.1, held.2.0, held.2.1, l.start, l.whole) in
+    let patch = patch_can old at bytes lawful in
+    let ends = patch_ends old at bytes region lawful in
     let same : new.marked ≡ changed old.marked at bytes =
     same_code new.marked (changed old.marked at bytes) is.patched (ap (λ (r : Region). r.marked.marks) is.others) in
     subst (λ (m : MarkedText). IsRegion m new.chunks) (sym same)
@@ -73,7 +65,7 @@ stopped_closed marked base len closed placed =
           span_behind marked.bytes base (replicate len 244) (now.place + k) 0 placed.low fits (omega (arith, p, n)))
     ])
 
--- a deletion
+-- after a deletion the region is still one (`IsRegion`)
 pub still_deleted : (old new : Region) (base stamp : ℕ) → IsRegion old.marked old.chunks → IsDeleted old new base stamp
     → IsRegion new.marked new.chunks
 still_deleted old new base stamp region is =
@@ -124,7 +116,7 @@ unmarked_region least (c ∷ rest) done marked region =
     go true is free stay = free (region_freed marked done rest c region (due_dead least c.state is))
     go false is free stay = stay
 
--- a reclaiming
+-- after a reclaim the region is still one (`IsRegion`)
 pub still_reclaimed : (old new : Region) (count : ℕ) → IsRegion old.marked old.chunks → IsReclaimed old new count
     → IsRegion new.marked new.chunks
 still_reclaimed old new count region is =

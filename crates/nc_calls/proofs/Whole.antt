@@ -37,7 +37,7 @@ PutsWhole marks view text at byte =
     → ((instruction_at view now.place ≡ Some i) × KeepsBytes view (set view (at - 65536) byte) now.place i.len)
     ⊎ ((now.place ≡ at) × KeepsBytes (set view (at - 65536) byte) (set text (at - 65536) byte) now.place i.len)
 
--- so what views have still stood there whole
+-- what views have at marked places has still stood there whole after a byte that puts instructions whole
 pub whole_after_put : (marks : List Mark) (text : List ℕ) (earlier : List (List ℕ)) (at byte : ℕ) → InRegion text at
     → ((view : List ℕ) → IsView text earlier view → PutsWhole marks view text at byte)
     → AllStoodWhole marks text earlier → AllStoodWhole marks (set text (at - 65536) byte) (text ∷ earlier)
@@ -73,27 +73,27 @@ whole_after_put marks text earlier at byte inside puts whole = λ now m view i v
 abbrev pub IsWholeIn : World → Type 0
 IsWholeIn w = AllStoodWhole w.marked.marks w.marked.bytes w.earlier
 
--- and so it is after each of these events
+-- what views have at marked places stood there whole before these events and after each of them
 abbrev pub StaysWhole : World → List Event → Type 0
 StaysWhole w [] = IsWholeIn w
 StaysWhole w (event ∷ events) = IsWholeIn w × StaysWhole (after w event) events
 
--- before the events
+-- events over which views stay whole begin in a world where they are
 pub whole_first : (w : World) (events : List Event) → StaysWhole w events → IsWholeIn w
 whole_first w [] whole = whole
 whole_first w (event ∷ events) whole = whole.0
 
--- up to an event
+-- events over which views stay whole do so up to any of them
 pub whole_front : (w : World) (events later : List Event) → StaysWhole w (events ++ later) → StaysWhole w events
 whole_front w [] later whole = whole_first w later whole
 whole_front w (event ∷ events) later whole = (whole.0, whole_front (after w event) events later whole.1)
 
--- after some of them
+-- events over which views stay whole leave them so after some of them
 pub whole_between : (w : World) (events later : List Event) → StaysWhole w (events ++ later) → IsWholeIn (world_after w events)
 whole_between w [] later whole = whole_first w later whole
 whole_between w (event ∷ events) later whole = whole_between (after w event) events later whole.1
 
--- events after events
+-- events over which views stay whole do so with later ones that do
 pub whole_append : (w : World) (events later : List Event) → StaysWhole w events
     → (IsWholeIn (world_after w events) → StaysWhole (world_after w events) later) → StaysWhole w (events ++ later)
 whole_append w [] later whole go = go whole

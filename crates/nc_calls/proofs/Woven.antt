@@ -30,7 +30,7 @@ pub record Woven (w : World) (seats : List Seat) (events : List Event) : Type 0 
   pub seats_after : List Seat
   pub after_is : world_after (seated w seats) events ≡ seated (world_after w (writers events)) seats_after
 
--- one more event of the writer
+-- woven events are woven with one more of the writer in front
 pub writer_more : (w : World) (seats : List Seat) (event : Event) (events : List Event) → is_writers event ≡ true
     → IsAllowed (seated w seats) event → after (seated w seats) event ≡ seated (after w event) seats
     → writers (event ∷ events) ≡ event ∷ writers events → Woven (after w event) seats events → Woven w seats (event ∷ events)
@@ -45,7 +45,7 @@ writer_more w seats event events is allowed same list rest =
           ∙ (rest.after_is ∙ ap (λ (z : List Event). seated (world_after w z) rest.seats_after) (sym list));
     }
 
--- one more event of a thread
+-- woven events are woven with one more of a thread in front
 pub thread_more : (w : World) (seats later : List Seat) (event : Event) (events : List Event)
     → IsAllowed (seated w seats) event → after (seated w seats) event ≡ seated w later
     → writers (event ∷ events) ≡ writers events → Woven w later events → Woven w seats (event ∷ events)

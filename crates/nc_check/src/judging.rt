@@ -4,7 +4,7 @@ use crate::files::{Unread, read_file};
 use crate::parts::{Part, parts_of};
 use nc_command::CheckAsk;
 use nc_elf::{ElfFault, is_elf};
-use nc_output::{Detail, write_out};
+use nc_output::{Detail, Format, Style, write_out};
 use nc_report::{ReportFault, Source, is_hexadecimal, push_file_object, report};
 use std::alloc::{AllocError, Global};
 use std::io::{Input, Write};
@@ -29,7 +29,7 @@ fn judge_part<W: Write>(
     writer: &mut W,
 ) -> Result<bool, Unjudged> {
     let Part { base, source } = part;
-    match report(alloc, source, base, ask.bundles, ask.detail, writer) {
+    match report(alloc, source, base, ask.bundles, ask.style, writer) {
         Ok(refused) => Ok(refused),
         Err(ReportFault::WriteFailed) => Err(Unjudged::WriteFailed),
         // the number of bundles is in range, since the command line was parsed
@@ -57,16 +57,16 @@ fn judge_parts<W: Write>(
 /// Adds the text written for an ELF file that is refused as a whole, for a fault of this meaning.
 fn push_refusal(
     text: &mut Vec<u8>,
-    detail: Detail,
+    style: Style,
     file: &[u8],
     meaning: &[u8],
 ) -> Result<(), AllocError> {
-    if detail == Detail::Object {
+    if style.format == Format::Json {
         return push_file_object(text, file, b"BadElf", meaning);
     }
     text.extend_from_slice(file)?;
     text.extend_from_slice(b": refused BadElf\n")?;
-    if detail == Detail::Brief {
+    if style.detail == Detail::Brief {
         return Ok(());
     }
     text.extend_from_slice(b"  ")?;
@@ -78,13 +78,13 @@ fn push_refusal(
 /// The text written for an ELF file that is refused as a whole.
 fn refusal(
     alloc: Global,
-    detail: Detail,
+    style: Style,
     file: &str,
     fault: ElfFault,
 ) -> Result<Vec<u8>, AllocError> {
     let meaning = fault.to_string(alloc)?;
     let mut text = Vec::new(alloc);
-    push_refusal(&mut text, detail, file.as_bytes(), meaning.as_bytes())?;
+    push_refusal(&mut text, style, file.as_bytes(), meaning.as_bytes())?;
     Ok(text)
 }
 
@@ -96,7 +96,7 @@ fn refuse<W: Write>(
     fault: ElfFault,
     writer: &mut W,
 ) -> Result<bool, Unjudged> {
-    let Ok(text) = refusal(alloc, ask.detail, file, fault) else {
+    let Ok(text) = refusal(alloc, ask.style, file, fault) else {
         return Err(Unjudged::OutOfMemory);
     };
     match write_out(writer, &text) {
@@ -113,7 +113,7 @@ fn judge_elf<W: Write>(
     source: &Source,
     writer: &mut W,
 ) -> Result<bool, Unjudged> {
-    match parts_of(alloc, source, ask.detail) {
+    match parts_of(alloc, source, ask.style) {
         Ok(parts) => judge_parts(alloc, ask, parts, writer),
         Err(ElfFault::OutOfMemory) => Err(Unjudged::OutOfMemory),
         Err(fault) => refuse(alloc, ask, file, fault, writer),
@@ -125,11 +125,8 @@ const NOTE: &[u8] =
     b"  this is hexadecimal text: its characters were judged, and not the bytes that they spell; turn it into bytes with xxd -r -p\n";
 
 /// Whether more than the verdict is written about an accepted file, in lines of text.
-fn has_lines(detail: Detail) -> bool {
-    match detail {
-        Detail::Brief | Detail::Object => false,
-        Detail::Usual | Detail::All | Detail::Calls => true,
-    }
+fn has_lines(style: Style) -> bool {
+    style.format == Format::Text && style.detail != Detail::Brief
 }
 
 /// Judges raw code, and writes the report on it, with a note on an accepted file of hexadecimal text. Returns whether it was refused.
@@ -140,7 +137,7 @@ fn judge_raw<W: Write>(
     writer: &mut W,
 ) -> Result<bool, Unjudged> {
     let base = ask.base;
-    let is_noted = has_lines(ask.detail) && is_hexadecimal(source.code.as_slice());
+    let is_noted = has_lines(ask.style) && is_hexadecimal(source.code.as_slice());
     let is_refused = judge_part(alloc, ask, Part { base, source }, writer)?;
     if is_noted && !is_refused && write_out(writer, NOTE).is_err() {
         return Err(Unjudged::WriteFailed);

@@ -7,7 +7,7 @@ ghost use Rattle.nc_check.specs.Parts.{code_in, bases_in, codes_in, labels_in, n
 
 use crate::labelling::{labels_of, names_by};
 use nc_elf::{ElfFault, Segment, Symbol, code_segments};
-use nc_output::Detail;
+use nc_output::{Format, Style};
 use nc_report::Source;
 use std::alloc::{AllocError, Global};
 
@@ -24,10 +24,10 @@ fn segment_name(
     alloc: Global,
     file: &[u8],
     address: u32,
-    detail: Detail,
+    format: Format,
 ) -> Result<Vec<u8>, AllocError> {
     let mut name = Vec::from_slice(alloc, file)?;
-    if detail != Detail::Object {
+    if format == Format::Text {
         let place = format!(in alloc; " ({address:08x})")?;
         name.extend_from_slice(place.as_bytes())?;
     }
@@ -40,7 +40,7 @@ fn part_of(
     file: &Source,
     symbols: &[Symbol],
     segment: Segment,
-    detail: Detail,
+    format: Format,
 ) -> Result<Part, AllocError>
     requires in_file { segment.offset + segment.len ≤ length file.now.code.items }
     requires named { All (IsNamed file.now.code.items) symbols.now }
@@ -49,7 +49,7 @@ fn part_of(
     ensures code { IfOk result (λ part. code_in part ≡ bytes_of file.now.code.items segment) }
     ensures labels { IfOk result (λ part. map named part.source.labels ≡ labels_of file.now.code.items symbols.now segment) }
 {
-    let name = segment_name(alloc, file.name.as_slice(), segment.address, detail)?;
+    let name = segment_name(alloc, file.name.as_slice(), segment.address, format)?;
     let code = Vec::from_slice(alloc, segment.bytes(file.code.as_slice()))?;
     let labels = labels_of(alloc, file.code.as_slice(), symbols, segment)?;
     Ok(Part {
@@ -64,7 +64,7 @@ fn list_parts(
     file: &Source,
     symbols: &[Symbol],
     segments: Vec<Segment>,
-    detail: Detail,
+    format: Format,
 ) -> Result<Vec<Part>, AllocError>
     requires in_file { All (IsPlaced file.now.code.items) segments.items }
     requires named { All (IsNamed file.now.code.items) symbols.now }
@@ -75,26 +75,26 @@ fn list_parts(
 {
     let mut parts = Vec::new(alloc);
     for segment in segments {
-        parts.push(part_of(alloc, file, symbols, segment, detail)?)?;
+        parts.push(part_of(alloc, file, symbols, segment, format)?)?;
     }
     Ok(parts)
 }
 
-/// The parts of an ELF file, for this amount of detail: its segments of code, in the order of its program headers. Each has the
+/// The parts of an ELF file, for a report in this style: its segments of code, in the order of its program headers. Each has the
 /// file's name, with its address unless that is written separately.
-pub fn parts_of(alloc: Global, file: &Source, detail: Detail) -> Result<Vec<Part>, ElfFault>
+pub fn parts_of(alloc: Global, file: &Source, style: Style) -> Result<Vec<Part>, ElfFault>
     // The bytes to be judged are those that the program headers name, at the addresses that they name.
     ensures bases { IfOk result (λ parts. bases_in parts.items ≡ map (λ s. s.address) (segments_of file.now.code.items)) }
     ensures codes { IfOk result (λ parts. codes_in parts.items
         ≡ map (bytes_of file.now.code.items) (segments_of file.now.code.items)) }
     // Faults are named by the file's symbols of code, or not at all if only verdicts are written.
-    ensures labels { IfOk result (λ parts. AreLabelled detail file.now.code.items parts.items) }
+    ensures labels { IfOk result (λ parts. AreLabelled style.detail file.now.code.items parts.items) }
 {
     let segments = code_segments(alloc, file.code.as_slice())?;
-    let Ok(symbols) = names_by(alloc, file.code.as_slice(), detail) else {
+    let Ok(symbols) = names_by(alloc, file.code.as_slice(), style.detail) else {
         return Err(ElfFault::OutOfMemory);
     };
-    match list_parts(alloc, file, symbols.as_slice(), segments, detail) {
+    match list_parts(alloc, file, symbols.as_slice(), segments, style.format) {
         Ok(parts) => Ok(parts),
         Err(_) => Err(ElfFault::OutOfMemory),
     }

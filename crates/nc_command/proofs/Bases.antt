@@ -16,7 +16,7 @@ no_small digits rest is all = let head = subst (AllDigits 16) is all in absurd (
 no_large : (digits rest : List ℕ) → digits ≡ 48 ∷ 88 ∷ rest → AllDigits 16 digits → ⊥
 no_large digits rest is all = let head = subst (AllDigits 16) is all in absurd (omega (arith, head.1.0))
 
--- one prefix isn't the other
+-- no text begins with `0x` and with `0X`
 not_both : (a b : List ℕ) → 48 ∷ 120 ∷ a ≡ 48 ∷ 88 ∷ b → ⊥
 not_both a b e = let same : 120 ≡ 88 = ap (λ (l : List ℕ). get_or l 1 0) e in absurd (omega (arith, same))
 
@@ -27,7 +27,7 @@ after_small text digits x strips (inl is) numeral = absurd (no_small digits _ (s
 after_small text digits x strips (inr (inl is)) numeral = strips.2 ∙ ap (λ k. drop k text.now) strips.1.0 ∙ ap (drop 2) is
 after_small text digits x strips (inr (inr is)) numeral = absurd (not_both _ digits (sym strips.1.1 ∙ is))
 
--- or after `0X`, if that stands first
+-- the digits are what is left after `0X`, or the whole text, where no `0x` stands first
 pub after_large : (text : Bor (List ℕ)) (digits : List ℕ) (r : Option (Bor (List ℕ))) → FindsTextPrefix (48 ∷ 120 ∷ []) text.now None
     → MatchOption r (FindsTextPrefix (48 ∷ 88 ∷ []) text.now None) (λ x. StripsPrefix (FindsTextPrefix (48 ∷ 88 ∷ [])) text.now x.now)
     → EndsInDigits text.now digits → IsNumeral 16 digits → (unwrap_or r text).now ≡ digits
@@ -42,7 +42,7 @@ no_plus : (digits : List ℕ) → IsNumeral 16 digits → without_leading_plus d
 no_plus [] numeral = refl
 no_plus (c ∷ cs) numeral = let apart : c ≢ 43 = λ e. let bad : digit_value 43 < 16 = subst (λ d. digit_value d < 16) e numeral.1.0 in absurd (omega (arith, bad)) in search rules
 
--- nor begins with one
+-- a numeral doesn't begin with a plus
 pub no_plus_first : (digits text : List ℕ) → text ≡ digits → IsNumeral 16 digits → slice_index text 0 ≡ 43 → ⊥
 no_plus_first [] text same numeral plus = absurd (omega (arith, numeral.0))
 no_plus_first (c ∷ cs) text same numeral plus =

@@ -1,6 +1,6 @@
 //! The requests that the programs' command lines make.
 
-use nc_output::Detail;
+use nc_output::Style;
 
 /// The work that a command line of `nc_replay` asks for.
 #[derive(Clone, Copy, Debug, Drop, PartialEq, Eq)]
@@ -32,8 +32,8 @@ pub struct CheckAsk<'a> {
     pub bundles: u32,
     /// The number of threads that judge.
     pub workers: u32,
-    /// How much is written about each file.
-    pub detail: Detail,
+    /// How much is written about each file, and in which form.
+    pub style: Style,
     /// The files, at least one; `-` is standard input.
     pub files: Vec<&'a str>,
 }

@@ -13,7 +13,7 @@ use clap::builder::ValueParser;
 use clap::error::ErrorKind;
 use clap::{ArgAction, ArgMatches, Error};
 use nc_decode::MAX_BUNDLES;
-use nc_output::Detail;
+use nc_output::{Detail, Format, Style};
 use std::alloc::{AllocError, Global};
 use std::rt::Env;
 
@@ -118,31 +118,26 @@ fn refusal_by(alloc: Global, message: Result<String, AllocError>) -> Error {
     }
 }
 
-/// How much text is to be written about a file, and the option that asks for it.
-fn text_asked(found: &ArgMatches<'_>) -> (Detail, &'static str) {
+/// How much is to be written about a file.
+fn detail_asked(found: &ArgMatches<'_>) -> Detail {
     if found.get_flag("quiet") {
-        (Detail::Brief, "--quiet")
+        Detail::Brief
     } else if found.get_flag("all") {
-        (Detail::All, "--all")
+        Detail::All
     } else if found.get_flag("calls") {
-        (Detail::Calls, "--calls")
+        Detail::Calls
     } else {
-        (Detail::Usual, "")
+        Detail::Usual
     }
 }
 
-/// How much is to be written about a file. There is only one form of JSON object for a file, so `--format json` excludes each
-/// option that asks for less or more.
-fn detail_asked(alloc: Global, found: &ArgMatches<'_>) -> Result<Detail, Error> {
-    let (detail, option) = text_asked(found);
-    if found.get_str("format") != Some("json") {
-        return Ok(detail);
+/// The form in which it is to be written.
+fn format_asked(found: &ArgMatches<'_>) -> Format {
+    if found.get_str("format") == Some("json") {
+        Format::Json
+    } else {
+        Format::Text
     }
-    if option.is_empty() {
-        return Ok(Detail::Object);
-    }
-    let message = format!(in alloc; "the argument '--format json' cannot be used with '{option}'");
-    Err(refusal_by(alloc, message))
 }
 
 /// The address that is asked for.
@@ -174,14 +169,17 @@ fn asked<'a>(alloc: Global, found: &ArgMatches<'a>) -> Result<CheckAsk<'a>, Erro
     ensures { IfOk result IsCheckInRange }
 {
     let base = base_asked(alloc, found)?;
-    let detail = detail_asked(alloc, found)?;
+    let style = Style {
+        detail: detail_asked(found),
+        format: format_asked(found),
+    };
     let files = files_asked(alloc, found)?;
     Ok(CheckAsk {
         base,
         raw: found.get_flag("raw"),
         bundles: number(found, "bundles", 2, MAX_BUNDLES),
         workers: number(found, "workers", 1, 16),
-        detail,
+        style,
         files,
     })
 }

@@ -1,15 +1,15 @@
 -- The automaton that reads one byte at a time, and the meaning of its states.
-use Rattle.std.specs.Prelude.{ℕ, ◌≡◌, ◌+◌, ◌-◌, ◌%◌, ◌<◌, ◌≤◌, ◌⊎◌, List, [], ◌∷◌, length, drop, slice_index, get_or, Option, Some, None}
+use Rattle.std.specs.Prelude.{ℕ, ◌≡◌, ◌+◌, ◌-◌, ◌/◌, ◌%◌, ◌<◌, ◌≤◌, ◌⊎◌, List, [], ◌∷◌, length, drop, slice_index, get_or, Option, Some, None}
 use Rattle.std.specs.Prelude.{IsTrue, All, ◌==◌, if◌then◌else◌}
 use Rattle.std.specs.Int.{w8, w32, cast_signed, from_le_bytes}
-use Rattle.nc_decode.specs.declared.automaton.TheConstants.{NEXT, STATES, END, AFTER_MASK, AFTER_SHORT, AFTER_NEAR, AFTER_PAIR}
+use Rattle.nc_decode.specs.declared.automaton.TheConstants.{ROWS, STATES, END, AFTER_MASK, AFTER_SHORT, AFTER_NEAR, AFTER_PAIR}
 use Rattle.nc_decode.specs.declared.instruction.Instr.{Instr}
 use Rattle.nc_decode.specs.Spelling.{Spells}
 use Rattle.nc_decode.specs.Transfers.{is_direct, is_indirect}
 
--- the state after one more byte, by the program's table `NEXT`
+-- the state after one more byte, by the program's table `ROWS`, which has the places of rows of 257 numbers
 unfoldable pub next_state : ℕ → ℕ → ℕ
-next_state s b = get_or (get_or NEXT s []) b 0
+next_state s b = get_or (get_or ROWS s []) b 0 / 257
 
 -- the register masked directly before a state, if any
 abbrev pub masked_at : ℕ → Option ℕ

@@ -13,6 +13,10 @@ ghost use Rattle.nc_decode.specs.Automaton.{next_state};
 use crate::states::State;
 use crate::states::State::*;
 use crate::table::{one_byte, two_byte};
+use std::marker::Model;
+
+/// The length of a row of the table.
+const ROW: usize = 257;
 
 /// The number of states.
 pub const STATES: usize = AFTER_PAIR as usize + 1;
@@ -28,6 +32,11 @@ pub const AFTER_SHORT: u8 = State::AfterShort as u8;
 pub const AFTER_NEAR: u8 = State::AfterNear as u8;
 /// After an indirect transfer with its mask.
 pub const AFTER_PAIR: u8 = State::AfterPair as u8;
+
+/// The place of a state's row.
+macro_rules! row {
+    ($state:expr) => { 257 * ($state as u16) };
+}
 
 /// The state after an opcode with this entry, with no prefix (0) or after 66 (1), F3 (2), F2 (3) or F0 (4).
 #[rattlefmt::skip]
@@ -88,32 +97,32 @@ macro_rules! kind {
 /// The state in the column of this number.
 #[rattlefmt::skip]
 macro_rules! column {
-    (0 $state:ident, $b:ident, $c:ident, $d:ident, $e:ident) => { $state as u8 };
-    (1 $a:ident, $state:ident, $c:ident, $d:ident, $e:ident) => { $state as u8 };
-    (2 $a:ident, $b:ident, $state:ident, $d:ident, $e:ident) => { $state as u8 };
-    (3 $a:ident, $b:ident, $c:ident, $state:ident, $e:ident) => { $state as u8 };
-    (4 $a:ident, $b:ident, $c:ident, $d:ident, $state:ident) => { $state as u8 };
+    (0 $state:ident, $b:ident, $c:ident, $d:ident, $e:ident) => { row!($state) };
+    (1 $a:ident, $state:ident, $c:ident, $d:ident, $e:ident) => { row!($state) };
+    (2 $a:ident, $b:ident, $state:ident, $d:ident, $e:ident) => { row!($state) };
+    (3 $a:ident, $b:ident, $c:ident, $state:ident, $e:ident) => { row!($state) };
+    (4 $a:ident, $b:ident, $c:ident, $d:ident, $state:ident) => { row!($state) };
 }
 
 /// The states after each opcode of a map, with the prefix of this number.
 macro_rules! opcodes {
-    (($prefix:tt) $($entry:ident,)*) => { [$(kind!($entry $prefix)),*] };
+    (($prefix:tt) $($entry:ident,)*) => { [$(kind!($entry $prefix),)* 0] };
 }
 
 /// The states after each opcode of a map with no prefix, except that FF leads to this state.
 macro_rules! after_mask {
-    (($transfer:tt) $($entry:ident,)*) => { [$(after_mask!($entry $transfer)),*] };
-    (G5 $transfer:tt) => { $transfer as u8 };
+    (($transfer:tt) $($entry:ident,)*) => { [$(after_mask!($entry $transfer),)* 0] };
+    (G5 $transfer:tt) => { row!($transfer) };
     ($entry:ident $transfer:tt) => { kind!($entry 0) };
 }
 
 /// The state by the form of ModRM: not permitted (O), permitted (X), permitted with no number (N), or by rm.
 #[rattlefmt::skip]
 macro_rules! form {
-    (O $rm:tt $state:tt $none:tt) => { Dead as u8 };
-    (X $rm:tt $state:tt $none:tt) => { $state as u8 };
-    (N $rm:tt $state:tt $none:tt) => { $none as u8 };
-    ([$($by_rm:tt)*] $rm:tt $state:tt $none:tt) => { [$($by_rm),*][$rm] as u8 };
+    (O $rm:tt $state:tt $none:tt) => { row!(Dead) };
+    (X $rm:tt $state:tt $none:tt) => { row!($state) };
+    (N $rm:tt $state:tt $none:tt) => { row!($none) };
+    ([$($by_rm:tt)*] $rm:tt $state:tt $none:tt) => { row!([$($by_rm),*][$rm]) };
 }
 
 /// The states after ModRM, by the length of the number at the end, and by reg with an operand in memory and in a register.
@@ -132,7 +141,7 @@ macro_rules! modrm {
         $(form!($m 0 $d Left4), form!($m 0 $d Left4), form!($m 0 $d Left4), form!($m 0 $d Left4),
           form!($m 0 $e Left5), form!($m 0 $d Left4), form!($m 0 $d Left4), form!($m 0 $d Left4),)*
         $(form!($r 0 $a End), form!($r 1 $a End), form!($r 2 $a End), form!($r 3 $a End),
-          form!($r 4 $a End), form!($r 5 $a End), form!($r 6 $a End), form!($r 7 $a End),)*
+          form!($r 4 $a End), form!($r 5 $a End), form!($r 6 $a End), form!($r 7 $a End),)* 0
     ] };
 }
 
@@ -152,13 +161,14 @@ macro_rules! mask_number {
 macro_rules! sib {
     ($n:tt $four:tt) => { sib!($n $four X X X X X X X X X X X X X X X X X X X X X X X X X X X X X X X X) };
     ($n:tt $four:tt $($x:tt)*) => { [$(form!($x 0 $n Dead), form!($x 1 $n Dead), form!($x 2 $n Dead), form!($x 3 $n Dead),
-        form!($x 4 $n Dead), form!($x 5 $four Dead), form!($x 6 $n Dead), form!($x 7 $n Dead),)*] };
+        form!($x 4 $n Dead), form!($x 5 $four Dead), form!($x 6 $n Dead), form!($x 7 $n Dead),)* 0] };
 }
 
-/// The next state, by state and byte.
+/// The places of the rows of the next states, by state and byte. Each row ends with a 0 that is never read: so the low byte of a
+/// place is the number of the state.
 #[rattlefmt::skip]
-pub(crate) static NEXT: [[u8; 256]; STATES] = [
-    /* Dead             */ [Dead as u8; 256],
+pub(crate) static ROWS: [[u16; ROW]; STATES] = [
+    /* Dead             */ [row!(Dead); ROW],
     // An opcode is next.
     /* After66          */ one_byte!(opcodes 1),
     /* AfterF3          */ one_byte!(opcodes 2),
@@ -212,21 +222,21 @@ pub(crate) static NEXT: [[u8; 256]; STATES] = [
     /* SibByte          */ sib!(Left1 Left5),
     /* SibWord          */ sib!(Left2 Left6),
     /* SibLong          */ sib!(Left4 Left8),
-    /* Left1            */ [End as u8; 256],
-    /* Left2            */ [Left1 as u8; 256],
-    /* Left3            */ [Left2 as u8; 256],
-    /* Left4            */ [Left3 as u8; 256],
-    /* Left5            */ [Left4 as u8; 256],
-    /* Left6            */ [Left5 as u8; 256],
-    /* Left7            */ [Left6 as u8; 256],
-    /* Left8            */ [Left7 as u8; 256],
-    /* Left9            */ [Left8 as u8; 256],
+    /* Left1            */ [row!(End); ROW],
+    /* Left2            */ [row!(Left1); ROW],
+    /* Left3            */ [row!(Left2); ROW],
+    /* Left4            */ [row!(Left3); ROW],
+    /* Left5            */ [row!(Left4); ROW],
+    /* Left6            */ [row!(Left5); ROW],
+    /* Left7            */ [row!(Left6); ROW],
+    /* Left8            */ [row!(Left7); ROW],
+    /* Left9            */ [row!(Left8); ROW],
     // A direct transfer's displacement.
-    /* Short            */ [AfterShort as u8; 256],
-    /* Near1            */ [AfterNear as u8; 256],
-    /* Near2            */ [Near1 as u8; 256],
-    /* Near3            */ [Near2 as u8; 256],
-    /* Near4            */ [Near3 as u8; 256],
+    /* Short            */ [row!(AfterShort); ROW],
+    /* Near1            */ [row!(AfterNear); ROW],
+    /* Near2            */ [row!(Near1); ROW],
+    /* Near3            */ [row!(Near2); ROW],
+    /* Near4            */ [row!(Near3); ROW],
     // ModRM again.
     /* Group9           */ modrm!(none [O X O O O O O O] [O O O O O O O O]),
     // An instruction begins.
@@ -243,12 +253,52 @@ pub(crate) static NEXT: [[u8; 256]; STATES] = [
     /* AfterPair        */ one_byte!(opcodes 0),
 ];
 
-/// The state after one more byte.
-#[inline(always)]
-pub fn advance(state: usize, byte: u8) -> u8
-    requires { state < STATES }
-    ensures next { result ≡ next_state state byte }
-    ensures state { result < STATES }
-{
-    NEXT[state][byte as usize]
+/// A state, by the place of its row in the flattened table. A byte then takes a sum and a look-up, and no product.
+#[derive(Drop)]
+pub struct Row {
+    place: usize,
+}
+
+impl Model for Row {
+    ghost use Rattle.std.specs.Prelude.{ℕ, ◌≡◌, ◌<◌, ◌/◌, ◌%◌};
+    ghost use Rattle.nc_decode.specs.declared.automaton.TheConstants.{STATES};
+
+    ghost Value = { ℕ };
+
+    ghost view = { λ r. r.place / 257 };
+
+    ghost invariant = { λ r. (r.place % 257 ≡ 0) × (r.place / 257 < STATES) };
+}
+
+impl Row {
+    /// The state after an instruction that masks nothing, in which each bundle begins.
+    #[inline(always)]
+    pub fn start() -> Row
+        ensures { result ≡ END }
+    {
+        Row {
+            place: ROW * END as usize,
+        }
+    }
+
+    /// The state after one more byte.
+    ///
+    /// The byte is added to the table's address first, so that from state to state there is only a look-up.
+    #[inline(always)]
+    pub fn next(&self, byte: u8) -> Row
+        ensures { result ≡ next_state self.now byte }
+    {
+        let place = ROWS.as_flattened()[byte as usize..][self.place];
+        Row {
+            place: usize::from(place),
+        }
+    }
+
+    /// The number of the state.
+    #[inline(always)]
+    pub fn state(&self) -> u8
+        ensures { result ≡ self.now }
+    {
+        (self.place % 256) as u8
+    }
 }

@@ -10,7 +10,7 @@
 //! - A *bundle* is 32 bytes; no instruction crosses the end of one. `bundles` has the constants of bundles and regions, and
 //!   the bits of a [`Bundle`] say where its instructions end.
 //!
-//! Which call to use: [`decode`] decodes one instruction or reports the fault. [`advance`] reads one byte at a time and
+//! Which call to use: [`decode`] decodes one instruction or reports the fault. [`Row::next`] reads one byte at a time and
 //! answers only yes or no, which is much faster over a whole text. [`may_transfer`] rules out direct transfers by the first
 //! byte of an instruction. `law_of_fronts` and `law_of_automaton` do nothing; the crates above rely only on their contracts.
 //!
@@ -38,7 +38,7 @@ mod states;
 mod table;
 mod transfer;
 
-pub use automaton::{AFTER_MASK, AFTER_NEAR, AFTER_PAIR, AFTER_SHORT, DEAD, END, STATES, advance};
+pub use automaton::{AFTER_MASK, AFTER_NEAR, AFTER_PAIR, AFTER_SHORT, DEAD, END, Row, STATES};
 pub use bundle::{Bundle, bundle_at};
 pub use bundles::{
     BUNDLE, MAX_BUNDLES, MIN_BUNDLES, START, bundle_rest, is_bundle_start, is_lawful_limit,

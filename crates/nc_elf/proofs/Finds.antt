@@ -3,7 +3,7 @@ use Rattle.std.proofs.Common.{◌≡◌, ℕ, zero, suc, ◌+◌, ◌<◌, ◌�
 use Rattle.std.specs.List.{range_with_len}
 use Rattle.std.proofs.lemmas.Bool.{cases_Bool, cases_order, false≢true}
 
--- it is found where those before it fail
+-- an element that passes is found where those before it fail
 pub find_here : {X : Type 0} (p : X → Bool) (f : ℕ → X) (a n i : ℕ) → a ≤ i → i < a + n → ((j : ℕ) → a ≤ j → j < i → p (f j) ≡ false)
     → p (f i) ≡ true → find p (map f (range_with_len a n)) ≡ Some (f i)
 find_here p f a zero i le lt fails passes = absurd (omega arith)

@@ -1,4 +1,4 @@
--- One more program header: where the loaded segments end, and that they have no fault.
+-- What one more program header adds: where the loaded segments end, and that they have no fault.
 use Rattle.std.proofs.Common.{ℕ, ◌+◌, ◌≤◌, List, IsTrue, arith, below_more}
 use Rattle.nc_elf.specs.Segments.{program_header, is_load, EndBy, AreGood, IsGoodSegment}
 use Rattle.nc_elf.specs.machinery.Pass.{IsFloor}
@@ -42,7 +42,7 @@ floor_stays file i floor f l =
       bound = f.bound;
     }
 
--- one more segment that has no fault, if it is loaded
+-- segments have no fault with one more header that has none if it is loaded
 pub more_good : (file : List ℕ) (i : ℕ) → AreGood file i → (IsTrue (is_load (program_header file i)) → IsGoodSegment file i)
     → AreGood file (i + 1)
 more_good file i a g =

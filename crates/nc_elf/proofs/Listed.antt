@@ -25,7 +25,7 @@ more_listed file t i e =
     ap (λ (es : List SymbolEntry). map (symbol_of file t.names) es) (more_entries file t i true e)
     ∙ map-append (symbol_of file t.names) _ (symbol_entry file t.symbols i ∷ [])
 
--- any other entry adds nothing
+-- an entry that isn't listed adds nothing
 pub more_unlisted : (file : List ℕ) (t : SymbolSections) (i : ℕ) → is_listed file t.names (symbol_entry file t.symbols i) ≡ false
     → first_symbols file t (i + 1) ≡ first_symbols file t i
 more_unlisted file t i e =

@@ -1,34 +1,20 @@
 -- The loaded segments that the first program headers name, and where they lie.
-use Rattle.std.proofs.Common.{◌≡◌, ℕ, zero, suc, ◌+◌, ◌<◌, ◌≤◌, List, [], ◌∷◌, ◌++◌, length, drop, set, map, filter, cond, Bool, true, false, ap, sym, ◌∙◌, subst, inl, inr, arith, rules, add-one, All, AllPairs, IsTrue, append-nil, refl}
-use Rattle.std.specs.List.{range_with_len}
+use Rattle.std.proofs.Common.{◌≡◌, ℕ, zero, suc, ◌+◌, ◌<◌, ◌≤◌, List, [], ◌∷◌, ◌++◌, length, drop, set, true, false, ap, sym, ◌∙◌, subst, inl, inr, arith, rules, All, AllPairs, IsTrue, append-nil, refl}
 use Rattle.std.proofs.lemmas.Bool.{and_parts, cases_Bool}
-use Rattle.std.proofs.lemmas.List.{map-append, length-append}
-use Rattle.std.proofs.lemmas.List.Elements.{All-push}
-use Rattle.std.proofs.lemmas.List.Quantifiers.{all_pairs_push}
-use Rattle.std.proofs.lemmas.List.FromFn.{filter_of_map_range_with_len_more}
-use Rattle.nc_elf.specs.declared.program.ProgramHeader.{ProgramHeader}
+use Rattle.std.proofs.lemmas.List.{length-append}
 use Rattle.nc_elf.specs.declared.loaded.NcSegment.{NcSegment}
 use Rattle.nc_elf.specs.Segments.{program_header, is_load, is_present, loaded_of, AreGood, IsGoodSegment, IsLoadable, IsLoadedBelow}
 use Rattle.nc_elf.specs.machinery.Pass.{first_loaded}
-
--- the headers of loaded segments among the first ones, and one more header
-more_headers : (file : List ℕ) (i : ℕ) (b : Bool) → is_present (program_header file i) ≡ b
-    → filter is_present (map (λ j. program_header file j) (range_with_len 0 (i + 1)))
-    ≡ filter is_present (map (λ j. program_header file j) (range_with_len 0 i)) ++ cond b (program_header file i ∷ []) []
-more_headers file i b e =
-    filter_of_map_range_with_len_more is_present (λ j. program_header file j) 0 i i (omega arith)
-    ∙ ap (λ (x : Bool). filter is_present (map (λ j. program_header file j) (range_with_len 0 i)) ++ cond x (program_header file i ∷ []) []) e
+use Rattle.nc_elf.proofs.Lists.{more_chosen, more_passed, each_named, pairs_named}
 
 -- a header of a loaded segment adds it
 pub more_loaded : (file : List ℕ) (i : ℕ) → is_present (program_header file i) ≡ true
     → first_loaded file (i + 1) ≡ first_loaded file i ++ loaded_of (program_header file i) ∷ []
-more_loaded file i e =
-    ap (λ (hs : List ProgramHeader). map loaded_of hs) (more_headers file i true e) ∙ map-append loaded_of _ (program_header file i ∷ [])
+more_loaded = more_chosen is_present loaded_of
 
--- any other header adds nothing
+-- a header of a segment that isn't loaded adds nothing
 pub more_absent : (file : List ℕ) (i : ℕ) → is_present (program_header file i) ≡ false → first_loaded file (i + 1) ≡ first_loaded file i
-more_absent file i e =
-    ap (λ (hs : List ProgramHeader). map loaded_of hs) (more_headers file i false e ∙ append-nil _)
+more_absent = more_passed is_present loaded_of
 
 -- one more header adds at most one segment, and none is lost
 one_longer : (file : List ℕ) (i : ℕ) → length (first_loaded file i) ≤ length (first_loaded file (i + 1))
@@ -53,19 +39,6 @@ no_fewer file i (suc k) =
 present_is_loaded : (file : List ℕ) (i : ℕ) → is_present (program_header file i) ≡ true → IsTrue (is_load (program_header file i))
 present_is_loaded file i e = (and_parts _ _ e).0
 
--- what holds of each present segment holds of each listed one
-each_loaded : (P : NcSegment → Type 0) (file : List ℕ) (n : ℕ)
-    → ((i : ℕ) → i < n → is_present (program_header file i) ≡ true → P (loaded_of (program_header file i)))
-    → All P (first_loaded file n)
-each_loaded P file zero h = λ k d l. absurd (omega arith)
-each_loaded P file (suc n) h =
-    let before : All P (first_loaded file n) = each_loaded P file n (λ i l. h i (omega arith)) in
-    subst (λ (m : ℕ). All P (first_loaded file m)) (add-one n)
-    (elim (cases_Bool (is_present (program_header file n))) [
-      | inl e ↦ subst (λ (xs : List NcSegment). All P xs) (sym (more_loaded file n e)) (All-push P _ _ before (h n (omega arith) e))
-      | inr e ↦ subst (λ (xs : List NcSegment). All P xs) (sym (more_absent file n e)) before
-    ])
-
 -- a present segment that has no fault
 loadable : (file : List ℕ) (i : ℕ) → IsGoodSegment file i → is_present (program_header file i) ≡ true
     → IsLoadable file (loaded_of (program_header file i))
@@ -82,30 +55,19 @@ loadable file i g e =
 -- each listed segment can be loaded
 pub all_loadable : (file : List ℕ) (n : ℕ) → AreGood file n → All (IsLoadable file) (first_loaded file n)
 all_loadable file n g =
-    each_loaded (IsLoadable file) file n (λ i l e. loadable file i (g.each i l (present_is_loaded file i e)) e)
+    each_named is_present loaded_of (IsLoadable file) file n (λ i l e. loadable file i (g.each i l (present_is_loaded file i e)) e)
 
 -- each listed segment ends where the later ones begin, or before
 pub all_below : (file : List ℕ) (n : ℕ) → AreGood file n → AllPairs IsLoadedBelow (first_loaded file n)
-all_below file zero g = λ i j d l m. absurd (omega arith)
-all_below file (suc n) g =
-    let before : AllPairs IsLoadedBelow (first_loaded file n) =
-    all_below file n (record { each = λ i l. g.each i (omega arith) }) in
-    subst (λ (m : ℕ). AllPairs IsLoadedBelow (first_loaded file m)) (add-one n)
-    (elim (cases_Bool (is_present (program_header file n))) [
-      | inl e ↦
-          let here = g.each n (omega arith) (present_is_loaded file n e) in
-          subst (λ (xs : List NcSegment). AllPairs IsLoadedBelow xs) (sym (more_loaded file n e))
-          (all_pairs_push IsLoadedBelow _ (loaded_of (program_header file n)) before
-          (each_loaded (λ s. IsLoadedBelow s (loaded_of (program_header file n))) file n (λ i l k.
-          here.after_others.each i l (present_is_loaded file i k))))
-      | inr e ↦ subst (λ (xs : List NcSegment). AllPairs IsLoadedBelow xs) (sym (more_absent file n e)) before
-    ])
+all_below file n g =
+    pairs_named is_present loaded_of IsLoadedBelow file n (λ i k lt within here there.
+    (g.each k within (present_is_loaded file k there)).after_others.each i lt (present_is_loaded file i here))
 
 drop_none : {X : Type 0} (n : ℕ) → drop {A = X} n [] ≡ []
 drop_none zero = refl
 drop_none (suc n) = refl
 
--- one more element over a buffer's first ones
+-- an element written behind the first ones in a buffer is one more of them
 pub over_one_more : {X : Type 0} (xs start : List X) (y : X) → length xs < length (xs ++ drop (length xs) start)
     → set (xs ++ drop (length xs) start) (length xs) y ≡ (xs ++ y ∷ []) ++ drop (length (xs ++ y ∷ [])) start
 over_one_more [] [] y lt = absurd (omega (arith, lt))

@@ -1,7 +1,33 @@
 //! An example of a host's own acts: each byte that a region puts is also stored in the host's memory.
 //!
-//! It shows what a host's implementation of [`Acts`] looks like, and what can be proved about it: after every act the memory
-//! holds the bytes of the region.
+//! `Region` puts its bytes into a text that no processor runs. `RegionOf<A>` reaches its text only through a value that implements `Acts`,
+//! so stores into executable memory belong there; its calls are proved for every `Acts`. `Recorder` of `nc_region` writes each act down.
+//!
+//! [`Image`] has memory of its own. By its ghost field `same` the memory holds the bytes of the region's text after every act. Memory that
+//! threads execute needs atomic stores instead: a compiler may drop or merge plain ones. About memory that is not one of Rattle's lists, a
+//! contract knows only what you declare.
+//!
+//! What an implementation of `Acts` has to know:
+//!
+//! - `logged` is a ghost list of all acts and settlings. Over a `Plain` it is that of the `Plain`, as here. Without a `Plain`, keep a
+//!   `History` as a private field, and note each act and each settling in it. `Note::Creation` notes a `put_bundles`. `Note::Stops` notes a
+//!   `stop_span`, by the marks of a `Text`; without one, note each entry by itself.
+//! - `settle` is called where a barrier belongs, `ready` before the first put into a span, `bump` after the last stop of a deletion.
+//! - `marked_places`, which patches call for each instruction, asks for each mark of the bundle unless you forward it.
+//! - A creation calls `put_bundles`, which answers no unless you override it (as here), and then `put_where`, `settle` and `mark_span`. The
+//!   marks are then written out as a list, on the stack for a chunk of at most 512 bytes (1 KB). A deletion calls `stop_span`, which calls
+//!   `stop_where` and `settle`. `put_where` and `stop_where` call `put` for each byte. So a host whose stores are in `put` needs no other.
+//! - If you override one of these four, store each byte by itself in your memory, in the order of the entries that the method logs, and
+//!   settle at each `Settled` among them. In this order the text is closed after each store. Then hand the call on to a `Plain`. It makes
+//!   the whole change in its own text at once. No processor runs that text. A `put_bundles` or a `stop_span` that is handed on alone leaves
+//!   your memory as it was.
+//! - `RegionOf::over` requires a new text (`IsNew`), and `SharedOf::over` the table of the region's keeper. So a constructor needs a clause
+//!   about each (`made` and `keeper` of `Image::new`).
+//!
+//! `examples/mapped` is a host whose `Acts` reach executable memory by C functions (`main.rt.txt`, `memory.c`). C functions are trusted:
+//! their clauses are axioms, and a false one proves anything; those of the example have none. The proofs are about the text of `Plain`.
+//! That the memory holds the same bytes is argued, since each put is made in both. `rt ci` always refuses C, so `tools/try/mapped` proves
+//! and runs the example in a copy of the repository, with `RT_ALLOW_C`.
 
 ghost use Rattle.std.specs.Prelude.{◌≡◌, ◌+◌, ◌*◌, ◌↔◌, OnOk, IfOk, IfErr};
 ghost use Rattle.nc_decode.specs.Bundles.{IsLawfulLimit};

@@ -49,7 +49,7 @@ starts seats words e = subst (λ (ws : List ℕ). Ruled (opening ws [] (first_vi
       };
     })
 
--- there is one first pass for each seat
+-- a new table has one pass for each seat
 pub length-new_passes : (table : TableId) (n : ℕ) → length (new_passes table n) ≡ n
 length-new_passes table zero = refl
 length-new_passes table (suc n) = length-snoc (new_passes table n) ∙ ap suc (length-new_passes table n)

@@ -22,7 +22,7 @@ pick (no _) a b = b
 owned_by : (ℕ → ℕ) → ℕ → ℕ → ℕ → ℕ
 owned_by owner i at k = pick (ℕ_discrete k i) at (owner k)
 
--- the word itself goes there
+-- the word that is handed over goes to the view at a place
 by_here : (owner : ℕ → ℕ) (i at k : ℕ) → k ≡ i → owned_by owner i at k ≡ at
 unfolding owned_by
 by_here owner i at k e = go (ℕ_discrete k i)
@@ -31,7 +31,7 @@ by_here owner i at k e = go (ℕ_discrete k i)
     go (yes _) = refl
     go (no n) = absurd (n e)
 
--- every other word stays where it was
+-- every word but the one handed over stays where it was
 by_else : (owner : ℕ → ℕ) (i at k : ℕ) → k ≢ i → owned_by owner i at k ≡ owner k
 unfolding owned_by
 by_else owner i at k other = go (ℕ_discrete k i)
@@ -46,7 +46,7 @@ moved_pass : (words : List ℕ) (owner owner' : ℕ → ℕ) (at at' seat : ℕ)
 moved_pass words owner owner' at at' seat p owns f =
     record { inside = f.inside; owns = owns; own_word = f.own_word; published = f.published; saw = f.saw; current = f.current }
 
--- and so do the keeper's, if its view owns the generation and the words of the seats that are not given out
+-- the keeper's numbers fit wherever its view is, if that owns the generation and the words of seats not given out
 moved_keeper : (words : List ℕ) (owner owner' : ℕ → ℕ) (at at' given given' : ℕ) (k : KeeperNumbers) → owner' 0 ≡ at'
     → ((i : ℕ) → given' ≤ i → i < length k.bounds → (owner' (i + 1) ≡ at') × (slice_index words (i + 1) ≡ 0))
     → FitsKeeper words owner at given k → FitsKeeper words owner' at' given' k
@@ -80,7 +80,7 @@ seats_there vs owner i at k here others = dite (ℕ_discrete k i)
     (subst (λ (z : ℕ). StandsAt vs at (HasSeat z)) (sym e) here))
     (λ ne. subst (λ (z : ℕ). StandsAt vs z (HasSeat k)) (sym (by_else owner (i + 1) at (k + 1) (λ z. ne (omega arith)))) (others ne))
 
--- and so is the keeper
+-- the keeper is still there, once the seat i went to the view at a place
 keeper_there : (vs : List View) (owner : ℕ → ℕ) (i at : ℕ) → StandsAt vs (owner 0) HasKeeper
     → StandsAt vs (owned_by owner (i + 1) at 0) HasKeeper
 keeper_there vs owner i at = subst (λ (z : ℕ). StandsAt vs z HasKeeper) (sym (by_else owner (i + 1) at 0 (λ z. omega arith)))

@@ -39,7 +39,7 @@ fold-lower g (b ∷ bs) each = dite (ℕ_discrete b left_word)
     at : (t : Bool) {u : Bool} → t ≡ u → Goal u → Goal t
     at t e h = subst Goal (sym e) h
 
--- it is at most the number that it begins with
+-- the least number found is at most the one that it begins with
 pub fold-lower_le : (a : ℕ) (bs : List ℕ) → fold lower a bs ≤ a
 fold-lower_le a [] = omega arith
 fold-lower_le a (b ∷ bs) = le_trans (fold-lower_le (lower a b) bs) (go (not (b == left_word)))
@@ -48,11 +48,11 @@ fold-lower_le a (b ∷ bs) = le_trans (fold-lower_le (lower a b) bs) (go (not (b
     go true = omega arith
     go false = omega arith
 
--- it is at most a bound that counts
+-- the lower of two numbers is at most the second, if that counts
 lower_le : (a b : ℕ) → b ≢ left_word → lower a b ≤ b
 lower_le a b ne = subst (λ (t : Bool). cond (not t) (min a b) a ≤ b) (sym (ne_eqb b left_word ne)) (omega arith)
 
--- it is at most each bound that counts
+-- the least number found is at most each bound that counts
 pub fold-lower_below : (a : ℕ) (bs : List ℕ) (i d : ℕ) → i < length bs → get_or bs i d ≢ left_word → fold lower a bs ≤ get_or bs i d
 fold-lower_below a [] i d l ne = absurd (omega arith)
 fold-lower_below a (b ∷ bs) zero d l ne = le_trans (fold-lower_le (lower a b) bs) (lower_le a b ne)

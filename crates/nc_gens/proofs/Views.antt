@@ -37,7 +37,7 @@ still_there P vs id v w at passes k t = dite (ℕ_discrete k id)
     (w, ap (get_elem? (set vs id w)) e ∙ set_there vs id v w at, passes (subst P same t.2)))
     (λ ne. (t.0, set_else vs id k w ne ∙ t.1, t.2))
 
--- the same where a view is added behind, as when the view at `id` is cut in two
+-- what holds of each view holds where the view at `id` is cut in two, the second part behind
 pub split_views_stay : (K : ℕ → View → Type 0) (vs : List View) (id : ℕ) (a b : View) → K id a → K (length (set vs id a)) b
     → ((j : ℕ) (v : View) → j ≢ id → get_elem? vs j ≡ some v → K j v)
     → (j : ℕ) (v : View) → get_elem? (set vs id a ++ b ∷ []) j ≡ some v → K j v

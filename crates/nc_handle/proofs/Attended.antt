@@ -1,4 +1,4 @@
--- One more pass checks in.
+-- Passes check in one after the other.
 use Rattle.std.proofs.Common.{◌≡◌, ℕ, ◌+◌, ◌<◌, ◌≤◌, List, length, get_or, set, refl, ap, arith, ◌∙◌}
 use Rattle.std.specs.Prelude.{All, slice_index_or}
 use Rattle.std.specs.List.{AllWithin}
@@ -11,16 +11,16 @@ use Rattle.nc_region.specs.Region.{Region}
 use Rattle.nc_handle.specs.Held.{IsIn}
 use Rattle.nc_handle.specs.machinery.Attending.{HasAttended}
 
--- raised twice
+-- bounds that are raised twice are raised
 pub raised_twice : (xs ys zs : List ℕ) → Raised xs ys → Raised ys zs → Raised xs zs
 raised_twice xs ys zs one two =
     (two.0 ∙ one.0, λ i lt. omega (arith, one.1 i lt, two.1 i (omega (arith, lt, one.0))))
 
--- no bound is lost
+-- a keeper's bound for a pass that is at least a number still is once bounds are raised
 pub still_in : (r s : Region) (n : ℕ) (p : PassState) → Raised r.keeper.numbers.bounds s.keeper.numbers.bounds → IsIn r n p → IsIn s n p
 still_in r s n p raised in' = (omega (arith, in'.0, raised.0), omega (arith, in'.1, raised.1 p.seat in'.0))
 
--- nothing has been done
+-- at the beginning no pass has checked in
 pub attended_none : (gens : TableId) (r : Region) (passes : List PassState) → r.keeper.table ≡ gens
     → All (λ (p : PassState). p.table ≡ gens) passes → HasAttended gens r passes r passes 0
 attended_none gens r passes table tables = record {
@@ -34,7 +34,7 @@ attended_none gens r passes table tables = record {
   inside = λ k d low high. absurd (omega (arith, high));
 }
 
--- one more pass
+-- once the next pass has checked in, all up to it have
 pub attended_next : (gens : TableId) (old : Region) (before : List PassState) (r s : Region) (now : List PassState) (i : ℕ) (p d : PassState)
     → HasAttended gens old before r now i → i < length now
     → (p.table ≡ gens) × (p.seat ≡ (get_or now i d).seat) → s ≡ record r { keeper = s.keeper } → s.keeper.table ≡ r.keeper.table
@@ -56,7 +56,7 @@ attended_next gens old before r s now i p d h lt same others table generation ra
       inside = AllWithin-more_set now i p lt (IsIn s n) kept here;
     }
 
--- all passes
+-- once all passes have checked in, the keeper's bound for each is at least the generation
 pub attended_all : (gens : TableId) (old : Region) (before : List PassState) (r : Region) (now : List PassState) (i : ℕ)
     → HasAttended gens old before r now i → length now ≤ i → All (IsIn r old.keeper.numbers.generation) now
 attended_all gens old before r now i h le =

@@ -34,7 +34,7 @@ bits_read d (byte ∷ rest) at bits = go (bits % 2 == 1) (bits_read d rest (at +
 abbrev IsRunRead : MarkedChunk → Details → Run → Type 0
 IsRunRead v d run = events_pending_by v (run_of run) ≡ events_of_log d (entries_of v.base v.code run)
 
--- so runs are
+-- runs are read as their events
 runs_read : (v : MarkedChunk) (d : Details) (runs : List Run) → All (IsRunRead v d) runs
     → events_pending v (map run_of runs) ≡ events_of_log d (entries_in v.base v.code runs)
 runs_read v d [] all = refl
@@ -51,7 +51,7 @@ put_runs v d chosen (suc n) at =
     All-cons (IsRunRead v d) (PutRun at (bits_at chosen at)) (runs_where PutRun chosen (at + 32) n)
     (bits_read d (take 32 (drop (at - v.base) v.code)) at (bits_at chosen at)) (put_runs v d chosen n (at + 32))
 
--- runs of stops
+-- runs of stops are read as their events
 stop_runs : (v : MarkedChunk) (d : Details) (chosen : ℕ → Bool) (n at : ℕ) → All (IsRunRead v d) (runs_where StopRun chosen at n)
 stop_runs v d chosen zero at = All-nil (IsRunRead v d)
 stop_runs v d chosen (suc n) at =
@@ -65,7 +65,7 @@ runs_front lent now count base code runs log is =
     ap (λ (z : List NcAct). take count z) is.buffer
     ∙ take_at (map run_of runs) (drop (length (map run_of runs)) lent) count (length-map runs run_of ∙ sym is.counted)
 
--- a creation
+-- the runs of a creation are read as its events
 pub create_runs_due : (v : MarkedChunk) (lent now : List NcAct) (count : ℕ)
     → HasRuns lent now count v.base v.code (runs_of_create v.base v.code) (log_of_create v.base v.code)
     → events_pending v (take count now) ≡ create_events v
@@ -93,7 +93,7 @@ runs_then marks base len =
     sym (append_assoc (runs_where StopRun (is_marked_at marks) base (len / 32))
     (Single Settled ∷ runs_where StopRun (is_unmarked_at marks) base (len / 32)) (Single (Did Bump) ∷ []))
 
--- the entries of runs, and of others
+-- the entries of two lists of runs are those of the one and then those of the other
 entries_append : (base : ℕ) (code : List ℕ) (xs ys : List Run)
     → entries_in base code (xs ++ ys) ≡ entries_in base code xs ++ entries_in base code ys
 entries_append base code [] ys = refl
@@ -121,7 +121,7 @@ runs_entries marks base len other code bytes =
     ∙ sym (entries_append other bytes (runs_where StopRun (is_marked_at marks) base (len / 32))
     (Single Settled ∷ runs_where StopRun (is_unmarked_at marks) base (len / 32)))))
 
--- a deletion, of which only the stamp isn't read
+-- the runs of a deletion are read as its events, but for the stamp
 pub delete_runs_due : (v : MarkedChunk) (marks : List Mark) (base len : ℕ) (code : List ℕ) (lent now : List NcAct) (count : ℕ)
     → HasRuns lent now count base code (runs_of_delete marks base len) (log_of_delete marks base len)
     → events_pending v (take count now) ++ Retires base len ∷ [] ≡ delete_events marks base len

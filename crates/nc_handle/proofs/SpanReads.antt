@@ -1,5 +1,6 @@
 -- What is read from a span of a text.
-use Rattle.std.proofs.Common.{◌≡◌, ℕ, ◌+◌, ◌-◌, ◌^◌, ◌<◌, ◌≤◌, List, ◌++◌, length, get_or, take, drop, ap, arith, sym, subst, ◌∙◌}
+use Rattle.std.proofs.Common.{◌≡◌, ◌==◌, Bool, false, ℕ, ◌+◌, ◌-◌, ◌*◌, ◌/◌, ◌%◌, ◌^◌, ◌<◌, ◌≤◌, List, ◌++◌, length, get_or, take, drop, ap, arith, sym, subst, ◌∙◌}
+use Rattle.std.proofs.lemmas.Bool.{eqb-false}
 use Rattle.std.proofs.lemmas.List.{get_or-drop, get_or-take, length-append, length-drop, length-take-le}
 use Rattle.std.proofs.Math.Seq.{drop-append_seam, take-append_seam}
 use Rattle.nc_text.specs.Places.{byte_at, limit_of}
@@ -17,13 +18,28 @@ pub span_long : (text : List ℕ) (base len : ℕ) → HasGoodSpan base (limit_o
 span_long text base len g =
     length-take-le len (drop (base - 0x10000) text) (omega (arith, g.low, g.high, length-drop (base - 0x10000) text))
 
--- its end has an address
+-- the end of a span of the text has an address
 pub span_high : (text : List ℕ) (base len : ℕ) → HasGoodSpan base (limit_of text) len → base + length (bytes_of_span text base len) < 2 ^ 32
 span_high text base len g = omega (arith, span_long text base len g, g.high, g.lawful.2)
 
+-- a span is whole bundles
+pub span_whole : (text : List ℕ) (base len : ℕ) → HasGoodSpan base (limit_of text) len → length (bytes_of_span text base len) % 32 ≡ 0
+span_whole text base len g = ap (λ (n : ℕ). n % 32) (span_long text base len g) ∙ g.whole
+
 -- a buffer that is lent, and not too short, has room
-pub has_room : (room wanted : ℕ) → ¬ IsShort room wanted → (room ≡ 0 → ⊥) → wanted ≤ room
+has_room : (room wanted : ℕ) → ¬ IsShort room wanted → (room ≡ 0 → ⊥) → wanted ≤ room
 has_room room wanted roomy some = grind (arith, roomy, some)
+
+-- a buffer that is lent, and not too short, has room for the acts of a span
+pub span_room : (text : List ℕ) (base len room : ℕ) (empty : Bool) → HasGoodSpan base (limit_of text) len → ¬ IsShort room (len + 2)
+    → empty ≡ (room == 0) → empty ≡ false → length (bytes_of_span text base len) + 2 ≤ room
+span_room text base len room empty g roomy is lent =
+    omega (arith, span_long text base len g, has_room room (len + 2) roomy (eqb-false room 0 (sym is ∙ lent)))
+
+-- a buffer with room for the runs of as many places has room for those of a span
+pub span_runs : (text : List ℕ) (base len room : ℕ) → HasGoodSpan base (limit_of text) len → 2 * (len / 32) + 2 ≤ room
+    → 2 * (length (bytes_of_span text base len) / 32) + 2 ≤ room
+span_runs text base len room g fits = subst (λ (n : ℕ). 2 * (n / 32) + 2 ≤ room) (sym (span_long text base len g)) fits
 
 -- the byte at a place of the span
 pub span_byte : (text : List ℕ) (base len n : ℕ) → HasGoodSpan base (limit_of text) len → n < len

@@ -34,7 +34,7 @@ due_append v (x ∷ xs) ys =
     ap (λ (z : List Event). events_pending_by v x ++ z) (due_append v xs ys)
     ∙ sym (append_assoc (events_pending_by v x) (events_pending v xs) (events_pending v ys))
 
--- the events of a log and of another one
+-- the events of two logs are those of the one and then those of the other
 pub events_append : (d : Details) (xs ys : List Entry) → events_of_log d (xs ++ ys) ≡ events_of_log d xs ++ events_of_log d ys
 events_append d [] ys = refl
 events_append d (x ∷ xs) ys =
@@ -49,7 +49,7 @@ map_append f (x ∷ xs) ys = ap (λ (z : List _). f x ∷ z) (map_append f xs ys
 abbrev IsRead : MarkedChunk → Details → Entry → Type 0
 IsRead v d entry = events_pending_by v (entry_of entry) ≡ events_of_entry d entry
 
--- so a log is
+-- a log is read as its events
 pub due_log : (v : MarkedChunk) (d : Details) (log : List Entry) → All (IsRead v d) log
     → events_pending v (map entry_of log) ≡ events_of_log d log
 due_log v d [] all = refl
@@ -57,7 +57,7 @@ due_log v d (entry ∷ log) all =
     ap (λ (z : List Event). z ++ events_pending v (map entry_of log)) (All-head (IsRead v d) entry log all)
     ∙ ap (λ (z : List Event). events_of_entry d entry ++ z) (due_log v d log (All-tail (IsRead v d) entry log all))
 
--- puts
+-- each entry of some puts is read as its events
 puts_all : (v : MarkedChunk) (d : Details) (chosen : ℕ → Bool) (at : ℕ) (bytes : List ℕ)
     → All (IsRead v d) (unsettled (puts_where chosen at bytes))
 puts_all v d chosen at [] = All-nil (IsRead v d)
@@ -68,7 +68,7 @@ puts_all v d chosen at (byte ∷ bytes) = go (chosen at) (puts_all v d chosen (a
     go true all = All-cons (IsRead v d) (Did (Put at byte)) (unsettled (puts_where chosen (at + 1) bytes)) refl all
     go false all = all
 
--- a creation
+-- each entry of a creation is read as its events
 create_all : (v : MarkedChunk) → All (IsRead v (record no_details { marks = v.marks })) (log_of_create v.base v.code)
 create_all v =
     All-append (IsRead v (record no_details { marks = v.marks })) (unsettled (puts_where is_inside v.base v.code))
@@ -93,7 +93,7 @@ instruction_all v d at (byte ∷ next ∷ rest) =
     (All-cons (IsRead v d) Settled (Did (Put at byte) ∷ []) refl
     (All-cons (IsRead v d) (Did (Put at byte)) [] refl (All-nil (IsRead v d))))))
 
--- a patch
+-- each entry of a patch is read as its events
 patch_all : (v : MarkedChunk) (d : Details) (text : List ℕ) (at : ℕ) (news : List Piece) → All (IsRead v d) (log_of_modify text at news)
 patch_all v d text at [] = All-nil (IsRead v d)
 patch_all v d text at (p ∷ rest) =
@@ -123,7 +123,7 @@ stops_all v d marks base len =
     (All-cons (IsRead v d) Settled (unsettled (puts_where (is_unmarked_at marks) base (replicate len 244))) refl
     (puts_all v d (is_unmarked_at marks) base (replicate len 244)))
 
--- its stamp is all that isn't read
+-- the log of a deletion is read as its events, but for the stamp
 pub stops_due : (v : MarkedChunk) (marks : List Mark) (base len : ℕ)
     → events_pending v (map entry_of (log_of_delete marks base len)) ++ Retires base len ∷ [] ≡ delete_events marks base len
 stops_due v marks base len =
@@ -141,7 +141,7 @@ stops_due v marks base len =
 
 -- ---- what a call told
 
--- the elements that it counts
+-- the elements that a log's count covers are its entries
 told_front : (lent now : List NcAct) (count : ℕ) (log : List Entry) → 0 < length lent → IsTold lent now count log
     → take count now ≡ map entry_of log
 told_front lent now count log some is =
@@ -162,7 +162,7 @@ told_due old new v lent now count log told call =
 pub still_none : (old new : HeldState) → new ≡ record old { region = new.region } → old.begun ≡ None → new.begun ≡ None
 still_none old new others none = ap (λ (h : HeldState). h.begun) others ∙ none
 
--- a creation
+-- the entries told for a creation are its pending events
 pub loads : (old new : HeldState) (v : MarkedChunk) (lent now : List NcAct) (count : ℕ) → IsValid v
     → v.limit ≡ limit_of old.region.marked.bytes → IsCreated old.region new.region v → old.begun ≡ None
     → new ≡ record old { region = new.region } → IsTold lent now count (log_of_create v.base v.code) → TellsPending old new v lent now count
@@ -171,7 +171,7 @@ loads old new v lent now count valid limit is none others told =
     (λ seats. Changes none (still_none old new others none)
     (Creates v valid limit is (due_log v (record no_details { marks = v.marks }) (log_of_create v.base v.code) (create_all v))))
 
--- a patch
+-- the entries told for a patch are its pending events
 pub patches : (old new : HeldState) (at : ℕ) (bytes : List ℕ) (lent now : List NcAct) (count : ℕ) (v : MarkedChunk)
     → IsPatch old.region at bytes → IsModified old.region new.region at bytes → old.begun ≡ None
     → new ≡ record old { region = new.region }
@@ -185,7 +185,7 @@ patches old new at bytes lent now count v lawful is none others told =
     (due_log v no_details (log_of_modify old.region.marked.bytes at run.news)
     (patch_all v no_details old.region.marked.bytes at run.news))))
 
--- the first call of a deletion
+-- the entries told for the first call of a deletion are its pending events
 pub begins : (old new : HeldState) (base : ℕ) (c : Chunk) (lent now : List NcAct) (count : ℕ) (v : MarkedChunk) → HasBegun old new base c
     → IsTold lent now count (log_of_delete old.region.marked.marks base c.length) → TellsPending old new v lent now count
 begins old new base c lent now count v begun told =
@@ -197,7 +197,7 @@ begins old new base c lent now count v begun told =
 
 -- ---- what the library does itself
 
--- the stamp
+-- the stamp of a deletion is drawn by the library itself
 pub ends : (seats : ℕ) (old new : HeldState) (stamp : ℕ) → HasEnded old new stamp → DoesItself seats old new
 ends seats old new stamp is =
     record {
@@ -206,19 +206,19 @@ ends seats old new stamp is =
       call = Ends stamp is refl;
     }
 
--- meetings
+-- all meetings of passes are the library's
 meetings_librarys : (passes : List PassState) → All IsLibrarys (meetings passes)
 meetings_librarys [] = All-nil IsLibrarys
 meetings_librarys (p ∷ rest) =
     All-cons IsLibrarys (Looks p.seat) (Looks p.seat ∷ meetings rest) tt
     (All-cons IsLibrarys (Looks p.seat) (meetings rest) tt (meetings_librarys rest))
 
--- looks
+-- all looks are the library's
 looks_librarys : (from n : ℕ) → All IsLibrarys (map Looks (range_with_len from n))
 looks_librarys from zero = All-nil IsLibrarys
 looks_librarys from (suc n) = All-cons IsLibrarys (Looks from) (map Looks (range_with_len (from + 1) n)) tt (looks_librarys (from + 1) n)
 
--- unmarkings
+-- all unmarkings are the library's
 frees_librarys : (d : Details) (chunks : List Chunk) → All IsLibrarys (events_of_log d (unsettled (unmarkings chunks)))
 frees_librarys d [] = All-nil IsLibrarys
 frees_librarys d (c ∷ chunks) = All-cons IsLibrarys (Frees (span_from d.spans c.base)) _ tt (frees_librarys d chunks)

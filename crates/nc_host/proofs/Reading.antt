@@ -43,11 +43,11 @@ instr_back i = rw (flow_back i.flow, register_back i.masks) refl
 pub same_instr : (i j : Instr) → instruction_of i ≡ instruction_of j → i ≡ j
 same_instr i j e = sym (instr_back i) ∙ (ap instr_of e ∙ instr_back j)
 
--- the same answer
+-- the same answer tells the same instruction
 pub same_ok : (i j : Instr) → ◌≡◌ {A = Result Instr DecodeFault} (Ok i) (Ok j) → i ≡ j
 same_ok i j e = cc
 
--- there is an instruction or a fault, and one fault
+-- what is read is not both an instruction and a fault
 pub not_both : (r : Result Instr DecodeFault) (f : DecodeFault) (i : Instr) → r ≡ Err f → r ≡ Ok i → ⊥
 not_both r f i a b = cc
 

@@ -8,7 +8,7 @@ use Rattle.nc_handle.specs.acts.Shown.{over}
 use Rattle.nc_handle.proofs.Offered.{over_more}
 use Rattle.nc_host.specs.Shown.{mark_number}
 
--- one more mark
+-- a mark written behind the first ones in a buffer is one more of them
 pub write_mark : (marks : List Mark) (old now : List ℕ) (i : ℕ) (m : Mark) → slice_get marks i ≡ Some m → i < length marks
     → now ≡ over (map mark_number (take i marks)) old → i < length now
     → set now i (mark_number m) ≡ over (map mark_number (take (i + 1) marks)) old
@@ -24,7 +24,7 @@ write_mark marks old now i m here lt is fits =
     ∙ (over_more xs old (mark_number m) (subst (λ (z : List ℕ). length xs < length z) is (omega (arith, fits, long)))
     ∙ ap (λ (z : List ℕ). over z old) (sym more)))
 
--- one more place
+-- a place written behind the first ones in a buffer is one more of them
 pub write_place : (places old now : List ℕ) (i : ℕ) → i < length places → now ≡ over (take i places) old → i < length now
     → set now i (get_or places i 0) ≡ over (take (i + 1) places) old
 write_place places old now i lt is fits =

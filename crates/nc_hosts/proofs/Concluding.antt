@@ -46,7 +46,7 @@ data Goes (w : World) (so_far pending : List Event) : Type 0 where
   Looking : AreAllowed w so_far → StaysWhole w so_far → ((span : RetiredSpan) (later : List Event) → pending ≡ Frees span ∷ later → ⊥)
       → Goes w so_far pending
 
--- so are events that lead to a region
+-- events that lead to a region are allowed and leave instructions whole
 led_goes : (limit seats : ℕ) (before since pending : List Event) (from r : Region) → Stays limit seats before from
     → Grows limit seats before (since ++ pending) r → Goes (first_world limit seats) (before ++ since) pending
 led_goes limit seats before since pending from r stays g =
@@ -63,7 +63,7 @@ keepers_allowed limit seats before events r h own threads =
     let k = keeper_woven w events w.keeper w.seats own threads in
     allowed_append (first_world limit seats) before events h.allowed k.allowed
 
--- and leave instructions whole
+-- the keeper's events leave instructions whole
 keepers_whole : (limit seats : ℕ) (before events : List Event) (r : Region) → Stays limit seats before r
     → All IsKeepers (writers events) → ThreadsMay (world_after (first_world limit seats) before) events
     → StaysWhole (first_world limit seats) (before ++ events)
@@ -72,7 +72,7 @@ keepers_whole limit seats before events r stays own threads =
     let k = keeper_woven w events w.keeper w.seats own threads in
     whole_append (first_world limit seats) before events stays.whole k.whole
 
--- a reclaim
+-- the events of a reclaim are allowed and leave instructions whole
 reclaim_goes : (limit seats : ℕ) (before since pending : List Event) (from region : Region) (count : ℕ) → Stays limit seats before from
     → ThreadsMay (world_after (first_world limit seats) before) since
     → ThreadsMay (world_after (first_world limit seats) before) (since ++ pending)
@@ -153,7 +153,7 @@ deletion_led limit seats before since pending made last from c live stays thread
     (threads_append (world_after (first_world limit seats) before) since (pending ++ Retires c.base c.length ∷ []) threads
     (threads_none (world_after (world_after (first_world limit seats) before) since) (pending ++ Retires c.base c.length ∷ []) all))
 
--- every state
+-- in every state of a host the events so far are allowed and leave instructions whole
 goes : (limit seats : ℕ) (host : Host) (l : Led limit seats host) → Goes (first_world limit seats) (l.before ++ l.since) host.pending
 goes limit seats host l = go l.phase
   where
@@ -184,7 +184,7 @@ goes limit seats host l = go l.phase
         (subst (StaysWhole (first_world limit seats)) parts
         (whole_append (first_world limit seats) l.before (l.since ++ (host.pending ++ Retires c.base c.length ∷ [])) l.stays.whole g.whole)))
 
--- where threads stand
+-- the threads of a host stand where they may
 stand_there : (limit seats : ℕ) (host : Host) → Led limit seats host → AllStand host.world
 stand_there limit seats host l =
     subst AllStand (sym l.world) (go (goes limit seats host l))
@@ -205,7 +205,7 @@ stand_there limit seats host l =
 pub stands : (bundles seats : ℕ) (host : Host) → IsReached bundles seats host → AllStand host.world
 stands bundles seats host reached = stand_there (65536 + 32 * bundles) seats host (led bundles seats host reached)
 
--- what threads fetch
+-- the threads of a host fetch whole instructions
 fetch_there : (limit seats : ℕ) (host : Host) → Led limit seats host → AllFetchWhole host.world
 fetch_there limit seats host l =
     subst AllFetchWhole (sym l.world) (go (goes limit seats host l))
@@ -281,7 +281,7 @@ pub stopped : (bundles seats : ℕ) (host : Host) (c : Chunk) → IsReached bund
 stopped bundles seats host c reached none begun =
     stopped_there (65536 + 32 * bundles) seats host c (led bundles seats host reached) none begun
 
--- after a call there is a region
+-- a call leaves a region
 call_region : (seats : ℕ) (old new : Region) (own : List Event) → IsRegion old.marked old.chunks → IsCall seats old new own
     → IsRegion new.marked new.chunks
 call_region seats old new own region (Creates v valid lim is same) = still_created old new v region valid lim is
@@ -310,7 +310,7 @@ region_there limit seats host l = go l.phase
 pub is_region : (bundles seats : ℕ) (host : Host) → IsReached bundles seats host → IsRegion host.held.region.marked host.held.region.chunks
 is_region bundles seats host reached = region_there (65536 + 32 * bundles) seats host (led bundles seats host reached)
 
--- so its text is confined
+-- the text of a host that is reached is confined
 pub confined : (bundles seats : ℕ) (host : Host) → IsReached bundles seats host → IsConfined host.held.region.marked.bytes
 confined bundles seats host reached =
     confined_if_closed host.held.region.marked.bytes host.held.region.marked.marks (is_region bundles seats host reached).whole.closed

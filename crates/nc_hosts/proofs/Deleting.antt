@@ -8,7 +8,7 @@ use Rattle.nc_region.specs.Deletion.{IsDeleted}
 use Rattle.nc_region.proofs.Offered.{deleted_region, deleted_at}
 use Rattle.nc_handle.specs.Held.{IsLiveAt}
 
--- such a chunk can be deleted unless the generation is the last one
+-- a chunk that is live at its base can be deleted unless the generation is the last one
 abbrev pub deleted_there : (old : Region) (c : Chunk) (live : IsLiveAt old.chunks c.base c)
     → old.keeper.numbers.generation < 4611686018427387904
     → IsDeleted old (deleted_region old live.0.0 c) c.base (old.keeper.numbers.generation + 1)

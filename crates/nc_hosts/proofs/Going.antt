@@ -33,7 +33,7 @@ makes_next bundles seats host event later reached is no_look =
     subst (λ (z : List Event). KnowsNoMore host.held.region.keeper.numbers (world_after host.world z).keeper) is
     ((led bundles seats host reached).found (subst (All IsNoLook) (sym is) (All-cons IsNoLook event later no_look all))))
 
--- a creation
+-- a creation leads to a host that is reached
 pub loads : (bundles seats : ℕ) (host : Host) (new : HeldState) (v : MarkedChunk) → IsReached bundles seats host → host.pending ≡ []
     → IsValid v → HasLoaded v host.held new
     → IsReached bundles seats (record { held = new; world = host.world; pending = create_events v })
@@ -50,7 +50,7 @@ loads bundles seats host new v reached none valid loaded =
     (Calls none (Changes loaded.0 (ap (λ (h : HeldState). h.begun) loaded.4 ∙ loaded.0) (Creates v valid loaded.1 loaded.3 refl)) refl)
     (λ looks. subst (λ (x : World). KnowsNoMore new.region.keeper.numbers x.keeper) there g.led.stands.keeper)
 
--- a patch
+-- a patch leads to a host that is reached
 pub patches : (bundles seats : ℕ) (host : Host) (new : HeldState) (at : ℕ) (bytes : List ℕ) (news : List Piece)
     → IsReached bundles seats host → host.pending ≡ [] → AreBytesOf bytes news → HasPatched at bytes host.held new
     → IsReached bundles seats (record { held = new; world = host.world; pending = modify_events host.held.region.marked.bytes at news })
@@ -76,7 +76,7 @@ knows_then bundles seats host reached stores =
     subst (KnowsNoMore host.held.region.keeper.numbers) (stores_keep host.world host.pending stores)
     ((led bundles seats host reached).found (stores_look_not host.pending stores))
 
--- so it does before other stores
+-- where no look is pending, the keeper knows no more than the world will after more stores
 knows_before : (bundles seats : ℕ) (host : Host) (events : List Event) → IsReached bundles seats host → All IsStore host.pending
     → All IsStore events → KnowsNoMore host.held.region.keeper.numbers (world_after host.world events).keeper
 knows_before bundles seats host events reached stores all =
@@ -86,7 +86,7 @@ knows_before bundles seats host events reached stores all =
 none_stores : (pending : List Event) → pending ≡ [] → All IsStore pending
 none_stores pending none = subst (All IsStore) (sym none) (All-nil IsStore)
 
--- the first call of a deletion
+-- the first call of a deletion leads to a host that is reached
 pub begins : (bundles seats : ℕ) (host : Host) (new : HeldState) (c : Chunk) (stops : List Event) → IsReached bundles seats host
     → host.pending ≡ [] → HasBegun host.held new c.base c
     → stops ++ Retires c.base c.length ∷ [] ≡ delete_events host.held.region.marked.marks c.base c.length
@@ -98,7 +98,7 @@ begins bundles seats host new c stops reached none begun own =
     (knows_before bundles seats host stops reached (none_stores host.pending none)
     (rest_stores host.held.region.marked.marks c.base c.length [] stops own)))
 
--- its events are made anew
+-- the events of a deletion that has begun can be made anew
 pub restarts : (bundles seats : ℕ) (host : Host) (c : Chunk) (stops : List Event) → IsReached bundles seats host
     → host.held.begun ≡ Some c
     → stops ++ Retires c.base c.length ∷ [] ≡ delete_events host.held.region.marked.marks c.base c.length
@@ -110,7 +110,7 @@ restarts bundles seats host c stops reached begun own =
     (deletion_stores (65536 + 32 * bundles) seats host c (led bundles seats host reached) begun)
     (rest_stores host.held.region.marked.marks c.base c.length [] stops own))
 
--- its last step
+-- the last step of a deletion leads to a host that is reached
 pub ends : (bundles seats : ℕ) (host : Host) (new : HeldState) (stamp : ℕ) (is : HasEnded host.held new stamp)
     → IsReached bundles seats host → host.pending ≡ []
     → IsReached bundles seats (record { held = new; world = host.world; pending = Retires is.chunk.base is.chunk.length ∷ [] })
@@ -121,7 +121,7 @@ ends bundles seats host new stamp is reached none =
     (knows_raised host.held.region.keeper.numbers host.world.keeper
     (knows_then bundles seats host reached (none_stores host.pending none))))
 
--- any other call, refused or not
+-- any other call, refused or not, leads to a host that is reached
 pub asks : (bundles seats : ℕ) (host : Host) (new : HeldState) → IsReached bundles seats host → new.begun ≡ host.held.begun
     → new.region ≡ record host.held.region { made = new.region.made } → IsReached bundles seats (record host { held = new })
 asks bundles seats host new reached begun region =
@@ -129,7 +129,7 @@ asks bundles seats host new reached begun region =
     subst (λ (k : KeeperState). KnowsNoMore k.numbers (world_after host.world host.pending).keeper)
     (sym (ap (λ (r : Region). r.keeper) region)) ((led bundles seats host reached).found looks))
 
--- a refused call
+-- a refused call leads to a host that is reached
 pub fails : (bundles seats : ℕ) (host : Host) (new : HeldState) → IsReached bundles seats host → ChangesPages host.held new
     → IsReached bundles seats (record host { held = new })
 fails bundles seats host new reached pages =

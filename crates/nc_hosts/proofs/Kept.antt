@@ -21,7 +21,7 @@ IsStore (Puts at byte) = ⊤
 IsStore Settles = ⊤
 IsStore event = ⊥
 
--- puts at chosen places
+-- puts at chosen places are stores
 puts_store : (d : Details) (chosen : ℕ → Bool) (at : ℕ) (bytes : List ℕ) → All IsStore (events_of d (puts_where chosen at bytes))
 puts_store d chosen at [] = All-nil IsStore
 puts_store d chosen at (byte ∷ rest) = go (chosen at) (puts_store d chosen (at + 1) rest)
@@ -31,7 +31,7 @@ puts_store d chosen at (byte ∷ rest) = go (chosen at) (puts_store d chosen (at
     go true all = All-cons IsStore (Puts at byte) (events_of d (puts_where chosen (at + 1) rest)) tt all
     go false all = all
 
--- the first events of a deletion
+-- the first events of a deletion are stores
 part_stores : (marks : List Mark) (base len : ℕ) (part : List Event) → IsPart marks base len part → All IsStore part
 part_stores marks base len part (OfMarked n le is) =
     subst (All IsStore) (sym is) (puts_store (record no_details { base = base; len = len }) (is_marked_at marks) base (replicate n 244))
@@ -44,7 +44,7 @@ part_stores marks base len part (OfOthers n le is) =
     (Settles ∷ others) (puts_store d (is_marked_at marks) base (replicate len 244))
     (All-cons IsStore Settles others tt (puts_store d (is_unmarked_at marks) base (replicate n 244))))
 
--- those that are left of them
+-- the events that are left of a deletion before its retiring are stores
 pub rest_stores : (marks : List Mark) (base len : ℕ) (first rest : List Event)
     → first ++ (rest ++ Retires base len ∷ []) ≡ delete_events marks base len → All IsStore rest
 rest_stores marks base len first rest is =
@@ -52,7 +52,7 @@ rest_stores marks base len first rest is =
     (part_stores marks base len (first ++ rest)
     (is_part marks base len (first ++ rest) [] (append_assoc first rest (Retires base len ∷ []) ∙ is)))
 
--- no keeper's event
+-- stores leave the keeper's numbers as they are
 pub stores_keep : (w : World) (events : List Event) → All IsStore events → (world_after w events).keeper ≡ w.keeper
 stores_keep w [] all = refl
 stores_keep w (Puts at byte ∷ events) all = stores_keep (after w (Puts at byte)) events (All-tail IsStore (Puts at byte) events all)
@@ -70,7 +70,7 @@ stores_keep w (Retires base len ∷ events) all = absurd (All-head IsStore (Reti
 stores_keep w (Frees span ∷ events) all = absurd (All-head IsStore (Frees span) events all)
 stores_keep w (Looks k ∷ events) all = absurd (All-head IsStore (Looks k) events all)
 
--- they are no looks
+-- stores are no looks
 pub stores_look_not : (events : List Event) → All IsStore events → All IsNoLook events
 stores_look_not events all = All-weaker IsStore IsNoLook no_look events all
   where
@@ -124,7 +124,7 @@ event_keeper Bumps w v none same = ap generation_raised same
 event_keeper (Retires base len) w v none same = ap generation_raised same
 event_keeper (Looks k) w v none same = absurd none
 
--- nor do several
+-- events that are no looks change the keeper's numbers by these alone
 pub same_keeper : (events : List Event) (w v : World) → All IsNoLook events → w.keeper ≡ v.keeper
     → (world_after w events).keeper ≡ (world_after v events).keeper
 same_keeper [] w v none same = same

@@ -11,12 +11,12 @@ use Rattle.nc_calls.specs.Weaving.{IsKeepers}
 use Rattle.nc_calls.specs.Calls.{Details, events_of_log, span_from}
 use Rattle.nc_hosts.specs.Hosts.{IsNoLook}
 
--- a look, or none
+-- an event is a look or no look
 look_or_not : (event : Event) → IsNoLook event ⊎ (¬ IsNoLook event)
 look_or_not (Looks k) = inr (λ x. x)
 look_or_not _ = inl tt
 
--- no look among these, or not
+-- some events have no look among them, or they do
 pub looks_or_not : (events : List Event) → All IsNoLook events ⊎ (¬ All IsNoLook events)
 looks_or_not [] = inl (All-nil IsNoLook)
 looks_or_not (event ∷ events) =

@@ -51,7 +51,7 @@ pub record Led (limit seats : ℕ) (host : Host) : Type 0 where
   pub found : HasFound host
   pub phase : Phase seats from (writers since) host.held.begun host.held.region host.pending
 
--- one more event
+-- the world after one more event is that after all events
 led_after : (limit seats : ℕ) (before since : List Event) (w : World) (event : Event)
     → w ≡ world_after (first_world limit seats) (before ++ since)
     → after w event ≡ world_after (first_world limit seats) (before ++ (since ++ event ∷ []))
@@ -60,7 +60,7 @@ led_after limit seats before since w event is =
     ∙ (sym (after_append (first_world limit seats) (before ++ since) (event ∷ []))
     ∙ ap (world_after (first_world limit seats)) (append_assoc before since (event ∷ [])))
 
--- the world before it, from the last call on
+-- the world after two lists of events is that after the second in the world after the first
 led_there : (limit seats : ℕ) (before since : List Event) (w : World) → w ≡ world_after (first_world limit seats) (before ++ since)
     → w ≡ world_after (world_after (first_world limit seats) before) since
 led_there limit seats before since w is = is ∙ after_append (first_world limit seats) before since
@@ -78,7 +78,7 @@ phase_made seats from own begun region event pending rest is (Deleting c at same
     (append_assoc last (event ∷ []) (rest ++ Retires c.base c.length ∷ [])
     ∙ (ap (λ (z : List Event). last ++ (z ++ Retires c.base c.length ∷ [])) (sym is) ∙ last_is))
 
--- a thread's event
+-- a host is led over a thread's event
 led_runs : (limit seats : ℕ) (old : Host) (event : Event) → Led limit seats old → is_writers event ≡ false → ThreadMay old.world event
     → HasFound (record old { world = after old.world event }) → Led limit seats (record old { world = after old.world event })
 led_runs limit seats old event l is may found =
@@ -238,7 +238,7 @@ phase_ended seats from own old new pending later stamp is none stamped (Deleting
         (events ∙ (ap (λ (q : Region). made ++ delete_events q.marked.marks is.chunk.base is.chunk.length) (sym at)
         ∙ ap (λ (e : Chunk). made ++ delete_events r.marked.marks is.chunk.base e.length) (sym chunk))))
 
--- a call
+-- a host is led over a call
 led_calls : (limit seats : ℕ) (old new : Host) → Led limit seats old → old.pending ≡ [] → IsHeldCall seats old.held new.held new.pending
     → new.world ≡ old.world → HasFound new → Led limit seats new
 led_calls limit seats old new l none (Changes idle then call) same found =
@@ -341,7 +341,7 @@ led_restarts limit seats old pending c l begun own found =
         ∙ (own ∙ (ap (λ (r : Region). delete_events r.marked.marks c.base c.length) at
         ∙ ap (λ (e : Chunk). delete_events l.from.marked.marks e.base e.length) (sym same))))
 
--- a step
+-- a host is led over a step
 led_step : (limit seats : ℕ) (old new : Host) → Led limit seats old → IsStep seats old new → HasFound new → Led limit seats new
 led_step limit seats old new l (Runs event is may same) found =
     subst (Led limit seats) (sym same) (led_runs limit seats old event l is may (subst HasFound same found))
@@ -354,7 +354,7 @@ led_step limit seats old new l (Calls none call same) found = led_calls limit se
 led_step limit seats old new l (Asks begun region same) found =
     subst (Led limit seats) (sym same) (led_asks limit seats old new.held l begun region (subst HasFound same found))
 
--- the first state
+-- the first state of a host is led
 led_first : (bundles seats : ℕ) (host : Host) → IsFirst bundles seats host.held
     → host.world ≡ first_world (65536 + 32 * bundles) seats → host.pending ≡ [] → Led (65536 + 32 * bundles) seats host
 led_first bundles seats host is world none =
@@ -379,7 +379,7 @@ led_first bundles seats host is world none =
       phase = Calling host.held.region is.begun refl (Keeps refl none);
     }
 
--- every state
+-- every state of a host that is reached is led
 pub led : (bundles seats : ℕ) (host : Host) → IsReached bundles seats host → Led (65536 + 32 * bundles) seats host
 led bundles seats host (First is world none) = led_first bundles seats host is world none
 led bundles seats host (Then {old} before step found) =

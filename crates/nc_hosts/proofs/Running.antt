@@ -35,7 +35,7 @@ the_chunk bundles seats host new v c reached valid loaded live =
     (still_created host.held.region new.region v (is_region bundles seats host reached) valid loaded.1 loaded.3)
     live.0 (inserted host.held.region.chunks new.region.chunks loaded.3.chunks.0 (live_chunk v) loaded.3.chunks.1.0 loaded.3.chunks.2) live.2
 
--- a creation
+-- a creation whose runs are told is a call by a handle (`IsHeldCall`)
 pub creation : (bundles seats : ℕ) (host : Host) (new : HeldState) (v : MarkedChunk) (c : Chunk) (lent now : List NcAct) (count : ℕ)
     → IsReached bundles seats host → IsValid v → HasLoaded v host.held new → IsLiveAt new.region.chunks v.base c
     → AreCreationRuns new c lent now count → IsHeldCall seats host.held new (events_pending v (take count now))

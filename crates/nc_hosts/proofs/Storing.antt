@@ -29,7 +29,7 @@ Changed pending rest old new =
     (new.marked.bytes ≡ old.marked.bytes)
     ⊎ ((at : ℕ) × (byte : ℕ) × (pending ≡ Puts at byte ∷ rest) × (new.marked.bytes ≡ set old.marked.bytes (at - 65536) byte))
 
--- the next event that is pending
+-- the next pending event leaves the memory, or is a store and is made in it
 due_changes : (w : World) (event : Event) (pending rest : List Event) → pending ≡ event ∷ rest → Changed pending rest w (after w event)
 due_changes w (Puts at byte) pending rest is = inr (at, byte, is, refl)
 due_changes w (Steps k next) pending rest is = inl refl
@@ -50,7 +50,7 @@ due_changes w (Looks k) pending rest is = inl refl
 world_is : (old new : Host) (w : World) → new.world ≡ w → Changed old.pending new.pending old.world w → Changed old.pending new.pending old.world new.world
 world_is old new w is changed = rw is changed
 
--- each step
+-- a step of a host leaves the memory, or makes in it the store that was pending next
 pub stores : (seats : ℕ) (old new : Host) → IsStep seats old new → Changed old.pending new.pending old.world new.world
 stores seats old new (Runs event is may same) =
     world_is old new (after old.world event) (ap (λ (h : Host). h.world) same) (inl (thread_keeps old.world event is))

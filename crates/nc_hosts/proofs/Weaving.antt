@@ -37,17 +37,17 @@ writers_all (event ∷ events) all =
     ap (λ (b : Bool). cond b (event ∷ writers events) (writers events)) (All-head IsWriters event events all)
     ∙ ap (λ (z : List Event). event ∷ z) (writers_all events (All-tail IsWriters event events all))
 
--- one more event of a thread
+-- an event of a thread adds none to the writer's
 pub writers_thread : (since : List Event) (event : Event) → is_writers event ≡ false → writers (since ++ event ∷ []) ≡ writers since
 writers_thread since event is =
     filter-append is_writers since (event ∷ [])
     ∙ (ap (λ (b : Bool). writers since ++ cond b (event ∷ []) []) is ∙ append-nil (writers since))
 
--- or of the writer
+-- events of the writer alone are all added to the writer's
 pub writers_own : (since pending : List Event) → All IsWriters pending → writers (since ++ pending) ≡ writers since ++ pending
 writers_own since pending all = filter-append is_writers since pending ∙ ap (λ (z : List Event). writers since ++ z) (writers_all pending all)
 
--- threads before other events
+-- threads do what they may in events after others in which they do
 pub threads_append : (w : World) (xs ys : List Event) → ThreadsMay w xs → ThreadsMay (world_after w xs) ys → ThreadsMay w (xs ++ ys)
 threads_append w [] ys a b = b
 threads_append w (x ∷ xs) ys a b = (a.0, threads_append (after w x) xs ys a.1 b)
@@ -62,16 +62,16 @@ threads_none w (event ∷ events) all = (
 
 -- ---- the events of a call
 
--- looks
+-- all looks are the writer's
 looks_writers : (from n : ℕ) → All IsWriters (map Looks (range_with_len from n))
 looks_writers from zero = All-nil IsWriters
 looks_writers from (suc n) = All-cons IsWriters (Looks from) (map Looks (range_with_len (from + 1) n)) refl (looks_writers (from + 1) n)
 
--- one event
+-- a writer's event is all the writer's
 pub one_writers : (event : Event) → IsWriters event → All IsWriters (event ∷ [])
 one_writers event is = All-cons IsWriters event [] is (All-nil IsWriters)
 
--- an entry
+-- the events of an entry are all the writer's
 entry_writers : (d : Details) (entry : Entry) → All IsWriters (events_of_entry d entry)
 entry_writers d (Did (Put at byte)) = one_writers (Puts at byte) refl
 entry_writers d (Did (MarkSpan at len)) = one_writers (Marks at d.marks) refl
@@ -80,13 +80,13 @@ entry_writers d (Did Bump) = one_writers (Retires d.base d.len) refl
 entry_writers d (Did Look) = looks_writers 0 d.seats
 entry_writers d Settled = one_writers Settles refl
 
--- a log
+-- the events of a log are all the writer's
 pub log_writers : (d : Details) (log : List Entry) → All IsWriters (events_of_log d log)
 log_writers d [] = All-nil IsWriters
 log_writers d (entry ∷ log) =
     All-append IsWriters (events_of_entry d entry) (events_of_log d log) (entry_writers d entry) (log_writers d log)
 
--- the keeper's
+-- the keeper's events are the writer's
 keepers_writers : (event : Event) → IsKeepers event → IsWriters event
 keepers_writers (Puts at byte) k = refl
 keepers_writers Settles k = refl
@@ -103,7 +103,7 @@ keepers_writers (Sees n) k = absurd k
 keepers_writers (Stores n) k = absurd k
 keepers_writers (Leaves n) k = absurd k
 
--- unfinished attempts at a deletion
+-- the events of unfinished attempts at a deletion are all the writer's
 begun_writers : (marks : List Mark) (base len : ℕ) (made : List Event) → AreAttempts marks base len made → All IsWriters made
 begun_writers marks base len [] NoneYet = All-nil IsWriters
 begun_writers marks base len _ (OneMore {earlier} first part rest own) =
@@ -111,7 +111,7 @@ begun_writers marks base len _ (OneMore {earlier} first part rest own) =
     (all_front IsWriters part (rest ++ Retires base len ∷ [])
     (subst (All IsWriters) (sym own) (log_writers (record no_details { base = base; len = len }) (log_of_delete marks base len))))
 
--- those of a call
+-- the events of a call are all the writer's
 pub call_writers : (seats : ℕ) (old new : Region) (own : List Event) → IsCall seats old new own → All IsWriters own
 call_writers seats old new own (Creates v valid lim is same) =
     subst (All IsWriters) (sym same) (log_writers (record no_details { marks = v.marks }) (log_of_create v.base v.code))

@@ -4,7 +4,7 @@ use crate::digest::Digest;
 use crate::pieces::{BUNDLE, Pieces};
 use crate::random::Random;
 use nc_decode::MAX_BUNDLES;
-use nc_output::Detail;
+use nc_output::{Detail, Format, Style};
 use nc_report::{Labels, Source, report};
 use std::alloc::{AllocError, Global};
 
@@ -23,7 +23,11 @@ fn judge(
         code,
         labels: Labels::none(alloc),
     };
-    match report(alloc, source, BASE, MAX_BUNDLES, detail, digest) {
+    let style = Style {
+        detail,
+        format: Format::Text,
+    };
+    match report(alloc, source, BASE, MAX_BUNDLES, style, digest) {
         Ok(refused) => digest.add(u64::from(refused)),
         Err(_) => digest.add(7),
     }

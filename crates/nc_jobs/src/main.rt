@@ -11,7 +11,7 @@
 //! | `lines`, `replay` | `texts` |
 //! | `refusals` | `refusals` |
 //!
-//! `names` is no job: it names the instructions of a file of code, by which `tools/try-names` tries `nc_names`.
+//! `names` is no job: it names the instructions of a file of code, by which `tools/try/names` tries `nc_names`.
 #![tactic(auto)]
 
 mod digest;

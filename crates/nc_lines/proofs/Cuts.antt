@@ -39,7 +39,7 @@ onto_line-some : (b : ℕ) (lines : List (List ℕ)) → (line : List ℕ) × (o
 onto_line-some b [] = (b ∷ [], [], refl)
 onto_line-some b (line ∷ lines) = (b ∷ line, lines, refl)
 
--- either of two lists has a line
+-- a choice of two lists that have a first line has one
 either_some : (v : Bool) (xs ys : List (List ℕ)) → ((line : List ℕ) × (others : List (List ℕ)) × xs ≡ line ∷ others)
     → ((line : List ℕ) × (others : List (List ℕ)) × ys ≡ line ∷ others)
     → (line : List ℕ) × (others : List (List ℕ)) × cond v xs ys ≡ line ∷ others
@@ -80,7 +80,7 @@ ended_lines-ended (b ∷ line) more h =
     ap (λ (v : Bool). cond v ([] ∷ ended_lines (ended line ++ more)) (onto_ended b (ended_lines (ended line ++ more)))) (eqb_no b 10 h.0)
     ∙ ap (onto_ended b) (ended_lines-ended line more h.1)
 
--- these are the lines that have ended
+-- the lines that have ended are those before the part that is open
 pub ended_lines-cut : (lines : List (List ℕ)) (part : List ℕ) → AreOpen lines → IsOpen part
     → ended_lines (flat_map ended lines ++ part) ≡ lines
 ended_lines-cut [] part h o = ended_lines-open part o
@@ -171,6 +171,6 @@ kept_append n kept part more m e c =
     ∙ sym (take-append-add part more (n - length part)) ∙ ap (λ (k : ℕ). take k (part ++ more)) exact)
     (cases_lt n (length part))
 
--- where some bytes are kept there are some
+-- where some bytes of a part are kept, the part has some
 pub kept_some : (n : ℕ) (kept part : List ℕ) → kept ≡ take (n + 1) part → 0 < length kept → 0 < length part
 kept_some n kept part e l = omega (arith, ap length e ∙ length-take (n + 1) part)

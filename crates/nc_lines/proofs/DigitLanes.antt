@@ -12,7 +12,7 @@ use Rattle.nc_lines.proofs.DigitValues.{all_pass, passed_at, read_pair}
 abbrev is_valued : ℕ → Bool
 is_valued c = ltb 15 (lane_value c) || (entry_of (hex_digit_value c) == lane_value c)
 
--- all bytes pass it
+-- all bytes pass the test of their value
 all_valued : all_pass is_valued 256 ≡ true
 all_valued = refl
 

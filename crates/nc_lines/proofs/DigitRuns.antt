@@ -72,7 +72,7 @@ get_or-two_chunks s a k fits below =
           ∙ get_or-chunk (a + 16) 16 s (k - 16) 0 (omega arith) ∙ ap (λ (m : ℕ). get_or s m 0) at
     ]
 
--- such a value
+-- the value picked for a place of a run is that of the byte there
 picked_value : (s : List ℕ) (a i : ℕ) (place : ℕ → ℕ) {values : List ℕ} → a + 32 ≤ length s → i < 16 → place i < 32
     → ValuesAt s a place values → get_or values i 0 ≡ lane_value (get_or s (a + place i) 0)
 picked_value s a i place {values} fits below within e =

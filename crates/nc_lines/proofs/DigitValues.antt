@@ -28,7 +28,7 @@ passed_at test (suc n) c h below =
 abbrev is_entered : ℕ → Bool
 is_entered c = slice_index VALUES c == entry_of (hex_digit_value c)
 
--- all entries of the table pass it
+-- all entries of the table pass the test of their value
 all_entered : all_pass is_entered 256 ≡ true
 all_entered = refl
 

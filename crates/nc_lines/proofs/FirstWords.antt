@@ -19,7 +19,7 @@ use Rattle.nc_lines.specs.Words.{address_in, bytes_in, placed_in, first_address_
 
 -- ---- words
 
--- either of two lists of words has a first one
+-- a choice of two lists that have a first word has one
 either_some : (v : Bool) (xs ys : List (List ℕ)) → ((word : List ℕ) × (others : List (List ℕ)) × xs ≡ word ∷ others)
     → ((word : List ℕ) × (others : List (List ℕ)) × ys ≡ word ∷ others)
     → (word : List ℕ) × (others : List (List ℕ)) × cond v xs ys ≡ word ∷ others
@@ -76,7 +76,7 @@ pub spaced_no : (front back : List ℕ) → AllPass is_hex_digit (front ++ 32 �
 spaced_no [] back h = let no : false ≡ true = All-head (λ c. is_hex_digit c ≡ true) 32 back h in cc
 spaced_no (c ∷ front) back h = spaced_no front back (All-tail (λ c. is_hex_digit c ≡ true) c (front ++ 32 ∷ back) h)
 
--- so none is decoded
+-- no text with a space is decoded
 spaced_result : (front back : List ℕ) (r : Result (List ℕ) FromHexError) → decode_of (front ++ 32 ∷ back) ≡ r → result_ok r ≡ None
 spaced_result front back (Ok bytes) e = absurd (spaced_no front back (decode_of-ok (front ++ 32 ∷ back) bytes e).1)
 spaced_result front back (Err error) e = refl
@@ -110,7 +110,7 @@ sized_len : (word : List ℕ) (r : Result (List ℕ) FromHexError) → decode_si
 sized_len word (Ok bytes) e = inr (decode_sized-ok word 4 bytes e)
 sized_len word (Err error) e = inl refl
 
--- so no address is read of a text with a space
+-- no address is read of a text with a space
 sized_spaced : (front back : List ℕ) (r : Result (List ℕ) FromHexError) → decode_sized (front ++ 32 ∷ back) 4 ≡ r
     → option_map (from_be_bytes w32) (result_ok r) ≡ None
 sized_spaced front back (Ok bytes) e =

@@ -32,7 +32,7 @@ gathers_chunk old kept line base code named jobs names e n j =
           ∙ ap (λ (o : Option (ℕ × List ℕ)). map value_of old.jobs.items ++ jobs_for old.limit o) (sym is);
     }
 
--- any other line has no job
+-- a line that names no chunk has no job
 pub gathers_none : (old : Batch) (kept line : List ℕ) (named : Vec Bool)
     → chunk_in kept ≡ None → kept ≡ kept_of line → named.items ≡ old.named.items ++ false ∷ []
     → Gathers old line [] (record { alloc = old.alloc; limit = old.limit; named = named; jobs = old.jobs })

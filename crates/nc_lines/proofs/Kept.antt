@@ -17,6 +17,6 @@ read_of_kept read kept line e =
     (λ (short : length kept ≤ line_limit). ap (λ (l : List ℕ). cond (is_long l) None (read l)) (kept_is_all line_limit kept line e short))
     (cases_lt line_limit (length kept))
 
--- so is the chunk that a line names
+-- the chunk that a line names is read of what is kept of the line
 pub chunk_of_kept : (kept line : List ℕ) → kept ≡ kept_of line → chunk_in kept ≡ chunk_in line
 chunk_of_kept kept line e = read_of_kept (λ (l : List ℕ). placed_in (words_in l)) kept line e

@@ -1,5 +1,5 @@
 -- How a run answers on by a byte, by a line and at the end.
-use Rattle.std.proofs.Common.{◌≡◌, ◌≢◌, ◌++◌, ◌<◌, ℕ, List, [], ◌∷◌, Option, Err, length, take, drop, refl, sym, ap, ◌∙◌}
+use Rattle.std.proofs.Common.{◌≡◌, ◌++◌, ◌<◌, ℕ, List, [], ◌∷◌, Option, Err, length, take, drop, refl, sym, ap, ◌∙◌}
 use Rattle.std.proofs.Common.{subst, append_assoc, append-nil, take-append-drop, arith, ⊎_elim, inl}
 use Rattle.std.proofs.lemmas.List.{length-append}
 use Rattle.std.specs.List.{flat_map}
@@ -19,7 +19,7 @@ cut_after : (front bytes : List ℕ) (n : ℕ) → front ++ bytes ≡ (front ++ 
 cut_after front bytes n =
     ap (λ (t : List ℕ). front ++ t) (sym (take-append-drop n bytes)) ∙ sym (append_assoc front (take n bytes) (drop n bytes))
 
--- there is a line where there are bytes
+-- a line isn't empty where a piece of it isn't
 some_line : (part piece more : List ℕ) → 0 < length piece → 0 < length (part ++ (piece ++ more))
 some_line part piece more h = omega (arith, length-append part (piece ++ more), length-append piece more)
 
@@ -49,7 +49,7 @@ module _ {S : Type 0} (answers : S → List ℕ → List ℕ → S → Type 0) (
     answered = s.answered;
   }
 
-  -- the same, with the part that they go on
+  -- bytes of which none ends a line go on the part that was left
   pub part_goes_on : (bytes : List ℕ) (now : S) (after : Option (List ℕ)) (held kept more : List ℕ)
       (s : KeepsUp answers start before bytes now after held kept) → IsOpen more
       → (next : KeepsUp answers start before (bytes ++ more) now after held (kept_of (s.part ++ more))) × (next.part ≡ s.part ++ more)
@@ -66,7 +66,7 @@ module _ {S : Type 0} (answers : S → List ℕ → List ℕ → S → Type 0) (
     refl,
   )
 
-  -- one more line is answered
+  -- once one more line is answered, the replies are those to the lines up to it
   held_more : (now : S) (after : Option (List ℕ)) (held : List ℕ) (lines : List (List ℕ)) (line reply : List ℕ) (new : S)
       (later : Option (List ℕ)) (left : List ℕ)
       → IsHeld answers start now before after held lines → answers now line reply new → HoldsRest after later (held ++ reply) left
@@ -234,7 +234,7 @@ module _ {S : Type 0} (answers : S → List ℕ → List ℕ → S → Type 0) (
       (sym (lines_at_end bytes now after held kept s ∙ ap (λ (ls : List (List ℕ)). s.lines ++ ls) (last_line_none s.part e)
       ∙ append-nil s.lines)) (held_none now after held s.lines none s.answered)
 
-  -- at the end the last line is answered too
+  -- the part left at the end of the input is answered as the last line
   pub finish_line : (bytes : List ℕ) (now : S) (after : Option (List ℕ)) (held kept reply : List ℕ) (new : S) (later : Option (List ℕ))
       (left : List ℕ) (s : KeepsUp answers start before bytes now after held kept) → 0 < length s.part
       → answers now s.part reply new → HoldsRest after later (held ++ reply) left
@@ -252,7 +252,7 @@ module _ {S : Type 0} (answers : S → List ℕ → List ℕ → S → Type 0) (
       begun_more bytes now after held kept reply new later s (lines_of bytes) [] answered_so front
       (lines_at_end bytes now after held kept s ∙ ap (λ (ls : List (List ℕ)). s.lines ++ ls) (last_line_some s.part some))
 
-  -- all answers are a beginning of them
+  -- all answers to lines are a beginning of the answers
   pub begun_whole : (now : S) (after : Option (List ℕ)) (lines : List (List ℕ)) → IsAnswered answers start now before after lines
       → IsBegun answers start before after lines
   begun_whole now after lines a = record {
@@ -313,48 +313,6 @@ module _ {S : Type 0} (T : Type 0) (answers : S → List ℕ → List ℕ → S 
   feeds_failed bytes now after held kept piece BadSize h = absurd h
   feeds_failed bytes now after held kept piece BadSeats h = absurd h
   feeds_failed bytes now after held kept piece BadWorkers h = absurd h
-
-  -- what a failed write means, however the input goes on
-  pub fed_write_failed : (bytes : List ℕ) (now : S) (after : Option (List ℕ)) (held kept : List ℕ) (fault : ReplayFault)
-      → Feeds {T = T} answers start before bytes now after held kept (Err fault) → fault ≡ WriteFailed → (more : List ℕ)
-      → IsBegun answers start before after (lines_of (bytes ++ more))
-  fed_write_failed bytes now after held kept WriteFailed h e = h
-  fed_write_failed bytes now after held kept OutOfMemory h e = cc
-  fed_write_failed bytes now after held kept ReadFailed h e = absurd h
-  fed_write_failed bytes now after held kept BadSize h e = absurd h
-  fed_write_failed bytes now after held kept BadSeats h e = absurd h
-  fed_write_failed bytes now after held kept BadWorkers h e = absurd h
-
-  -- what lack of memory means, however the input goes on
-  pub fed_out_of_memory : (bytes : List ℕ) (now : S) (after : Option (List ℕ)) (held kept : List ℕ) (fault : ReplayFault)
-      → Feeds {T = T} answers start before bytes now after held kept (Err fault) → fault ≡ OutOfMemory → (more : List ℕ)
-      → IsCutShort answers start before after (lines_of (bytes ++ more))
-  fed_out_of_memory bytes now after held kept WriteFailed h e = cc
-  fed_out_of_memory bytes now after held kept OutOfMemory h e = h
-  fed_out_of_memory bytes now after held kept ReadFailed h e = absurd h
-  fed_out_of_memory bytes now after held kept BadSize h e = absurd h
-  fed_out_of_memory bytes now after held kept BadSeats h e = absurd h
-  fed_out_of_memory bytes now after held kept BadWorkers h e = absurd h
-
-  -- no call for a piece fails by a read
-  pub fed_read_failed : (bytes : List ℕ) (now : S) (after : Option (List ℕ)) (held kept : List ℕ) (fault : ReplayFault)
-      → Feeds {T = T} answers start before bytes now after held kept (Err fault) → fault ≡ ReadFailed → ⊥
-  fed_read_failed bytes now after held kept WriteFailed h e = cc
-  fed_read_failed bytes now after held kept OutOfMemory h e = cc
-  fed_read_failed bytes now after held kept ReadFailed h e = h
-  fed_read_failed bytes now after held kept BadSize h e = absurd h
-  fed_read_failed bytes now after held kept BadSeats h e = absurd h
-  fed_read_failed bytes now after held kept BadWorkers h e = absurd h
-
-  -- no failure is one of the sizes
-  pub fed_no_size : (bytes : List ℕ) (now : S) (after : Option (List ℕ)) (held kept : List ℕ) (fault : ReplayFault)
-      → Feeds {T = T} answers start before bytes now after held kept (Err fault) → (fault ≢ BadSize) × (fault ≢ BadSeats) × (fault ≢ BadWorkers)
-  fed_no_size bytes now after held kept WriteFailed h = (λ e. cc, λ e. cc, λ e. cc)
-  fed_no_size bytes now after held kept OutOfMemory h = (λ e. cc, λ e. cc, λ e. cc)
-  fed_no_size bytes now after held kept ReadFailed h = absurd h
-  fed_no_size bytes now after held kept BadSize h = absurd h
-  fed_no_size bytes now after held kept BadSeats h = absurd h
-  fed_no_size bytes now after held kept BadWorkers h = absurd h
 
   -- a call that fails to answer the last line
   pub finishes_failed : (bytes : List ℕ) (now : S) (after : Option (List ℕ)) (held kept : List ℕ) (new : S) (later : Option (List ℕ))

@@ -29,7 +29,7 @@ bad_here limit lines None rest verdicts h =
     (refl, subst (λ (bs : List Bool). AreFound limit lines bs verdicts) same h.2)
 bad_here limit lines (Some placed) rest verdicts h = let e = h.3 in absurd (cc)
 
--- so of the next line, whose flag says that it names no chunk
+-- the next line is bad where its flag says that it names no chunk
 pub bad_next : (limit : ℕ) (line : List ℕ) (lines : List (List ℕ)) (is_named : Bool) (rest : List Bool)
     (verdicts : List (Result MarkedChunk (Vec ℕ × VetFault)))
     → is_named ≡ false → AreFound limit (line ∷ lines) (is_named ∷ rest) verdicts → VetsLine limit line bad_line
@@ -63,7 +63,7 @@ named_here limit lines (Some placed) rest verdict later Reply says h =
           (subst (λ (vs : List (Result MarkedChunk (Vec ℕ × VetFault))). AreFound limit lines after vs) same_others more),
     )
 
--- so of the next line, whose flag says that it names a chunk
+-- the next verdict is on the next line's chunk where its flag says that it names one
 pub named_next : (limit : ℕ) (line : List ℕ) (lines : List (List ℕ)) (is_named : Bool) (rest : List Bool)
     (verdicts later : List (Result MarkedChunk (Vec ℕ × VetFault))) (verdict : Result MarkedChunk (Vec ℕ × VetFault))
     (Reply : List ℕ → Type 0)
@@ -77,7 +77,7 @@ named_next limit line lines is_named rest verdicts later verdict Reply e f says 
     (subst (λ (vs : List (Result MarkedChunk (Vec ℕ × VetFault))). AreFound limit (line ∷ lines) (true ∷ rest) vs) f
     (subst (λ (b : Bool). AreFound limit (line ∷ lines) (b ∷ rest) verdicts) e h))
 
--- so where no verdict is left, no line names a chunk
+-- where no verdict is left, no line names a chunk
 none_here : (limit : ℕ) (lines : List (List ℕ)) (chunk : Option (ℕ × List ℕ)) (rest : List Bool)
     (verdicts : List (Result MarkedChunk (Vec ℕ × VetFault)))
     → verdicts ≡ [] → MatchOption chunk
@@ -88,7 +88,7 @@ none_here : (limit : ℕ) (lines : List (List ℕ)) (chunk : Option (ℕ × List
 none_here limit lines None rest verdicts none h = let e = h.1 in cc
 none_here limit lines (Some placed) rest verdicts none h = let e = h.4 in cc
 
--- so no flag of a named chunk is left where no verdict is
+-- where no verdict is left, no flag of a named chunk is
 pub none_next : (limit : ℕ) (line : List ℕ) (lines : List (List ℕ)) (is_named : Bool) (rest : List Bool)
     (verdicts : List (Result MarkedChunk (Vec ℕ × VetFault)))
     → is_named ≡ true → verdicts ≡ [] → AreFound limit (line ∷ lines) (is_named ∷ rest) verdicts → ⊥
@@ -112,7 +112,7 @@ no_flag : (limit : ℕ) (lines : List (List ℕ)) (chunk : Option (ℕ × List �
 no_flag limit lines None verdicts h = let e = h.1 in cc
 no_flag limit lines (Some placed) verdicts h = let e = h.3 in cc
 
--- so where no flag is left, no line is
+-- where no flag is left, no line is left
 none_left : (limit : ℕ) (lines : List (List ℕ)) (verdicts : List (Result MarkedChunk (Vec ℕ × VetFault)))
     → AreFound limit lines [] verdicts → lines ≡ []
 none_left limit [] verdicts h = refl
@@ -126,7 +126,7 @@ all_more limit [] (r ∷ each) line reply h v = absurd h
 all_more limit (l ∷ lines) [] line reply h v = absurd h
 all_more limit (l ∷ lines) (r ∷ each) line reply h v = (h.0, all_more limit lines each line reply h.1 v)
 
--- and so do the bytes of all of them
+-- the bytes of the replies to lines go on by those of one more
 replies_more : (each : List (List ℕ)) (reply : List ℕ) → flat_map (λ r. r) (each ++ reply ∷ []) ≡ flat_map (λ r. r) each ++ reply
 replies_more [] reply = append-nil reply
 replies_more (r ∷ each) reply =

@@ -1,7 +1,10 @@
 -- Answers to lines, one after another, and how much of them was written. Everything here holds for any relation
 -- `answers old line answer new`: from the state `old` this may be the answer to the line, and `new` is the state after it.
-use Rattle.std.specs.Prelude.{◌≡◌, ◌++◌, ℕ, List, [], ◌∷◌, Option}
-use Rattle.std.specs.Io.KnownBytes.{Appends}
+use Rattle.std.specs.Prelude.{◌≡◌, ◌≢◌, ◌++◌, ℕ, List, [], ◌∷◌, Option, Result, OnOk, IfErr, IfSome, IsErrOf}
+use Rattle.std.specs.Io.KnownBytes.{Appends, Consumes, IsAtEnd}
+use Rattle.nc_lines.specs.declared.fault.ReplayFault.{ReplayFault}
+use Rattle.nc_lines.specs.declared.fault.ReplayFault.TheVariants.{ReadFailed, WriteFailed, OutOfMemory, BadSize, BadSeats, BadWorkers}
+use Rattle.nc_lines.specs.Lines.{lines_of, ended_lines}
 
 -- The reply is the concatenation of answers to these lines, in order, each from the state that the one before led to.
 abbrev pub AnswersLines : {S : Type 0} → (S → List ℕ → List ℕ → S → Type 0) → S → List (List ℕ) → List ℕ → S → Type 0
@@ -38,3 +41,20 @@ pub record IsCutShort {S : Type 0} (answers : S → List ℕ → List ℕ → S 
   pub split : lines ≡ first ++ (failed ∷ others)
   pub new : S
   pub answered : IsAnswered answers old new before after first
+
+-- What a run has done that was to answer all lines of an input, by its result: from the state `old` it led to `new`, the reader had
+-- `remaining` to read before it and `left` after it, and the writer had `before` and `after`.
+pub record HasAnsweredAll {S T : Type 0} (answers : S → List ℕ → List ℕ → S → Type 0) (old new : S)
+    (remaining left before after : Option (List ℕ)) (result : Result T ReplayFault) : Type 0 where
+  -- The whole input was read, and exactly the answers to its lines were written.
+  pub ok : OnOk result (IfSome remaining (λ input. IsAnswered answers old new before after (lines_of input)))
+  pub read : OnOk result (IsAtEnd left)
+  -- A prefix of the answers was written.
+  pub write_failed : IsErrOf result WriteFailed → IfSome remaining (λ input. IsBegun answers old before after (lines_of input))
+  -- Exactly the answers to the lines whose line end was read were written.
+  pub read_failed : IsErrOf result ReadFailed
+      → (front : List ℕ) × Consumes remaining left front × IsAnswered answers old new before after (ended_lines front)
+  -- Exactly the answers to the lines before the one that failed were written.
+  pub out_of_memory : IsErrOf result OutOfMemory → IfSome remaining (λ input. IsCutShort answers old before after (lines_of input))
+  -- No other fault is returned.
+  pub faults : IfErr result (λ fault. (fault ≢ BadSize) × (fault ≢ BadSeats) × (fault ≢ BadWorkers))

@@ -3,7 +3,7 @@
 ghost use Rattle.std.specs.Prelude.{◌≡◌, ◌++◌, ◌<◌, ◌≤◌, [], ℕ, List, Option, OnOk, IfOk, length, take, slice_index};
 ghost use Rattle.std.specs.Vec.{vec_capacity};
 ghost use Rattle.nc_lines.specs.Lines.{kept_of};
-ghost use Rattle.nc_lines.specs.machinery.Progress.{AnswersKept, IsOpen, KeepsUp, FeedsPart, Feeds};
+ghost use Rattle.nc_lines.specs.machinery.Progress.{AnswersKept, IsOpen, KeepsUp, FeedsPart, FeedsPiece};
 
 use crate::fault::ReplayFault;
 use crate::replies::Replies;
@@ -133,11 +133,9 @@ fn feed_parts<S: Responder, W: Write>(
     line: &mut Vec<u8>,
     piece: &[u8],
 ) -> Result<(), ReplayFault>
-    ensures feeds { (start : S) (before : Option (List ℕ)) (bytes : List ℕ)
-        → KeepsUp S.answers start before bytes responder.old (W.contents writer.old) replies.old.held.items line.old.items
-        → Feeds S.answers start before (bytes ++ piece.now) responder.new (W.contents writer.new) replies.new.held.items line.new.items
-        result }
     ensures most { replies.new.held.most ≡ replies.old.held.most }
+    ensures feeds { FeedsPiece S.answers responder.old (W.contents writer.old) replies.old.held.items line.old.items piece.now
+        responder.new (W.contents writer.new) replies.new.held.items line.new.items result }
 {
     let mut rest = piece;
     while !rest.is_empty() {
@@ -157,10 +155,8 @@ pub(crate) fn feed<S: Responder, W: Write>(
     line: &mut Vec<u8>,
     piece: &[u8],
 ) -> Result<(), ReplayFault>
-    ensures feeds { (start : S) (before : Option (List ℕ)) (bytes : List ℕ)
-        → KeepsUp S.answers start before bytes responder.old (W.contents writer.old) replies.old.held.items line.old.items
-        → Feeds S.answers start before (bytes ++ piece.now) responder.new (W.contents writer.new) replies.new.held.items line.new.items
-        result }
+    ensures feeds { FeedsPiece S.answers responder.old (W.contents writer.old) replies.old.held.items line.old.items piece.now
+        responder.new (W.contents writer.new) replies.new.held.items line.new.items result }
     ensures written { OnOk result (replies.new.held.items ≡ []) }
     ensures most { replies.new.held.most ≡ replies.old.held.most }
 {

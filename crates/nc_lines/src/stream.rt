@@ -1,9 +1,7 @@
 //! The lines of a reader, answered one after another.
 
-ghost use Rattle.std.specs.Prelude.{◌≡◌, ◌≢◌, ◌++◌, [], ℕ, List, Option, OnOk, IfErr, IfSome, IsErrOf};
-ghost use Rattle.std.specs.Io.KnownBytes.{Consumes, IsAtEnd};
-ghost use Rattle.nc_lines.specs.Lines.{lines_of, ended_lines};
-ghost use Rattle.nc_lines.specs.Answering.{IsAnswered, IsBegun, IsCutShort};
+ghost use Rattle.std.specs.Prelude.{◌≡◌, [], ℕ, List, Option};
+ghost use Rattle.nc_lines.specs.Answering.{HasAnsweredAll};
 ghost use Rattle.nc_lines.specs.machinery.Progress.{KeepsUp, Finishes};
 
 use crate::fault::ReplayFault;
@@ -69,27 +67,8 @@ pub fn answer_all<S: Responder, R: Read, W: Write>(
     reader: &mut R,
     writer: &mut W,
 ) -> Result<(), ReplayFault>
-    // The whole input was read, and exactly the answers to its lines were written.
-    ensures ok { OnOk result (IfSome (R.remaining reader.old) (λ input.
-        IsAnswered S.answers responder.old responder.new (W.contents writer.old) (W.contents writer.new) (lines_of input))) }
-    ensures read { OnOk result (IsAtEnd (R.remaining reader.new)) }
-
-    // A prefix of the answers was written.
-    ensures write_failed { IsErrOf result ReplayFault.WriteFailed → IfSome (R.remaining reader.old) (λ input.
-        IsBegun S.answers responder.old (W.contents writer.old) (W.contents writer.new) (lines_of input)) }
-
-    // Exactly the answers to the lines whose line end was read were written.
-    ensures read_failed { IsErrOf result ReplayFault.ReadFailed → (front : List ℕ)
-        × Consumes (R.remaining reader.old) (R.remaining reader.new) front
-        × IsAnswered S.answers responder.old responder.new (W.contents writer.old) (W.contents writer.new) (ended_lines front) }
-
-    // Exactly the answers to the lines before the one that failed were written.
-    ensures out_of_memory { IsErrOf result ReplayFault.OutOfMemory → IfSome (R.remaining reader.old) (λ input.
-        IsCutShort S.answers responder.old (W.contents writer.old) (W.contents writer.new) (lines_of input)) }
-
-    // No other fault is returned.
-    ensures faults { IfErr result (λ fault. (fault ≢ ReplayFault.BadSize) × (fault ≢ ReplayFault.BadSeats)
-        × (fault ≢ ReplayFault.BadWorkers)) }
+    ensures { HasAnsweredAll S.answers responder.old responder.new (R.remaining reader.old) (R.remaining reader.new)
+        (W.contents writer.old) (W.contents writer.new) result }
 {
     answer_gathered(alloc, responder, reader, writer, 0)
 }
@@ -108,27 +87,8 @@ pub fn answer_gathered<S: Responder, R: Read, W: Write>(
     writer: &mut W,
     most: usize,
 ) -> Result<(), ReplayFault>
-    // The whole input was read, and exactly the answers to its lines were written.
-    ensures ok { OnOk result (IfSome (R.remaining reader.old) (λ input.
-        IsAnswered S.answers responder.old responder.new (W.contents writer.old) (W.contents writer.new) (lines_of input))) }
-    ensures read { OnOk result (IsAtEnd (R.remaining reader.new)) }
-
-    // A prefix of the answers was written.
-    ensures write_failed { IsErrOf result ReplayFault.WriteFailed → IfSome (R.remaining reader.old) (λ input.
-        IsBegun S.answers responder.old (W.contents writer.old) (W.contents writer.new) (lines_of input)) }
-
-    // Exactly the answers to the lines whose line end was read were written.
-    ensures read_failed { IsErrOf result ReplayFault.ReadFailed → (front : List ℕ)
-        × Consumes (R.remaining reader.old) (R.remaining reader.new) front
-        × IsAnswered S.answers responder.old responder.new (W.contents writer.old) (W.contents writer.new) (ended_lines front) }
-
-    // Exactly the answers to the lines before the one that failed were written.
-    ensures out_of_memory { IsErrOf result ReplayFault.OutOfMemory → IfSome (R.remaining reader.old) (λ input.
-        IsCutShort S.answers responder.old (W.contents writer.old) (W.contents writer.new) (lines_of input)) }
-
-    // No other fault is returned.
-    ensures faults { IfErr result (λ fault. (fault ≢ ReplayFault.BadSize) × (fault ≢ ReplayFault.BadSeats)
-        × (fault ≢ ReplayFault.BadWorkers)) }
+    ensures { HasAnsweredAll S.answers responder.old responder.new (R.remaining reader.old) (R.remaining reader.new)
+        (W.contents writer.old) (W.contents writer.new) result }
 {
     let mut line = Vec::new(alloc);
     let mut replies = Replies::new(alloc, most);

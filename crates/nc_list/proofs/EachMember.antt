@@ -2,50 +2,50 @@
 use Rattle.std.proofs.Common.{ℕ, ◌≢◌, ◌<◌, ◌≤◌, List, [], ◌∷◌, ◌++◌, length, get_or, set, take, drop, replicate, arith, zero, suc, subst, Contains}
 use Rattle.nc_list.specs.Each.{Each}
 
--- what follows from P for each holds of each
+-- what follows from P for each member holds of each
 pub each_map : {X : Type 0} (P Q : X → Type 0) → ((x : X) → P x → Q x) → (xs : List X) → Each P xs → Each Q xs
 each_map P Q f [] h = tt
 each_map P Q f (x ∷ xs) h = (f x h.0, each_map P Q f xs h.1)
 
--- what follows from both
+-- what follows from two properties of each member holds of each
 pub each_both : {X : Type 0} (P Q R : X → Type 0) → ((x : X) → P x → Q x → R x) → (xs : List X) → Each P xs → Each Q xs → Each R xs
 each_both P Q R f [] p q = tt
 each_both P Q R f (x ∷ xs) p q = (f x p.0 q.0, each_both P Q R f xs p.1 q.1)
 
--- the member at an index
+-- what holds of each member holds of the one at an index
 pub each_get : {X : Type 0} (P : X → Type 0) (xs : List X) (k : ℕ) (d : X) → k < length xs → Each P xs → P (get_or xs k d)
 each_get P [] k d lt h = absurd (omega arith)
 each_get P (x ∷ xs) zero d lt h = h.0
 each_get P (x ∷ xs) (suc k) d lt h = each_get P xs k d (omega arith) h.1
 
--- what the list contains
+-- what holds of each member holds of each element that the list contains
 pub each_contains : {X : Type 0} (P : X → Type 0) (xs : List X) (x : X) → Each P xs → Contains xs x → P x
 each_contains P xs x h has = subst P has.2 (each_get P xs has.0 x has.1 h)
 
--- one member set
+-- what holds of each member still does where one is set to an element with it
 pub each_set : {X : Type 0} (P : X → Type 0) (xs : List X) (k : ℕ) (y : X) → Each P xs → P y → Each P (set xs k y)
 each_set P [] k y h p = tt
 each_set P (x ∷ xs) zero y h p = (p, h.1)
 each_set P (x ∷ xs) (suc k) y h p = (h.0, each_set P xs k y h.1 p)
 
--- the same member so many times
+-- what holds of an element holds of each member of a list of it alone
 pub each_replicate : {X : Type 0} (P : X → Type 0) (n : ℕ) (x : X) → P x → Each P (replicate n x)
 each_replicate P zero x p = tt
 each_replicate P (suc n) x p = (p, each_replicate P n x p)
 
--- the first members
+-- what holds of each member holds of the first ones
 pub each_take : {X : Type 0} (P : X → Type 0) (k : ℕ) (xs : List X) → Each P xs → Each P (take k xs)
 each_take P zero xs h = tt
 each_take P (suc k) [] h = tt
 each_take P (suc k) (x ∷ xs) h = (h.0, each_take P k xs h.1)
 
--- all but the first members
+-- what holds of each member holds of all but the first ones
 pub each_drop : {X : Type 0} (P : X → Type 0) (k : ℕ) (xs : List X) → Each P xs → Each P (drop k xs)
 each_drop P zero xs h = h
 each_drop P (suc k) [] h = tt
 each_drop P (suc k) (x ∷ xs) h = each_drop P k xs h.1
 
--- two lists after each other
+-- what holds of each member of two lists holds of each of both together
 pub each_append : {X : Type 0} (P : X → Type 0) (xs ys : List X) → Each P xs → Each P ys → Each P (xs ++ ys)
 each_append P [] ys h g = g
 each_append P (x ∷ xs) ys h g = (h.0, each_append P xs ys h.1 g)
@@ -70,7 +70,7 @@ each_drop_from P zero xs d h = each_from P xs d (λ i lt. h i (omega arith) lt)
 each_drop_from P (suc k) [] d h = tt
 each_drop_from P (suc k) (x ∷ xs) d h = each_drop_from P k xs d (λ i le lt. h (suc i) (omega (arith, le)) (omega (arith, lt)))
 
--- a member set, where the others have P
+-- what holds of all members but one holds of each where that is set to an element with it
 pub each_set_but : {X : Type 0} (P : X → Type 0) (xs : List X) (k : ℕ) (y d : X) → ((i : ℕ) → i < length xs → i ≢ k → P (get_or xs i d))
     → P y → Each P (set xs k y)
 each_set_but P [] k y d h p = tt
@@ -80,35 +80,35 @@ each_set_but P (x ∷ xs) (suc k) y d h p = (
   each_set_but P xs k y d (λ i lt ne. h (suc i) (omega (arith, lt)) (λ e. ne (omega (arith, e)))) p,
 )
 
--- the member that was set
+-- what holds of each member where one is set holds of the element set
 pub each_at_set : {X : Type 0} (P : X → Type 0) (xs : List X) (k : ℕ) (y : X) → k < length xs → Each P (set xs k y) → P y
 each_at_set P [] k y lt h = absurd (omega arith)
 each_at_set P (x ∷ xs) zero y lt h = h.0
 each_at_set P (x ∷ xs) (suc k) y lt h = each_at_set P xs k y (omega (arith, lt)) h.1
 
--- a member set back
+-- what holds of each member where one is set, and of that one before, holds of each before
 pub each_unset : {X : Type 0} (P : X → Type 0) (xs : List X) (k : ℕ) (y d : X) → k < length xs → Each P (set xs k y) → P (get_or xs k d)
     → Each P xs
 each_unset P [] k y d lt h p = tt
 each_unset P (x ∷ xs) zero y d lt h p = (p, h.1)
 each_unset P (x ∷ xs) (suc k) y d lt h p = (h.0, each_unset P xs k y d (omega (arith, lt)) h.1 p)
 
--- the member in the middle
+-- what holds of each member holds of the one in the middle
 pub each_middle : {X : Type 0} (P : X → Type 0) (xs ys : List X) (y : X) → Each P (xs ++ y ∷ ys) → P y
 each_middle P [] ys y h = h.0
 each_middle P (x ∷ xs) ys y h = each_middle P xs ys y h.1
 
--- it is taken out
+-- what holds of each member still does where the one in the middle is taken out
 pub each_out : {X : Type 0} (P : X → Type 0) (xs ys : List X) (y : X) → Each P (xs ++ y ∷ ys) → Each P (xs ++ ys)
 each_out P [] ys y h = h.1
 each_out P (x ∷ xs) ys y h = (h.0, each_out P xs ys y h.1)
 
--- it is put in
+-- what holds of each member still does where an element with it is put into the middle
 pub each_in : {X : Type 0} (P : X → Type 0) (xs ys : List X) (y : X) → Each P (xs ++ ys) → P y → Each P (xs ++ y ∷ ys)
 each_in P [] ys y h p = (p, h)
 each_in P (x ∷ xs) ys y h p = (h.0, each_in P xs ys y h.1 p)
 
--- both parts of a list
+-- what holds of each member of two lists together holds of each of both
 pub each_split : {X : Type 0} (P : X → Type 0) (xs ys : List X) → Each P (xs ++ ys) → Each P xs × Each P ys
 each_split P [] ys h = (tt, h)
 each_split P (x ∷ xs) ys h = let r = each_split P xs ys h.1 in ((h.0, r.0), r.1)

@@ -13,14 +13,14 @@ use Rattle.nc_list.proofs.Rising.{rises_at, rises_apart, meets_first, meets_rest
 use Rattle.nc_list.proofs.Pieces.{around, around_set}
 use Rattle.nc_list.proofs.Combining.{above_free}
 
--- the chunks before one that begins at or below a place end there too
+-- the chunks before one that begins at or below a place end at or below it
 pub before_begun : (chunks : List Chunk) (i at : ℕ) (d : Chunk) → IsRising 0 chunks → i < length chunks → (get_or chunks i d).base ≤ at
     → IsAboveAll at (take i chunks)
 before_begun chunks i at d rising lt begun =
     each_take_from (λ (e : Chunk). e.base + e.length ≤ at) i chunks d (omega (arith, lt))
     (λ j before. omega (arith, begun, rises_apart 0 chunks j i d rising before lt))
 
--- so do those up to one that ends there
+-- the chunks up to one that ends at or below a place end at or below it
 pub up_to_ended : (chunks : List Chunk) (k at : ℕ) (d : Chunk) → IsRising 0 chunks → k ≤ length chunks
     → (0 < k → (get_or chunks (k - 1) d).base + (get_or chunks (k - 1) d).length ≤ at) → IsAboveAll at (take k chunks)
 up_to_ended chunks k at d rising le ended =
@@ -68,7 +68,7 @@ begun_above chunks k at d rising above =
     each_drop_from (λ (e : Chunk). at < e.base) k chunks d (λ j from_it lt.
     omega (arith, above (omega (arith, from_it, lt)), rises_at 0 chunks k j d rising from_it lt))
 
--- a chunk of those that begin above a place
+-- each chunk from an index on begins above a place where all of them do
 pub later_above : (chunks : List Chunk) (k at j : ℕ) (d : Chunk) → k ≤ j → j < length chunks → BeginAbove at (drop k chunks)
     → at < (get_or chunks j d).base
 later_above chunks k at j d from_it lt above =

@@ -77,7 +77,7 @@ row_cut parts starts count first oldest cut n low row pos lt is since =
       since = since;
     }
 
--- what is cut off
+-- the parts that are cut off a row are a row
 pub row_rest : (parts : List (List Chunk)) (starts : List ℕ) (count first oldest cut n front high : ℕ) → IsRow parts starts count first oldest
     → 0 < cut → cut < length parts → n ≡ get_or starts cut 0 → BeginsAt front (get_or (drop cut parts) 0 [])
     → AreSince high (all_of (drop cut parts)) → IsRow (drop cut parts) (map (λ (m : ℕ). m - n) (drop cut starts)) (count - n) front high
@@ -100,7 +100,7 @@ row_rest parts starts count first oldest cut n front high row pos lt is begins s
       since = since;
     }
 
--- neither is without a chunk
+-- the chunks of a row cut between two parts are parted in two, neither without a chunk
 pub row_parted : (parts : List (List Chunk)) (cut : ℕ) → HaveSome parts → 0 < cut → cut < length parts
     → AreParted (all_of parts) (all_of (take cut parts)) (all_of (drop cut parts))
 row_parted parts cut have pos lt =

@@ -10,7 +10,7 @@ use Rattle.nc_list.proofs.EachMember.{each_append, each_split}
 use Rattle.nc_list.proofs.Rows.{begins_all}
 use Rattle.nc_list.proofs.Taking.{taken_from}
 
--- one more chunk, which is due or isn't
+-- with one more chunk, due or not, all are still as many as the kept and the freed ones
 one_more : (least : ℕ) (c : Chunk) (cs : List Chunk) (b : Bool) → is_due least c.state ≡ b
     → length cs ≡ length (kept least cs) + length (freed least cs)
     → length (c ∷ cs) ≡ length (kept least (c ∷ cs)) + length (freed least (c ∷ cs))
@@ -83,7 +83,7 @@ taken_here least old new taken k so =
     ∙ (ap (λ (n : ℕ). get_or (so.before ++ so.here ∷ so.after) n []) so.index ∙ get_middle so.before so.here so.after))
     ∙ taken_long least so.here so.left taken so.taken_are
 
--- the row afterwards
+-- the row once some chunks were taken from one part
 pub taken_row : (least : ℕ) (old new last : List (List Chunk)) (starts now : List ℕ) (count first oldest front since k n : ℕ)
     (taken : List Chunk) → IsRow old starts count first oldest → AreTakenFrom least old new taken k → n ≡ length taken
     → all_of last ≡ all_of new → now ≡ starts_of 0 last → HaveSome last → 0 < length last → BeginsAt front (get_or last 0 [])

@@ -4,7 +4,7 @@ use Rattle.nc_list.specs.Each.{Each}
 use Rattle.nc_list.proofs.EachMember.{each_get}
 use Rattle.std.proofs.lemmas.List.{take_more, map-append, length-drop, get_or-drop, drop-drop, take_all}
 
--- one more of them
+-- numbers of a list mapped up to the next index are those up to this one, and the one here
 pub mapped_tail : (f : ℕ → ℕ) (xs : List ℕ) (m i d : ℕ) → m ≤ i → i < length xs
     → map f (take (i + 1 - m) (drop m xs)) ≡ map f (take (i - m) (drop m xs)) ++ f (get_or xs i d) ∷ []
 mapped_tail f xs m i d le lt =
@@ -16,29 +16,29 @@ mapped_tail f xs m i d le lt =
     ∙ (map-append f (take (i - m) (drop m xs)) (get_or (drop m xs) (i - m) d ∷ [])
     ∙ ap (λ (y : ℕ). map f (take (i - m) (drop m xs)) ++ f y ∷ []) at))
 
--- behind those before them
+-- a list mapped from an index on, up to the next one, is mapped up to this one and here
 pub mapped_more : (f : ℕ → ℕ) (xs : List ℕ) (m i d : ℕ) → m ≤ i → i < length xs
     → take m xs ++ map f (take (i + 1 - m) (drop m xs)) ≡ (take m xs ++ map f (take (i - m) (drop m xs))) ++ f (get_or xs i d) ∷ []
 mapped_more f xs m i d le lt =
     ap (λ (z : List ℕ). take m xs ++ z) (mapped_tail f xs m i d le lt)
     ∙ sym (append_assoc (take m xs) (map f (take (i - m) (drop m xs))) (f (get_or xs i d) ∷ []))
 
--- all of them
+-- once all numbers from an index on are mapped, they are the mapped rest
 pub mapped_all : (f : ℕ → ℕ) (xs : List ℕ) (m i : ℕ) → length xs ≤ i → map f (take (i - m) (drop m xs)) ≡ map f (drop m xs)
 mapped_all f xs m i le = ap (map f) (take_all (i - m) (drop m xs) (omega (arith, le, length-drop m xs)))
 
--- what is left is the same one further on
+-- lists that are the same from an index on are the same from the next one on
 pub rest_more : {X : Type 0} (xs ys : List X) (i : ℕ) → drop i xs ≡ drop i ys → drop (i + 1) xs ≡ drop (i + 1) ys
 rest_more xs ys i same = sym (drop-drop 1 i xs) ∙ (ap (drop 1) same ∙ drop-drop 1 i ys)
 
--- and begins with the same
+-- lists that are the same from an index on have the same element there
 pub here_same : {X : Type 0} (xs ys : List X) (i : ℕ) (d : X) → drop i xs ≡ drop i ys → get_or xs i d ≡ get_or ys i d
 here_same xs ys i d same =
     let e : i + 0 ≡ i = omega arith in
     ap (λ (k : ℕ). get_or xs k d) (sym e)
     ∙ (sym (get_or-drop i xs 0 d) ∙ (ap (λ z. get_or z 0 d) same ∙ (get_or-drop i ys 0 d ∙ ap (λ (k : ℕ). get_or ys k d) e)))
 
--- what holds of each from an index on
+-- what holds of each number from an index on holds of one of them
 pub each_from_index : (P : ℕ → Type 0) (xs : List ℕ) (m i d : ℕ) → m ≤ i → i < length xs → Each P (drop m xs) → P (get_or xs i d)
 each_from_index P xs m i d le lt all =
     let there : m + (i - m) ≡ i = omega (arith, le) in

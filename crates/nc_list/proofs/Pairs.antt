@@ -12,7 +12,7 @@ written {X = X} xs ys n long was =
     ap (λ (z : List X). take n (ys ++ z)) (drop_all (length ys) xs (omega (arith, long, was)))
     ∙ (ap (take n) (append-nil ys) ∙ take_all n ys (omega (arith, long)))
 
--- two neighbours set
+-- a list with two neighbours set is as long as it was
 pub pair_long : {X : Type 0} (xs : List X) (k : ℕ) (p q : X) → k + 1 < length xs
     → length (set (take (k + 1) xs) k p ++ set (drop (k + 1) xs) 0 q) ≡ length xs
 pair_long xs k p q lt =
@@ -26,7 +26,7 @@ pair_long xs k p q lt =
       length-drop (k + 1) xs,
     )
 
--- of which the second is removed
+-- setting the first of two neighbours in the front is setting it in the list
 front_set : {X : Type 0} (xs : List X) (k : ℕ) (p : X) → k + 1 < length xs → set (take (k + 1) xs) k p ≡ take (k + 1) (set xs k p)
 front_set {X = X} xs k p lt =
     let n = length-take-le (k + 1) xs (omega (arith, lt)) in
@@ -50,7 +50,7 @@ pair_removed {X = X} xs k p q lt =
     ∙ (drop-drop 1 (k + 1) xs
     ∙ (ap (λ (n : ℕ). drop n xs) (sym next) ∙ sym (drop-set-lt (suc (k + 1)) xs k p (omega arith))))))))
 
--- that both keep their chunks
+-- a list with two neighbours set that keep their chunks has the chunks that it had
 pub pair_kept : {X : Type 0} (f : X → List Chunk) (xs : List X) (k : ℕ) (a b p q : X) → k + 1 < length xs
     → a ≡ get_or (take (k + 1) xs) k a → b ≡ get_or (drop (k + 1) xs) 0 b → f p ≡ f a → f q ≡ f b
     → map f (set (take (k + 1) xs) k p ++ set (drop (k + 1) xs) 0 q) ≡ map f xs
@@ -64,7 +64,7 @@ pair_kept f xs k a b p q lt is also same equal =
     (kept_parts f (drop (k + 1) xs) 0 b q (omega (arith, m, lt)) also equal)
     ∙ (sym (map-append f (take (k + 1) xs) (drop (k + 1) xs)) ∙ ap (map f) (take-append-drop (k + 1) xs))))
 
--- what was read from the front, and from the back
+-- the chunks of the neighbour read from the front are those at its index
 pub pair_first : {X : Type 0} (f : X → List Chunk) (xs : List X) (k : ℕ) (a : X) → k + 1 < length xs → a ≡ get_or (take (k + 1) xs) k a
     → f a ≡ get_or (map f xs) k []
 pair_first f xs k a lt is =
@@ -76,7 +76,7 @@ pair_second {X = X} f xs k b lt is =
     let next : k + 1 + 0 ≡ suc k = omega arith in
     part_is f xs (suc k) b (omega (arith, lt)) (is ∙ (get_or-drop (k + 1) xs 0 b ∙ ap (λ (n : ℕ). get_or xs n b) next))
 
--- the list as it is written back, with the second removed
+-- the chunks of the list as it is written back, with the second neighbour removed
 pub joined_pair : {X : Type 0} (f : X → List Chunk) (xs front back : List X) (k n : ℕ) (p q : X) → k + 1 < length xs → length xs ≡ n
     → front ≡ take (k + 1) xs → back ≡ drop (k + 1) xs
     → map f (remove (take n (set front k p ++ set back 0 q ++ drop (length (set front k p ++ set back 0 q)) xs)) (k + 1))
@@ -89,7 +89,7 @@ joined_pair {X = X} f xs front back k n p q lt long is also =
     ∙ (ap (λ (z : List X). map f (remove z (k + 1))) (written xs ys n (pair_long xs k p q lt ∙ long) long)
     ∙ (ap (map f) (pair_removed xs k p q lt) ∙ joined_parts f xs k p)))
 
--- the same where both keep their chunks
+-- the chunks of the list as it is written back, where both neighbours keep theirs
 pub unjoined_pair : {X : Type 0} (f : X → List Chunk) (xs front back : List X) (k n : ℕ) (a b p q : X) → k + 1 < length xs → length xs ≡ n
     → front ≡ take (k + 1) xs → back ≡ drop (k + 1) xs → a ≡ get_or front k a → b ≡ get_or back 0 b
     → f p ≡ f (get_or front k a) → f q ≡ f (get_or back 0 b)

@@ -16,14 +16,14 @@ map_insert f xs i y =
     ∙ (ap (λ (z : List (List Chunk)). z ++ f y ∷ map f (drop i xs)) (sym (take-map f i xs))
     ∙ ap (λ (z : List (List Chunk)). take i (map f xs) ++ f y ∷ z) (sym (drop-map f i xs)))
 
--- with one less
+-- the chunks of parts of which one is removed
 pub map_remove : {X : Type 0} (f : X → List Chunk) (xs : List X) (i : ℕ) → map f (remove xs i) ≡ remove (map f xs) i
 map_remove f xs i =
     map-append f (take i xs) (drop (suc i) xs)
     ∙ (ap (λ (z : List (List Chunk)). z ++ map f (drop (suc i) xs)) (sym (take-map f i xs))
     ∙ ap (λ (z : List (List Chunk)). take i (map f xs) ++ z) (sym (drop-map f (suc i) xs)))
 
--- the same element set
+-- parts of which one is set to what it was are the same
 set_same : (parts : List (List Chunk)) (k : ℕ) (p : List Chunk) → k < length parts → p ≡ get_or parts k [] → set parts k p ≡ parts
 set_same parts k p lt is =
     around_set parts k p lt
@@ -34,7 +34,7 @@ pub same_parts : {X : Type 0} (f : X → List Chunk) (xs : List X) (k : ℕ) (p 
     → map f (set xs k p) ≡ map f xs
 same_parts f xs k p lt is = map-set f xs k p ∙ set_same (map f xs) k (f p) (omega (arith, lt, length-map xs f)) is
 
--- up to an element, and behind it
+-- a list up to an element and with it
 pub take_seam : {X : Type 0} (xs : List X) (y : X) (ys : List X) (k : ℕ) → length xs ≡ k → take (k + 1) (xs ++ y ∷ ys) ≡ xs ++ y ∷ []
 take_seam {X = X} xs y ys k long =
     ap (take (k + 1)) (sym (append_assoc xs (y ∷ []) ys))
@@ -53,7 +53,7 @@ starts_at parts starts k n lt are is =
     omega (arith, is, ap (λ (z : List ℕ). get_or z k 0) are, starts_get 0 parts k 0 lt) in
     are ∙ (ap (starts_of 0) (around parts k [] lt) ∙ starts_around (take k parts) (get_or parts k []) (drop (suc k) parts) n count)
 
--- as many starts as parts before it
+-- the starts before a part are as many as the parts before it
 pub starts_before : (parts : List (List Chunk)) (k : ℕ) → k < length parts → length (starts_of 0 (take k parts)) ≡ k
 starts_before parts k lt = starts_long 0 (take k parts) ∙ length-take-le k parts (omega (arith, lt))
 
@@ -119,7 +119,7 @@ split_have parts k lower upper lt have some also = λ several.
     subst (Each (λ (p : List Chunk). 0 < length p)) (sym (split_form parts k lower upper lt))
     (each_append (λ (p : List Chunk). 0 < length p) (take k parts) (lower ∷ (upper ∷ drop (suc k) parts)) o.0 (some, (also, o.1)))
 
--- an empty part removed
+-- removing an empty part leaves the chunks
 pub removed_all : (parts : List (List Chunk)) (k : ℕ) → k < length parts → get_or parts k [] ≡ [] → all_of (remove parts k) ≡ all_of parts
 removed_all parts k lt none =
     all_append (take k parts) (drop (suc k) parts)
@@ -150,7 +150,7 @@ removed_have parts k others several = λ _.
     each_append (λ (p : List Chunk). 0 < length p) (take k parts) (drop (suc k) parts) o.0
     (subst (λ (n : ℕ). Each (λ (p : List Chunk). 0 < length p) (drop n parts)) next o.1)
 
--- two parts joined
+-- parts of which two are joined, part by part
 join_form : (parts : List (List Chunk)) (k : ℕ) (joined : List Chunk) → suc k < length parts
     → remove (set parts k joined) (k + 1) ≡ take k parts ++ joined ∷ drop (suc (suc k)) parts
 join_form parts k joined lt =
@@ -231,12 +231,12 @@ pub split_parts : {X : Type 0} (f : X → List Chunk) (xs : List X) (k : ℕ) (q
     → map f (insert (set xs k q) (k + 1) u) ≡ insert (set (map f xs) k (f q)) (k + 1) (f u)
 split_parts f xs k q u = map_insert f (set xs k q) (k + 1) u ∙ ap (λ (z : List (List Chunk)). insert z (k + 1) (f u)) (map-set f xs k q)
 
--- two that were joined
+-- the chunks of parts of which two were joined
 pub joined_parts : {X : Type 0} (f : X → List Chunk) (xs : List X) (k : ℕ) (q : X)
     → map f (remove (set xs k q) (k + 1)) ≡ remove (set (map f xs) k (f q)) (k + 1)
 joined_parts f xs k q = map_remove f (set xs k q) (k + 1) ∙ ap (λ (z : List (List Chunk)). remove z (k + 1)) (map-set f xs k q)
 
--- as many numbers as parts
+-- there are as many starts as parts
 pub starts_many : {X : Type 0} (f : X → List Chunk) (xs : List X) (starts : List ℕ) → starts ≡ starts_of 0 (map f xs)
     → length starts ≡ length xs
 starts_many f xs starts are = ap (λ (z : List ℕ). length z) are ∙ (starts_long 0 (map f xs) ∙ length-map xs f)
@@ -264,7 +264,7 @@ pub parted : {X : Type 0} (f : X → List Chunk) (p q u : X) (o : Option X) → 
     → MatchOption o (f q ≡ f p) (λ (v : X). AreParted (f p) (f q) (f v)) → AreParted (f p) (f q) (f u)
 parted {X = X} f p q u o is so = subst (λ (z : Option X). MatchOption z (f q ≡ f p) (λ (v : X). AreParted (f p) (f q) (f v))) is so
 
--- one that wasn't full
+-- a part that wasn't parted keeps its chunks
 pub not_parted : {X : Type 0} (f : X → List Chunk) (p q : X) (o : Option X) → o ≡ None
     → MatchOption o (f q ≡ f p) (λ (v : X). AreParted (f p) (f q) (f v)) → f q ≡ f p
 not_parted {X = X} f p q o is so = subst (λ (z : Option X). MatchOption z (f q ≡ f p) (λ (v : X). AreParted (f p) (f q) (f v))) is so

@@ -11,7 +11,7 @@ use Rattle.nc_list.proofs.EachMember.{each_map, each_get}
 pub all_append : (xs ys : List (List Chunk)) → all_of (xs ++ ys) ≡ all_of xs ++ all_of ys
 all_append xs ys = flat_map-append (λ (p : List Chunk). p) xs ys
 
--- their starts
+-- the starts of parts one behind the other
 pub starts_append : (from : ℕ) (xs ys : List (List Chunk))
     → starts_of from (xs ++ ys) ≡ starts_of from xs ++ starts_of (from + length (all_of xs)) ys
 starts_append from [] ys = ap (λ (n : ℕ). starts_of n ys) (omega arith)
@@ -20,14 +20,14 @@ starts_append from (p ∷ xs) ys =
     ap (λ (ns : List ℕ). from ∷ ns)
     (starts_append (from + length p) xs ys ∙ ap (λ (n : ℕ). starts_of (from + length p) xs ++ starts_of n ys) e)
 
--- behind more chunks
+-- the starts of parts behind more chunks are higher by as many
 pub starts_more : (from by : ℕ) (xs : List (List Chunk)) → starts_of (from + by) xs ≡ map (λ (n : ℕ). n + by) (starts_of from xs)
 starts_more from by [] = refl
 starts_more from by (p ∷ xs) =
     let e : from + by + length p ≡ from + length p + by = omega arith in
     ap (λ (ns : List ℕ). (from + by) ∷ ns) (ap (λ (n : ℕ). starts_of n xs) e ∙ starts_more (from + length p) by xs)
 
--- behind fewer
+-- the starts of parts behind fewer chunks are lower by as many
 pub starts_less : (from by : ℕ) (xs : List (List Chunk)) → map (λ (n : ℕ). n - by) (starts_of (from + by) xs) ≡ starts_of from xs
 starts_less from by [] = refl
 starts_less from by (p ∷ xs) =
@@ -37,7 +37,7 @@ starts_less from by (p ∷ xs) =
     ∙ ap (λ (ns : List ℕ). from ∷ ns)
     (ap (λ (n : ℕ). map (λ (m : ℕ). m - by) (starts_of n xs)) e ∙ starts_less (from + length p) by xs)
 
--- as many as parts
+-- there are as many starts as parts
 pub starts_long : (from : ℕ) (xs : List (List Chunk)) → length (starts_of from xs) ≡ length xs
 starts_long from [] = refl
 starts_long from (p ∷ xs) = ap suc (starts_long (from + length p) xs)
@@ -74,7 +74,7 @@ around {X = X} [] k d lt = absurd (omega (arith, lt))
 around {X = X} (x ∷ xs) zero d lt = refl
 around {X = X} (x ∷ xs) (suc k) d lt = ap (λ (ys : List X). x ∷ ys) (around xs k d (omega (arith, lt)))
 
--- and around one that is set
+-- a list around the element that is set at an index
 pub around_set : {X : Type 0} (xs : List X) (k : ℕ) (y : X) → k < length xs → set xs k y ≡ take k xs ++ y ∷ drop (suc k) xs
 around_set {X = X} [] k y lt = absurd (omega (arith, lt))
 around_set {X = X} (x ∷ xs) zero y lt = refl

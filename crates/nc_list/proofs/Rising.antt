@@ -20,18 +20,18 @@ rises_above from (c ∷ rest) rising = (
       (rises_above (c.base + c.length) rest rising.1),
 )
 
--- the first of them
+-- the first part of a rising list rises
 pub rises_first : (from : ℕ) (xs ys : List Chunk) → IsRising from (xs ++ ys) → IsRising from xs
 rises_first from [] ys rising = tt
 rises_first from (c ∷ xs) ys rising = (rising.0, rises_first (c.base + c.length) xs ys rising.1)
 
--- the others
+-- the rest of a rising list rises
 pub rises_rest : (from : ℕ) (xs ys : List Chunk) → IsRising from (xs ++ ys) → IsRising from ys
 rises_rest from [] ys rising = rising
 rises_rest from (c ∷ xs) ys rising =
     rises_lower from (c.base + c.length) ys (omega (arith, rising.0)) (rises_rest (c.base + c.length) xs ys rising.1)
 
--- those before a chunk end at or below its base
+-- in a rising list the chunks before one end at or below its base
 pub rises_before : (from : ℕ) (xs : List Chunk) (c : Chunk) (ys : List Chunk) → IsRising from (xs ++ c ∷ ys) → IsAboveAll c.base xs
 rises_before from [] c ys rising = tt
 rises_before from (d ∷ xs) c ys rising = (
@@ -39,7 +39,7 @@ rises_before from (d ∷ xs) c ys rising = (
   rises_before (d.base + d.length) xs c ys rising.1,
 )
 
--- those from it on begin at or above its base
+-- in a rising list the chunks from one on begin at or above its base
 pub rises_behind : (from : ℕ) (xs : List Chunk) (c : Chunk) (ys : List Chunk) → IsRising from (xs ++ c ∷ ys)
     → IsBelowAll c.base (c ∷ ys)
 rises_behind from xs c ys rising =
@@ -59,7 +59,7 @@ rises_apart from (c ∷ rest) zero (suc j) d rising before lt =
 rises_apart from (c ∷ rest) (suc i) (suc j) d rising before lt =
     rises_apart (c.base + c.length) rest i j d rising.1 (omega (arith, before)) (omega (arith, lt))
 
--- it begins at or below each one from it on
+-- in a rising list a chunk begins at or below each one from it on
 pub rises_at : (from : ℕ) (chunks : List Chunk) (i j : ℕ) (d : Chunk) → IsRising from chunks → i ≤ j → j < length chunks
     → (get_or chunks i d).base ≤ (get_or chunks j d).base
 rises_at from chunks i j d rising le lt =
@@ -76,12 +76,12 @@ pub meets_none : (base len : ℕ) (chunks : List Chunk) → ¬ Meets base len ch
 meets_none base len [] free = tt
 meets_none base len (d ∷ rest) free = (λ a b. free (inl (a, b)), meets_none base len rest (λ m. free (inr m)))
 
--- a part of such a list
+-- a span that meets the first part of a list meets the list
 pub meets_first : (base len : ℕ) (xs ys : List Chunk) → Meets base len xs → Meets base len (xs ++ ys)
 meets_first base len [] ys m = absurd m
 meets_first base len (d ∷ xs) ys m = elim m [ inl here ↦ inl here | inr later ↦ inr (meets_first base len xs ys later) ]
 
--- another part
+-- a span that meets the rest of a list meets the list
 pub meets_rest : (base len : ℕ) (xs ys : List Chunk) → Meets base len ys → Meets base len (xs ++ ys)
 meets_rest base len [] ys m = m
 meets_rest base len (d ∷ xs) ys m = inr (meets_rest base len xs ys m)

@@ -25,7 +25,7 @@ rise_here parts k lt rising =
     rises_first 0 (get_or parts k []) (all_of (drop (suc k) parts))
     (rises_rest 0 (all_of (take k parts)) (get_or parts k [] ++ all_of (drop (suc k) parts)) (subst (IsRising 0) (all_at parts k lt) rising))
 
--- a free span is free of them
+-- a span that overlaps no chunk of a row overlaps none of a part
 pub free_here : (parts : List (List Chunk)) (k base len : ℕ) → k < length parts → ¬ Meets base len (all_of parts)
     → ¬ Meets base len (get_or parts k [])
 free_here parts k base len lt free = λ m.
@@ -33,7 +33,7 @@ free_here parts k base len lt free = λ m.
     (meets_rest base len (all_of (take k parts)) (get_or parts k [] ++ all_of (drop (suc k) parts))
     (meets_first base len (get_or parts k []) (all_of (drop (suc k) parts)) m)))
 
--- they are no more than all
+-- a part has no more chunks than the row
 pub few_here : (parts : List (List Chunk)) (k : ℕ) → k < length parts → length (get_or parts k []) ≤ length (all_of parts)
 few_here parts k lt =
     omega (
@@ -63,7 +63,7 @@ raised parts starts k new lt are more =
     ∙ (append_assoc before (n ∷ []) (starts_of (n + length new) after)
     ∙ sym (ap (starts_of 0) (around_set parts k new lt) ∙ starts_around (take k parts) new after n count)))))
 
--- where it has fewer
+-- the starts where a part has some chunks fewer
 pub lowered : (parts : List (List Chunk)) (starts : List ℕ) (k by : ℕ) (new : List Chunk) → k < length parts → starts ≡ starts_of 0 parts
     → length (get_or parts k []) ≡ length new + by
     → take (k + 1) starts ++ map (λ (n : ℕ). n - by) (drop (k + 1) starts) ≡ starts_of 0 (set parts k new)
@@ -143,7 +143,7 @@ put_all parts k new base len for free put =
     (put_within (take k parts) (get_or parts k []) new (drop (suc k) parts) base len for.below above
     (λ m. free (subst (λ (z : List (List Chunk)). Meets base len (all_of z)) (sym is) m)) put))
 
--- it is one more
+-- a list with a chunk put in is longer by one
 pub put_long : (old new : List Chunk) (c : Chunk) → IsPut old new c → length new ≡ length old + 1
 put_long old new c put =
     omega (
@@ -154,7 +154,7 @@ put_long old new c put =
       length-append put.before (c ∷ put.after),
     )
 
--- and live
+-- a lower bound of stamps still is one with a live chunk put in
 pub put_since : (old new : List Chunk) (base len oldest : ℕ) → IsPut old new (live base len) → AreSince oldest old → AreSince oldest new
 put_since old new base len oldest put since =
     subst (AreSince oldest) (sym put.now)
@@ -190,7 +190,7 @@ retired_since old new base stamp low oldest so le also since =
     (each_out (λ (d : Chunk). IsSince low d.state) so.before so.after so.chunk (all_below low oldest _ le (subst (AreSince oldest) so.was since)))
     also)
 
--- the base is in the part for it
+-- an element of the first of two lists, by its index in both together
 get_left : (xs ys : List Chunk) (i : ℕ) (d : Chunk) → i < length xs → get_or (xs ++ ys) i d ≡ get_or xs i d
 get_left [] ys i d lt = absurd (omega (arith, lt))
 get_left (x ∷ xs) ys zero d lt = refl

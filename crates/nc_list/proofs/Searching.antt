@@ -32,7 +32,7 @@ part_below parts k first at d rising lt some begins le =
     (subst (IsRising 0) (ap all_of (around parts k d lt) ∙ all_around (take k parts) (get_or parts k d) (drop (suc k) parts)) rising)
     some begins le
 
--- one that begins above it
+-- the chunks of a part that begins above a place, and those behind it, begin above the place
 pub part_above : (parts : List (List Chunk)) (k first at : ℕ) (d : List Chunk) → IsRising 0 (all_of parts) → k < length parts
     → 0 < length (get_or parts k d) → BeginsAt first (get_or parts k d) → at < first → BeginAbove at (all_of (drop k parts))
 part_above parts k first at d rising lt some begins above =

@@ -12,11 +12,11 @@ use Rattle.nc_list.proofs.Pieces.{all_around, all_more, around, around_set, part
 pub freed_append : (least : ℕ) (xs ys : List Chunk) → freed least (xs ++ ys) ≡ freed least xs ++ freed least ys
 freed_append least xs ys = filter-append (λ (c : Chunk). is_due least c.state) xs ys
 
--- the others
+-- the kept chunks of two lists
 pub kept_append : (least : ℕ) (xs ys : List Chunk) → kept least (xs ++ ys) ≡ kept least xs ++ kept least ys
 kept_append least xs ys = filter-append (λ (c : Chunk). not (is_due least c.state)) xs ys
 
--- one chunk of either kind
+-- a chunk that is due is all of its list's due ones
 freed_is : (least : ℕ) (c : Chunk) → is_due least c.state ≡ true → freed least (c ∷ []) ≡ c ∷ []
 freed_is least c is = rw is refl
 
@@ -55,7 +55,7 @@ pub record AreGoneOver (most least : ℕ) (old new taken : List Chunk) : Type 0 
   pub taken_are : taken ≡ freed least front
   pub more : length taken < most → back ≡ []
 
--- those before the first that is due
+-- chunks of which none is due have been gone over, and none is taken
 pub gone_before : (most least : ℕ) (xs : List Chunk) → freed least xs ≡ [] → AreGoneOver most least xs xs []
 gone_before most least xs none = record {
   front = xs;
@@ -66,12 +66,12 @@ gone_before most least xs none = record {
   more = λ lt. refl;
 }
 
--- one more of them
+-- chunks of which none is due have none due with one more that isn't
 pub none_more : (least : ℕ) (xs : List Chunk) (c : Chunk) → freed least xs ≡ [] → is_due least c.state ≡ false → freed least (xs ++ c ∷ []) ≡ []
 none_more least xs c none is =
     freed_append least xs (c ∷ []) ∙ (ap (λ (z : List Chunk). z ++ freed least (c ∷ [])) none ∙ freed_not least c is)
 
--- one more that is taken
+-- chunks are gone over with one more that is taken
 pub gone_taken : (most least : ℕ) (old new taken : List Chunk) (c : Chunk) → is_due least c.state ≡ true → length taken < most
     → AreGoneOver most least old new taken → AreGoneOver most least (old ++ c ∷ []) new (taken ++ c ∷ [])
 gone_taken most least old new taken c is lt so =
@@ -90,7 +90,7 @@ gone_taken most least old new taken c is lt so =
       more = λ lt. refl;
     }
 
--- one more that stays, since it isn't due
+-- chunks are gone over with one more that stays, since it isn't due
 gone_left : (most least : ℕ) (old new taken : List Chunk) (c : Chunk) → is_due least c.state ≡ false → length taken < most
     → AreGoneOver most least old new taken → AreGoneOver most least (old ++ c ∷ []) (new ++ c ∷ []) taken
 gone_left most least old new taken c is lt so =
@@ -109,7 +109,7 @@ gone_left most least old new taken c is lt so =
       more = λ lt. refl;
     }
 
--- one more that stays, since there is no room
+-- chunks are gone over with one more that stays, since there is no room
 gone_full : (most least : ℕ) (old new taken : List Chunk) (c : Chunk) → most ≤ length taken → AreGoneOver most least old new taken
     → AreGoneOver most least (old ++ c ∷ []) (new ++ c ∷ []) taken
 gone_full most least old new taken c full so = record {
@@ -121,7 +121,7 @@ gone_full most least old new taken c full so = record {
   more = λ lt. absurd (omega (arith, lt, full));
 }
 
--- one or the other
+-- chunks are gone over with one more that stays, not due or without room
 pub gone_on : (most least : ℕ) (old new taken : List Chunk) (c : Chunk) → (length taken < most → is_due least c.state ≡ false)
     → AreGoneOver most least old new taken → AreGoneOver most least (old ++ c ∷ []) (new ++ c ∷ []) taken
 gone_on most least old new taken c why so =
@@ -130,7 +130,7 @@ gone_on most least old new taken c why so =
       | inr full ↦ gone_full most least old new taken c full so
     ]
 
--- all
+-- once all chunks are gone over, the due ones of the front have been taken
 pub gone_all : (most least : ℕ) (old new taken : List Chunk) → 0 < most → AreGoneOver most least old new taken → AreTaken least old new taken
 gone_all most least old new taken some so = record {
   front = so.front;
@@ -152,7 +152,7 @@ pub taken_nothing : (least : ℕ) (old new : List Chunk) → AreTaken least old 
 taken_nothing least old new so =
     so.now ∙ (ap (λ (z : List Chunk). z ++ so.back) (all_stay least so.front (sym so.taken_are)) ∙ sym so.was)
 
--- those of one part among others
+-- chunks taken from one part are taken from all chunks
 pub taken_from : (least : ℕ) (old new : List (List Chunk)) (taken : List Chunk) (k : ℕ) → AreTakenFrom least old new taken k
     → AreTaken least (all_of old) (all_of new) taken
 taken_from least old new taken k so =
@@ -198,7 +198,7 @@ taken_at {X = X} f xs olds k p q least taken lt same is took earlier some =
       some = some;
     }
 
--- one more part of which none is due
+-- the parts up to the next one have no due chunk if those before it and it have none
 pub passed_more : (least : ℕ) (parts : List (List Chunk)) (k : ℕ) → k < length parts → freed least (all_of (take k parts)) ≡ []
     → freed least (get_or parts k []) ≡ [] → freed least (all_of (take (k + 1) parts)) ≡ []
 passed_more least parts k lt earlier none =

@@ -67,7 +67,7 @@ is_due least (Retired stamp) = nat_le stamp least
 abbrev pub freed : ℕ → List Chunk → List Chunk
 freed least chunks = filter (λ (c : Chunk). is_due least c.state) chunks
 
--- the other chunks, which stay in the list: the live ones, and the retired ones with a stamp above this number
+-- the chunks that stay in the list: the live ones, and the retired ones with a stamp above this number
 abbrev pub kept : ℕ → List Chunk → List Chunk
 kept least chunks = filter (λ (c : Chunk). not (is_due least c.state)) chunks
 

@@ -42,7 +42,7 @@ starts_of from (p ∷ ps) = from ∷ starts_of (from + length p) ps
 abbrev pub HaveSome : List (List Chunk) → Type 0
 HaveSome parts = 1 < length parts → Each (λ (p : List Chunk). 0 < length p) parts
 
--- so has each but the one at this index
+-- each part but the one at this index has a chunk, unless there is only one part
 abbrev pub OthersHaveSome : List (List Chunk) → ℕ → Type 0
 OthersHaveSome parts k = 1 < length parts
     → Each (λ (p : List Chunk). 0 < length p) (take k parts) × Each (λ (p : List Chunk). 0 < length p) (drop (k + 1) parts)

@@ -10,7 +10,7 @@ abbrev pub IsSince : ℕ → ChunkState → Type 0
 IsSince oldest Live = ⊤
 IsSince oldest (Retired stamp) = oldest ≤ stamp
 
--- each of these chunks is
+-- each of these chunks is live, or retired with a stamp of at least this number
 abbrev pub AreSince : ℕ → List Chunk → Type 0
 AreSince oldest chunks = Each (λ (c : Chunk). IsSince oldest c.state) chunks
 

@@ -1,4 +1,4 @@
-//! How much is written about a source.
+//! How much is written about a source, and in which form.
 
 /// How much is written about a source.
 #[derive(Clone, Copy, Debug, Drop, PartialEq, Eq)]
@@ -13,6 +13,20 @@ pub enum Detail {
     /// As `Usual`; for an accepted source also the addresses outside it that its direct transfers target, with the number of
     /// transfers to each.
     Calls,
-    /// The verdict on each source as a JSON object on one line.
-    Object,
+}
+
+/// The form in which it is written.
+#[derive(Clone, Copy, Debug, Drop, PartialEq, Eq)]
+pub enum Format {
+    /// Lines of text.
+    Text,
+    /// A JSON object on one line.
+    Json,
+}
+
+/// How much is written about a source, and in which form.
+#[derive(Clone, Copy, Debug, Drop, PartialEq, Eq)]
+pub struct Style {
+    pub detail: Detail,
+    pub format: Format,
 }

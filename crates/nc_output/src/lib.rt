@@ -2,7 +2,7 @@
 //!
 //! [`push_fault`] adds a refusal with its line end, [`push_name`] a fault with its address; [`fault_name`] and [`place_of`]
 //! give these two parts. [`write_out`] writes all of the given bytes; a [`Piped`] writer reports whether its reader is gone.
-//! [`Detail`] says how much is written about a file.
+//! [`Style`] says how much is written about a file, and in which form.
 #![tactic(auto)]
 
 mod detail;
@@ -10,7 +10,7 @@ mod piped;
 mod verdict;
 mod writing;
 
-pub use detail::Detail;
+pub use detail::{Detail, Format, Style};
 pub use piped::Piped;
 pub use verdict::{fault_name, place_of, push_address, push_byte, push_fault, push_name};
 pub use writing::{WriteFailed, write_out};

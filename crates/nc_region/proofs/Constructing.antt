@@ -41,7 +41,7 @@ deleted_region old k c =
       logged = old.logged ++ log_of_delete old.marked.marks c.base c.length;
     }
 
--- what the deletion of this chunk leaves
+-- a live chunk's deletion leaves what the specs say (`IsDeleted`)
 abbrev pub deleted_at : (old : Region) (k : ℕ) (c : Chunk) → slice_get old.chunks k ≡ Some c → c.state ≡ Live
     → old.keeper.numbers.generation < 4611686018427387904
     → IsDeleted old (deleted_region old k c) c.base (old.keeper.numbers.generation + 1)
@@ -107,17 +107,17 @@ abbrev pub pages_made : List Bool → ℕ → ℕ → List Bool
 pages_made old at len =
     with_span old ((at - 65536) / 4096) (replicate ((at - 65536 + len - 1) / 4096 + 1 - (at - 65536) / 4096) true)
 
--- their number
+-- the flags for a span's pages are as many as there are pages from its first to its last
 pages_long : (at len : ℕ)
     → length (replicate ((at - 65536 + len - 1) / 4096 + 1 - (at - 65536) / 4096) true) ≡ (at - 65536 + len - 1) / 4096 + 1 - (at - 65536) / 4096
 pages_long at len = length-replicate ((at - 65536 + len - 1) / 4096 + 1 - (at - 65536) / 4096) true
 
--- they are pages of the text
+-- the pages of a span of the region are pages of the text
 pages_fit : (old : List Bool) (at len : ℕ) → 0 < len → at - 65536 + len ≤ 4096 * length old
     → (at - 65536) / 4096 + length (replicate ((at - 65536 + len - 1) / 4096 + 1 - (at - 65536) / 4096) true) ≤ length old
 pages_fit old at len some fits = omega (arith, pages_long at len, some, fits)
 
--- each of them is made
+-- each page that has places of the span is made
 page_in : (old : List Bool) (at len page : ℕ) → 0 < len → at - 65536 + len ≤ 4096 * length old → (at - 65536) / 4096 ≤ page
     → page ≤ (at - 65536 + len - 1) / 4096 → get_or (pages_made old at len) page false ≡ true
 page_in old at len page some fits from to =
@@ -126,7 +126,7 @@ page_in old at len page some fits from to =
     ∙ get_or-replicate ((at - 65536 + len - 1) / 4096 + 1 - (at - 65536) / 4096) (page - (at - 65536) / 4096) true false
     (omega (arith, from, to))
 
--- another page is as it was
+-- a page has places of the span, or is made or not as it was
 page_of : (old : List Bool) (at len page : ℕ) → 0 < len → at - 65536 + len ≤ 4096 * length old
     → (((at - 65536) / 4096 ≤ page) × (page ≤ (at - 65536 + len - 1) / 4096))
     ⊎ (get_or (pages_made old at len) page false ≡ get_or old page false)
@@ -142,7 +142,7 @@ page_of old at len page some fits =
       ]
     ]
 
--- a place of the span on such a page
+-- a page from a span's first to its last has a place of the span
 place_on : (at len page : ℕ) → 65536 ≤ at → 0 < len → (at - 65536) / 4096 ≤ page → page ≤ (at - 65536 + len - 1) / 4096
     → (offset : ℕ) × (offset < len) × ((at + offset - 65536) / 4096 ≡ page)
 place_on at len page low some from to =
@@ -183,7 +183,7 @@ created_region old v k made =
       logged = old.logged ++ log_of_create v.base v.code;
     }
 
--- what the creation of this chunk leaves
+-- a chunk's creation leaves what the specs say (`IsCreated`)
 pub created_at : (old : Region) (v : MarkedChunk) (k : ℕ) (made : List Bool) → FitsAt v.base (length v.code) old.chunks k
     → GetsReady old.made made v.base (length v.code) → IsCreated old (created_region old v k made) v
 created_at old v k made fits gets = record { bytes = refl; marks = refl; chunks = (k, fits, refl); ready = gets; others = refl }

@@ -14,7 +14,7 @@ is_start_true at start = grind (arith, nat_tests)
 pub is_inside_false : (at : ℕ) → IsBundleStart at → is_inside at ≡ false
 is_inside_false at start = grind (arith, nat_tests)
 
--- any other place is
+-- a place that is no bundle start is inside its bundle
 pub is_inside_true : (at : ℕ) → at % 32 ≢ 0 → is_inside at ≡ true
 is_inside_true at not = grind (arith, nat_tests)
 

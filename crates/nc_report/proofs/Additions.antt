@@ -12,7 +12,7 @@ use Rattle.nc_report.specs.Report.{HasWritten, HasBegun}
 use Rattle.nc_report.specs.machinery.Added.{Adds, After, WritesOn}
 
 -- what two lists pass, both together pass
-all_both : {X : Type 0} (p : X → Bool) (a b : List X) → list_all p a ≡ true → list_all p b ≡ true → list_all p (a ++ b) ≡ true
+pub all_both : {X : Type 0} (p : X → Bool) (a b : List X) → list_all p a ≡ true → list_all p b ≡ true → list_all p (a ++ b) ≡ true
 all_both p a b e f = list_all-append p a b ∙ ap (λ (x : Bool). x && list_all p b) e ∙ f
 
 -- text was added twice
@@ -89,6 +89,17 @@ writes_more before mid after old out added new part P Q R f w a p e = record {
   written = Appends-trans before mid after w.part part w.written p;
   kept = append_assoc w.part part new ∙ ap (λ (z : List ℕ). w.part ++ z) (e ∙ a.added)
       ∙ sym (append_assoc w.part out a.text) ∙ ap (λ (z : List ℕ). z ++ a.text) w.kept ∙ append_assoc old w.text a.text;
+}
+
+-- text was added before other text
+pub writes_after : (before after : Option (List ℕ)) (old mid new : List ℕ) (P Q R : List ℕ → Type 0) → ((a b : List ℕ) → P a → Q b → R (a ++ b))
+    → Adds old mid P → WritesOn before after mid new Q → WritesOn before after old new R
+writes_after before after old mid new P Q R f a w = record {
+  text = a.text ++ w.text;
+  says = f a.text w.text a.says w.says;
+  part = w.part;
+  written = w.written;
+  kept = w.kept ∙ ap (λ (z : List ℕ). z ++ w.text) a.added ∙ append_assoc old a.text w.text;
 }
 
 -- what is written so far is a prefix, if the text can be completed
@@ -169,3 +180,21 @@ begun_after before after old P Q f = begun_so (After old P) (After old Q) before
     go whole (text, p, e) =
         let (more, q) = f text p in
         (more, (text ++ more, q, ap (λ (z : List ℕ). z ++ more) e ∙ append_assoc old text more))
+
+-- so it is where the other text has been added to
+pub begun_later : (before after : Option (List ℕ)) (old mid : List ℕ) (P Q R : List ℕ → Type 0)
+    → ((a b : List ℕ) → P a → Q b → (more : List ℕ) × R ((a ++ b) ++ more)) → Adds old mid P → HasBegun (After mid Q) before after
+    → HasBegun (After old R) before after
+begun_later before after old mid P Q R f a = begun_so (After mid Q) (After old R) before after (λ whole h. go whole h)
+  where
+    go : (whole : List ℕ) → After mid Q whole → (more : List ℕ) × After old R (whole ++ more)
+    go whole (text, q, e) =
+        let (more, r) = f a.text text a.says q in (
+          more,
+          (
+            (a.text ++ text) ++ more,
+            r,
+            ap (λ (z : List ℕ). z ++ more) (e ∙ ap (λ (z : List ℕ). z ++ text) a.added ∙ append_assoc old a.text text)
+                ∙ append_assoc old (a.text ++ text) more,
+          ),
+        )

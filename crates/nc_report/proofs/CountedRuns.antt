@@ -1,20 +1,24 @@
 -- Ascending numbers, and how often each occurs.
-use Rattle.std.proofs.Common.{◌≡◌, ◌≢◌, ℕ, ◌+◌, ◌<◌, ◌≤◌, List, [], ◌∷◌, ◌++◌, length, drop, map, replicate, refl, sym, subst, ◌∙◌, ap, arith}
+use Rattle.std.proofs.Common.{◌≡◌, ◌≢◌, ℕ, ◌+◌, ◌<◌, ◌≤◌, List, [], ◌∷◌, ◌++◌, length, drop, replicate, refl, sym, subst, ◌∙◌, ap, arith}
 use Rattle.std.proofs.Common.{append_assoc, append-nil, get_or}
 use Rattle.std.specs.List.{flat_map}
 use Rattle.std.specs.List.Sorted.{IsNonDecreasing, IsPermutation}
-use Rattle.std.proofs.lemmas.List.{take-append-drop, length-drop, get_or-drop, map_push, flat_map_more}
+use Rattle.std.proofs.lemmas.List.{take-append-drop, length-drop, get_or-drop, flat_map_more}
 use Rattle.std.proofs.lemmas.List.Sorted.{IsNonDecreasingBy-drop}
 use Rattle.nc_vet.proofs.Offered.{flat_map-append}
 use Rattle.nc_vet.specs.Chunk.{Piece, code_of, AreSpelled}
-use Rattle.nc_report.specs.Outside.{OutsideRow, AscendFrom, all_sent, row_words, ListsOutside}
-use Rattle.nc_report.specs.Shown.{detail_line}
-use Rattle.nc_report.specs.machinery.Found.{AddsLines}
+use Rattle.std.specs.Prelude.{codes}
+use Rattle.nc_output.specs.declared.detail.Detail.TheVariants.{Calls}
+use Rattle.nc_output.specs.declared.detail.Format.{Format}
+use Rattle.nc_output.specs.declared.detail.Format.TheVariants.{Text, Json}
+use Rattle.nc_report.specs.Outside.{OutsideRow, AscendFrom, all_sent, row_text}
+use Rattle.nc_report.specs.machinery.Found.{AddsRows, AddsCalls}
 use Rattle.nc_report.specs.machinery.Runs.{BeginsWithRun, IsSent, HasCounted, AddsCounts, numbers_of}
+use Rattle.nc_report.proofs.Appended.{three_added}
 
 -- before the first run nothing is written
-pub none_counted : (numbers out : List ℕ) → IsNonDecreasing numbers → HasCounted numbers out out numbers
-none_counted numbers out s = record {
+pub none_counted : (f : Format) (numbers out : List ℕ) → IsNonDecreasing numbers → HasCounted f numbers out out numbers
+none_counted f numbers out s = record {
   rows = [];
   least = 0;
   split = refl;
@@ -35,9 +39,9 @@ above_run rest count k s r lt =
     subst (λ (n : ℕ). get_or rest 0 0 + 1 ≤ n) (sym (get_or-drop count rest k 0)) (omega (arith, first, later, other))
 
 -- one more run is written
-pub count_more : (numbers old out new rest : List ℕ) (count : ℕ) → HasCounted numbers old out rest → BeginsWithRun rest count
-    → new ≡ out ++ detail_line (row_words (record { to = get_or rest 0 0; times = count })) → HasCounted numbers old new (drop count rest)
-count_more numbers old out new rest count h r e =
+pub count_more : (f : Format) (numbers old out new rest : List ℕ) (count : ℕ) → HasCounted f numbers old out rest → BeginsWithRun rest count
+    → new ≡ out ++ row_text f (record { to = get_or rest 0 0; times = count }) → HasCounted f numbers old new (drop count rest)
+count_more f numbers old out new rest count h r e =
     let first = get_or rest 0 0 in
     let row : OutsideRow = record { to = first; times = count } in
     record {
@@ -53,14 +57,12 @@ count_more numbers old out new rest count h r e =
           (h.ascend (row ∷ more) (r.some, h.above 0 (omega (arith, r.some, r.within)), a));
       above = λ k lt. above_run rest count k h.sorted r lt;
       sorted = IsNonDecreasingBy-drop (λ (x : ℕ). x) count rest h.sorted;
-      added = e ∙ ap (λ (z : List ℕ). z ++ detail_line (row_words row)) h.added
-          ∙ flat_map_more detail_line old (map row_words h.rows) (row_words row)
-          ∙ ap (λ (z : List (List ℕ)). old ++ flat_map detail_line z) (sym (map_push row_words h.rows row));
+      added = e ∙ ap (λ (z : List ℕ). z ++ row_text f row) h.added ∙ flat_map_more (row_text f) old h.rows row;
     }
 
 -- where nothing is left, all is written
-pub all_counted : (numbers old new rest : List ℕ) → HasCounted numbers old new rest → rest ≡ [] → AddsCounts numbers old new
-all_counted numbers old new rest h none = record {
+pub all_counted : (f : Format) (numbers old new rest : List ℕ) → HasCounted f numbers old new rest → rest ≡ [] → AddsCounts f numbers old new
+all_counted f numbers old new rest h none = record {
   rows = h.rows;
   ascend = subst (AscendFrom 0) (append-nil h.rows) (h.ascend [] tt);
   all = h.split ∙ ap (λ (z : List ℕ). numbers_of h.rows ++ z) none ∙ append-nil (numbers_of h.rows);
@@ -68,19 +70,31 @@ all_counted numbers old new rest h none = record {
 }
 
 -- what is sent outside was counted, in whatever order it was
-pub lists_outside : (base : ℕ) (code sent numbers old new : List ℕ) → IsSent base code sent → IsPermutation sent numbers → AddsCounts numbers old new
-    → (pieces : List Piece) → AreSpelled pieces → code ≡ code_of pieces → AddsLines old new (ListsOutside base pieces)
-lists_outside base code sent numbers old new is moved counts = λ pieces s parts. record {
-  lines = map row_words counts.rows;
-  says = record {
-    rows = counts.rows;
-    counts = record {
-      ascend = counts.ascend;
-      same = subst (λ (z : List ℕ). IsPermutation z (numbers_of counts.rows))
-          (is pieces s parts ∙ ap (λ (n : ℕ). all_sent base n base pieces) (ap (λ (z : List ℕ). length z) parts))
-          (subst (IsPermutation sent) counts.all moved);
-    };
-    written = refl;
+pub lists_outside : (f : Format) (base : ℕ) (code sent numbers old new : List ℕ) → IsSent base code sent → IsPermutation sent numbers
+    → AddsCounts f numbers old new → (pieces : List Piece) → AreSpelled pieces → code ≡ code_of pieces → AddsRows f old new base pieces
+lists_outside f base code sent numbers old new is moved counts = λ pieces s parts. record {
+  rows = counts.rows;
+  counts = record {
+    ascend = counts.ascend;
+    same = subst (λ (z : List ℕ). IsPermutation z (numbers_of counts.rows))
+        (is pieces s parts ∙ ap (λ (n : ℕ). all_sent base n base pieces) (ap (λ (z : List ℕ). length z) parts))
+        (subst (IsPermutation sent) counts.all moved);
   };
   added = counts.added;
+}
+
+-- as lines they are what is asked for
+pub called_lines : (old new : List ℕ) (base : ℕ) (pieces : List Piece) → AddsRows Text old new base pieces
+    → AddsCalls Calls Text old new base pieces
+called_lines old new base pieces a = record { rows = a.rows; calls = a.counts; added = a.added }
+
+-- and so they are as an array
+pub called_object : (none rows old one two new : List ℕ) (base : ℕ) (pieces : List Piece) → none ≡ [] → AddsRows Json none rows base pieces
+    → one ≡ old ++ codes ",\"calls\":[" → two ≡ one ++ drop 1 rows → new ≡ two ++ codes "]" → AddsCalls Calls Json old new base pieces
+called_object none rows old one two new base pieces e a first middle last = record {
+  rows = a.rows;
+  calls = a.counts;
+  added = three_added old _ _ _ one two new first middle last
+      ∙ ap (λ (z : List ℕ). old ++ (codes ",\"calls\":[" ++ (drop 1 z ++ codes "]")))
+      (a.added ∙ ap (λ (z : List ℕ). z ++ flat_map (row_text Json) a.rows) e);
 }

@@ -1,44 +1,50 @@
 -- The text about the places of a chunk, one place after the other.
-use Rattle.std.proofs.Common.{◌≡◌, ◌≢◌, ℕ, zero, suc, ◌+◌, ◌-◌, ◌≤◌, Bool, cond, eq-eqb, ne_eqb, List, [], ◌∷◌, ◌++◌, length, refl, sym, subst, ◌∙◌, ap}
+use Rattle.std.proofs.Common.{◌≡◌, ℕ, zero, suc, ◌+◌, ◌-◌, ◌≤◌, cond, List, [], ◌∷◌, ◌++◌, length, refl, sym, subst, ◌∙◌, ap}
 use Rattle.std.proofs.Common.{append_assoc, append-nil, Option, arith}
-use Rattle.std.specs.Prelude.{codes}
+use Rattle.std.specs.Prelude.{codes, ◌==◌}
 use Rattle.std.specs.List.{flat_map}
 use Rattle.nc_vet.proofs.Offered.{flat_map-append}
 use Rattle.nc_vet.specs.declared.fault.VetFault.{VetFault}
-use Rattle.nc_output.specs.Verdicts.{fault_words}
+use Rattle.nc_output.specs.declared.detail.Format.{Format}
+use Rattle.nc_output.specs.declared.detail.Format.TheVariants.{Text, Json}
 use Rattle.nc_report.specs.declared.spot.Spot.{Spot}
-use Rattle.nc_report.specs.Shown.{AreDetails, detail_line}
+use Rattle.nc_report.specs.Objects.{NoMembers}
 use Rattle.nc_report.specs.Further.{fault_at, listed, others_at, others_to}
-use Rattle.nc_report.specs.Totals.{counts_to, totals_line}
-use Rattle.nc_report.specs.Report.{TellsEach, TellsOthers}
+use Rattle.nc_report.specs.Totals.{counts_to}
+use Rattle.nc_report.specs.Report.{heading, Shows, ShowsOne, Opens, TellsEach, TellsOthers, counts_text}
+use Rattle.nc_report.specs.machinery.Added.{Adds}
 use Rattle.nc_report.specs.machinery.Seen.{HasSpots}
+use Rattle.nc_report.proofs.ObjectTexts.{TellsObject}
 use Rattle.nc_report.proofs.Additions.{no_details}
 use Rattle.nc_report.proofs.CountedFaults.{range_to}
 
--- the line that names a further fault
-abbrev heading : VetFault → List ℕ
-heading fault = detail_line (codes "also " ++ fault_words fault)
-
 -- text about faults after text about others
-pub each_both : (fs gs : List VetFault) (a b : List ℕ) → TellsEach fs a → TellsEach gs b → TellsEach (fs ++ gs) (a ++ b)
-each_both [] gs a b e h = subst (TellsEach gs) (sym (ap (λ (z : List ℕ). z ++ b) e)) h
-each_both (f ∷ fs) gs a b (words, rest, d, t, is) h = (
+pub each_both : (f : Format) (fs gs : List VetFault) (a b : List ℕ) → TellsEach f fs a → TellsEach f gs b → TellsEach f (fs ++ gs) (a ++ b)
+each_both f [] gs a b e h = subst (TellsEach f gs) (sym (ap (λ (z : List ℕ). z ++ b) e)) h
+each_both f (fault ∷ fs) gs a b (words, rest, d, t, is) h = (
   words,
   rest ++ b,
   d,
-  each_both fs gs rest b t h,
-  ap (λ (z : List ℕ). z ++ b) is ∙ append_assoc (heading f) (words ++ rest) b
-      ∙ ap (λ (z : List ℕ). heading f ++ z) (append_assoc words rest b),
+  each_both f fs gs rest b t h,
+  ap (λ (z : List ℕ). z ++ b) is ∙ append_assoc (heading f fault) (words ++ rest) b
+      ∙ ap (λ (z : List ℕ). heading f fault ++ z) (append_assoc words rest b),
 )
 
 -- text about one fault
-pub each_one : (fault : VetFault) (words : List ℕ) → AreDetails words → TellsEach (fault ∷ []) (heading fault ++ words)
-each_one fault words d = (words, [], d, refl, ap (λ (z : List ℕ). heading fault ++ z) (sym (append-nil words)))
+pub each_one : (f : Format) (fault : VetFault) (words : List ℕ) → ShowsOne f words → TellsEach f (fault ∷ []) (heading f fault ++ words)
+each_one f fault words d = (words, [], d, refl, ap (λ (z : List ℕ). heading f fault ++ z) (sym (append-nil words)))
+
+-- something is shown about any fault
+some_shown : (f : Format) → (text : List ℕ) × ShowsOne f text
+some_shown Text = ([], no_details)
+some_shown Json = (codes "}", ([], NoMembers, refl))
 
 -- there is text about any faults
-each_some : (fs : List VetFault) → (text : List ℕ) × TellsEach fs text
-each_some [] = ([], refl)
-each_some (f ∷ fs) = let (rest, t) = each_some fs in (heading f ++ ([] ++ rest), ([], rest, no_details, t, refl))
+each_some : (f : Format) (fs : List VetFault) → (text : List ℕ) × TellsEach f fs text
+each_some f [] = ([], refl)
+each_some f (fault ∷ fs) =
+    let (words, shown) = some_shown f in
+    let (rest, t) = each_some f fs in (heading f fault ++ (words ++ rest), (words, rest, shown, t, refl))
 
 -- the faults at one place more
 pub others_more : (base limit : ℕ) (code : List ℕ) (spots : List Spot) (own k : ℕ)
@@ -63,63 +69,83 @@ others_from base limit code spots own k (suc n) =
     )
 
 -- text about the first places can be completed
-pub completed : (base limit : ℕ) (code : List ℕ) (spots : List Spot) (own k n : ℕ) → k ≤ n → (text : List ℕ)
-    → TellsEach (others_to base limit code spots own k) text
-    → (more : List ℕ) × TellsEach (others_to base limit code spots own n) (text ++ more)
-completed base limit code spots own k n le text h =
+pub completed : (f : Format) (base limit : ℕ) (code : List ℕ) (spots : List Spot) (own k n : ℕ) → k ≤ n → (text : List ℕ)
+    → TellsEach f (others_to base limit code spots own k) text
+    → (more : List ℕ) × TellsEach f (others_to base limit code spots own n) (text ++ more)
+completed f base limit code spots own k n le text h =
     let (gs, e) = others_from base limit code spots own k (n - k) in
-    let (more, t) = each_some gs in
+    let (more, t) = each_some f gs in
     let same : k + (n - k) ≡ n = omega (arith, le) in (
       more,
-      subst (λ (m : ℕ). TellsEach (others_to base limit code spots own m) (text ++ more)) same
-          (subst (λ (fs : List VetFault). TellsEach fs (text ++ more)) (sym e)
-          (each_both (others_to base limit code spots own k) gs text more h t)),
+      subst (λ (m : ℕ). TellsEach f (others_to base limit code spots own m) (text ++ more)) same
+          (subst (λ (fs : List VetFault). TellsEach f fs (text ++ more)) (sym e)
+          (each_both f (others_to base limit code spots own k) gs text more h t)),
     )
 
 -- with the text about one place more
-pub told_more : (base limit : ℕ) (code : List ℕ) (spots : List Spot) (own k : ℕ) (a b : List ℕ)
-    → TellsEach (others_to base limit code spots own k) a → TellsEach (others_at base limit code spots own k) b
-    → TellsEach (others_to base limit code spots own (k + 1)) (a ++ b)
-told_more base limit code spots own k a b t u =
-    subst (λ (fs : List VetFault). TellsEach fs (a ++ b)) (sym (others_more base limit code spots own k))
-    (each_both (others_to base limit code spots own k) (others_at base limit code spots own k) a b t u)
+pub told_more : (f : Format) (base limit : ℕ) (code : List ℕ) (spots : List Spot) (own k : ℕ) (a b : List ℕ)
+    → TellsEach f (others_to base limit code spots own k) a → TellsEach f (others_at base limit code spots own k) b
+    → TellsEach f (others_to base limit code spots own (k + 1)) (a ++ b)
+told_more f base limit code spots own k a b t u =
+    subst (λ (fs : List VetFault). TellsEach f fs (a ++ b)) (sym (others_more base limit code spots own k))
+    (each_both f (others_to base limit code spots own k) (others_at base limit code spots own k) a b t u)
 
--- at the chunk's own fault there is none
-pub none_at_own : (base limit : ℕ) (code : List ℕ) (spots : List Spot) (own k : ℕ) → k ≡ own
-    → TellsEach (others_at base limit code spots own k) []
-none_at_own base limit code spots own k e =
-    subst (λ (b : Bool). TellsEach (cond b [] (listed (fault_at base limit code spots k))) []) (sym (eq-eqb k own e)) refl
+-- the text about a place is that about the fault there, if it isn't the chunk's own
+told_at : (f : Format) (base limit : ℕ) (code : List ℕ) (spots : List Spot) (own k : ℕ) (found other : Option VetFault) (text : List ℕ)
+    → found ≡ fault_at base limit code spots k → listed other ≡ cond (k == own) [] (listed found) → TellsEach f (listed other) text
+    → TellsEach f (others_at base limit code spots own k) text
+told_at f base limit code spots own k found other text is only t =
+    subst (λ (fs : List VetFault). TellsEach f fs text)
+    (only ∙ ap (λ (x : Option VetFault). cond (k == own) [] (listed x)) is) t
 
--- elsewhere the text is that about the fault there
-pub told_elsewhere : (base limit : ℕ) (code : List ℕ) (spots : List Spot) (own k : ℕ) (found : Option VetFault) (text : List ℕ) → k ≢ own
-    → found ≡ fault_at base limit code spots k → TellsEach (listed found) text → TellsEach (others_at base limit code spots own k) text
-told_elsewhere base limit code spots own k found text other is h =
-    subst (λ (b : Bool). TellsEach (cond b [] (listed (fault_at base limit code spots k))) text) (sym (ne_eqb k own other))
-    (subst (λ (x : Option VetFault). TellsEach (listed x) text) is h)
+pub told_there : (f : Format) (base limit : ℕ) (code : List ℕ) (spots : List Spot) (own k : ℕ) (found other : Option VetFault) (out new : List ℕ)
+    → found ≡ fault_at base limit code spots k → listed other ≡ cond (k == own) [] (listed found) → Adds out new (TellsEach f (listed other))
+    → Adds out new (TellsEach f (others_at base limit code spots own k))
+told_there f base limit code spots own k found other out new is only a =
+    record { text = a.text; says = told_at f base limit code spots own k found other a.text is only a.says; added = a.added }
 
--- the line of totals, and lines after it
-abbrev pub TellsLast : ℕ → ℕ → List ℕ → List Spot → List ℕ → Type 0
-TellsLast base limit code spots text =
-    (last : List ℕ) × AreDetails last × (text ≡ detail_line (totals_line (counts_to base limit code spots (length code))) ++ last)
+-- a further fault as an object
+pub also_object : (old new : List ℕ) (fault : VetFault) → Adds old new (TellsObject (codes ",") fault) → Adds old new (TellsEach Json (fault ∷ []))
+also_object old new fault a =
+    let (words, shown, e) = a.says in
+    record { text = a.text; says = subst (TellsEach Json (fault ∷ [])) (sym e) (each_one Json fault words shown); added = a.added }
 
--- with them all is told
-pub others_told : (limit base : ℕ) (code : List ℕ) (spots : List Spot) (own : ℕ) → HasSpots code spots → (a b : List ℕ)
-    → TellsEach (others_to base limit code spots own (length code)) a → TellsLast base limit code spots b
-    → TellsOthers limit base code own (a ++ b)
-others_told limit base code spots own h a b t (last, d, e) = record {
+-- the numbers, and what is shown after them
+abbrev pub TellsLast : Format → ℕ → ℕ → List ℕ → List Spot → List ℕ → Type 0
+TellsLast f base limit code spots text =
+    (last : List ℕ) × Shows f last × (text ≡ counts_text f (counts_to base limit code spots (length code)) ++ last)
+
+-- the beginning, and the text about each fault
+abbrev pub TellsFirst : Format → ℕ → ℕ → List ℕ → List Spot → VetFault → ℕ → List ℕ → Type 0
+TellsFirst f base limit code spots fault own text =
+    (first each : List ℕ) × Opens f fault first × TellsEach f (others_to base limit code spots own (length code)) each × (text ≡ first ++ each)
+
+-- together all is told
+pub others_told : (f : Format) (limit base : ℕ) (code : List ℕ) (spots : List Spot) (fault : VetFault) (own : ℕ) → HasSpots code spots
+    → (a b : List ℕ) → TellsFirst f base limit code spots fault own a → TellsLast f base limit code spots b
+    → TellsOthers f limit base code fault own (a ++ b)
+others_told f limit base code spots fault own h a b (first, each, o, t, is) (last, d, e) = record {
   steps = h.steps;
   reading = h.reading;
-  each = a;
-  tells = subst (λ (z : List Spot). TellsEach (others_to base limit code z own (length code)) a) h.is t;
+  first = first;
+  opens = o;
+  each = each;
+  tells = subst (λ (z : List Spot). TellsEach f (others_to base limit code z own (length code)) each) h.is t;
   last = last;
-  details = d;
-  is = ap (λ (z : List ℕ). a ++ z) (e
-      ∙ ap (λ (z : List Spot). detail_line (totals_line (counts_to base limit code z (length code))) ++ last) h.is);
+  shown = d;
+  is = ap (λ (z : List ℕ). z ++ b) is ∙ append_assoc first each b
+      ∙ ap (λ (z : List ℕ). first ++ (each ++ z)) (e
+      ∙ ap (λ (z : List Spot). counts_text f (counts_to base limit code z (length code)) ++ last) h.is);
 }
 
+-- something is shown after the numbers, if only nothing
+pub none_shown : (f : Format) → Shows f []
+none_shown Text = no_details
+none_shown Json = NoMembers
+
 -- so the text about all places can be completed
-pub others_completed : (limit base : ℕ) (code : List ℕ) (spots : List Spot) (own : ℕ) → HasSpots code spots → (a : List ℕ)
-    → TellsEach (others_to base limit code spots own (length code)) a → (more : List ℕ) × TellsOthers limit base code own (a ++ more)
-others_completed limit base code spots own h a t =
-    let last = detail_line (totals_line (counts_to base limit code spots (length code))) ++ [] in
-    (last, others_told limit base code spots own h a last t ([], no_details, refl))
+pub others_completed : (f : Format) (limit base : ℕ) (code : List ℕ) (spots : List Spot) (fault : VetFault) (own : ℕ) → HasSpots code spots
+    → (a : List ℕ) → TellsFirst f base limit code spots fault own a → (more : List ℕ) × TellsOthers f limit base code fault own (a ++ more)
+others_completed f limit base code spots fault own h a t =
+    let last = counts_text f (counts_to base limit code spots (length code)) ++ [] in
+    (last, others_told f limit base code spots fault own h a last t ([], none_shown f, refl))

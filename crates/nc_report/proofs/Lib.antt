@@ -6,6 +6,7 @@ mod FurtherTexts
 mod Counted
 mod SentOutside
 mod ObjectTexts
+mod JsonShown
 mod CountedRuns
 mod Appended
 mod BitCounts

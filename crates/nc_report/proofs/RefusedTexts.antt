@@ -7,62 +7,79 @@ use Rattle.nc_vet.specs.declared.fault.VetFault.{VetFault}
 use Rattle.nc_vet.specs.declared.fault.VetFault.TheVariants.{OutOfMemory}
 use Rattle.nc_output.specs.Verdicts.{place_of}
 use Rattle.nc_output.specs.declared.detail.Detail.{Detail}
-use Rattle.nc_output.specs.declared.detail.Detail.TheVariants.{Brief, Usual, Calls, Object}
+use Rattle.nc_output.specs.declared.detail.Detail.TheVariants.{Brief, Usual, Calls}
 use Rattle.nc_output.specs.declared.detail.Detail.TheVariants as detail
-use Rattle.nc_report.specs.Shown.{AreDetails}
-use Rattle.nc_report.specs.Report.{refused_line, TellsFault, TellsOthers, TellsMore, end_of, TellsRefused, Tells, HasWritten, HasBegun}
+use Rattle.nc_output.specs.declared.detail.Format.{Format}
+use Rattle.nc_output.specs.declared.detail.Style.{Style}
+use Rattle.nc_report.specs.Report.{refused_text, Shows, TellsFault, TellsOthers, TellsMore, end_of, TellsRefused, Tells, HasWritten, HasBegun}
 use Rattle.nc_report.specs.machinery.Added.{Adds, After, WritesOn}
 use Rattle.nc_report.proofs.Additions.{writes_more, cut_here, cut_in, begun_so, begun_after}
 
--- the verdict and what is shown about the fault were added as lines
-pub explained : (old mid new : List ℕ) (d : Detail) (base : ℕ) (name : List ℕ) (fault : VetFault) → d ≢ Object
-    → mid ≡ old ++ refused_line name fault → Adds mid new AreDetails → Adds old new (TellsFault d base name fault)
-explained old mid new d base name fault other e a = record {
-  text = refused_line name fault ++ a.text;
-  says = says d other;
-  added = a.added ∙ ap (λ (z : List ℕ). z ++ a.text) e ∙ append_assoc old (refused_line name fault) a.text;
+-- the verdict and what is shown about the fault were added
+pub explained : (old mid new : List ℕ) (s : Style) (base : ℕ) (name : List ℕ) (fault : VetFault) → s.detail ≢ Brief
+    → mid ≡ old ++ refused_text s.format base name fault → Adds mid new (Shows s.format)
+    → Adds old new (TellsFault s.detail s.format base name fault)
+explained old mid new s base name fault long e a = record {
+  text = refused_text s.format base name fault ++ a.text;
+  says = says s.detail long;
+  added = a.added ∙ ap (λ (z : List ℕ). z ++ a.text) e ∙ append_assoc old (refused_text s.format base name fault) a.text;
 }
   where
-    says : (x : Detail) → x ≢ Object → TellsFault x base name fault (refused_line name fault ++ a.text)
-    says Brief o = (a.text, a.says, refl)
-    says Usual o = (a.text, a.says, refl)
-    says Calls o = (a.text, a.says, refl)
-    says detail.All o = (a.text, a.says, refl)
-    says Object o = absurd (o refl)
+    says : (d : Detail) → d ≢ Brief → TellsFault d s.format base name fault (refused_text s.format base name fault ++ a.text)
+    says Brief n = absurd (n refl)
+    says Usual n = (a.text, a.says, refl)
+    says Calls n = (a.text, a.says, refl)
+    says detail.All n = (a.text, a.says, refl)
+
+-- in brief the verdict alone was added
+pub brief : (old new : List ℕ) (s : Style) (base : ℕ) (name : List ℕ) (fault : VetFault) → s.detail ≡ Brief
+    → new ≡ old ++ refused_text s.format base name fault → Adds old new (TellsFault s.detail s.format base name fault)
+brief old new s base name fault is e = record {
+  text = refused_text s.format base name fault;
+  says = subst (λ (d : Detail). TellsFault d s.format base name fault (refused_text s.format base name fault)) (sym is) refl;
+  added = e;
+}
 
 -- nothing more is told unless it is asked for
-pub none_asked : (d : Detail) (limit base : ℕ) (code : List ℕ) (fault : VetFault) → d ≢ detail.All → TellsMore d limit base code fault []
-none_asked Brief limit base code fault n = refl
-none_asked Usual limit base code fault n = refl
-none_asked Calls limit base code fault n = refl
-none_asked Object limit base code fault n = refl
-none_asked detail.All limit base code fault n = absurd (n refl)
+pub none_asked : (s : Style) (limit base : ℕ) (code : List ℕ) (fault : VetFault) → s.detail ≢ detail.All
+    → TellsMore s.detail s.format limit base code fault []
+none_asked s limit base code fault other = none s.detail other
+  where
+    none : (d : Detail) → d ≢ detail.All → TellsMore d s.format limit base code fault []
+    none Brief n = refl
+    none Usual n = refl
+    none Calls n = refl
+    none detail.All n = absurd (n refl)
 
 -- what is told where a fault has this address or none
-abbrev TellsAt : ℕ → ℕ → List ℕ → List ℕ → Option ℕ → Type 0
-TellsAt limit base code text at = MatchOption at (text ≡ []) (λ at. TellsOthers limit base code (at - base) text)
+abbrev TellsAt : Format → ℕ → ℕ → List ℕ → VetFault → List ℕ → Option ℕ → Type 0
+TellsAt format limit base code fault text at =
+    MatchOption at (text ≡ []) (λ at. TellsOthers format limit base code fault (at - base) text)
 
 -- nothing more is told about a fault without an address
-pub none_placed : (d : Detail) (limit base : ℕ) (code : List ℕ) (fault : VetFault) → d ≡ detail.All → place_of fault ≡ None
-    → TellsMore d limit base code fault []
-none_placed d limit base code fault is e =
-    subst (λ (x : Detail). TellsMore x limit base code fault []) (sym is) (subst (TellsAt limit base code []) (sym e) refl)
+pub none_placed : (s : Style) (limit base : ℕ) (code : List ℕ) (fault : VetFault) → s.detail ≡ detail.All → place_of fault ≡ None
+    → TellsMore s.detail s.format limit base code fault []
+none_placed s limit base code fault is e =
+    subst (λ (d : Detail). TellsMore d s.format limit base code fault []) (sym is)
+    (subst (TellsAt s.format limit base code fault []) (sym e) refl)
 
 -- the other faults are told about one with an address
-pub others_told : (d : Detail) (limit base at : ℕ) (code : List ℕ) (fault : VetFault) (text : List ℕ) → d ≡ detail.All → place_of fault ≡ Some at
-    → TellsOthers limit base code (at - base) text → TellsMore d limit base code fault text
-others_told d limit base at code fault text is e h =
-    subst (λ (x : Detail). TellsMore x limit base code fault text) (sym is) (subst (TellsAt limit base code text) (sym e) h)
+pub others_told : (s : Style) (limit base at : ℕ) (code : List ℕ) (fault : VetFault) (text : List ℕ) → s.detail ≡ detail.All
+    → place_of fault ≡ Some at → TellsOthers s.format limit base code fault (at - base) text
+    → TellsMore s.detail s.format limit base code fault text
+others_told s limit base at code fault text is e h =
+    subst (λ (d : Detail). TellsMore d s.format limit base code fault text) (sym is)
+    (subst (TellsAt s.format limit base code fault text) (sym e) h)
 
 -- more text, and the end
-abbrev TellsRest : ℕ → ℕ → Detail → List ℕ → VetFault → List ℕ → Type 0
-TellsRest limit base d code fault rest = (more : List ℕ) × TellsMore d limit base code fault more × (rest ≡ more ++ end_of d)
+abbrev TellsRest : ℕ → ℕ → Style → List ℕ → VetFault → List ℕ → Type 0
+TellsRest limit base s code fault rest = (more : List ℕ) × TellsMore s.detail s.format limit base code fault more × (rest ≡ more ++ end_of s.format)
 
 -- with them the text is whole
-refused : (limit base : ℕ) (d : Detail) (name code old out : List ℕ) (fault : VetFault) → HasFault base limit code fault → old ≡ []
-    → (fault ≢ OutOfMemory) × Adds old out (TellsFault d base name fault) → (rest : List ℕ) → TellsRest limit base d code fault rest
-    → TellsRefused limit base d name code (out ++ rest)
-refused limit base d name code old out fault h none f rest (more, m, e) = record {
+refused : (limit base : ℕ) (s : Style) (name code old out : List ℕ) (fault : VetFault) → HasFault base limit code fault → old ≡ []
+    → (fault ≢ OutOfMemory) × Adds old out (TellsFault s.detail s.format base name fault) → (rest : List ℕ) → TellsRest limit base s code fault rest
+    → TellsRefused limit base s name code (out ++ rest)
+refused limit base s name code old out fault h none f rest (more, m, e) = record {
   fault = fault;
   has = h;
   real = f.0;
@@ -71,93 +88,93 @@ refused limit base d name code old out fault h none f rest (more, m, e) = record
   more = more;
   others = m;
   written = ap (λ (z : List ℕ). out ++ z) e
-      ∙ ap (λ (z : List ℕ). z ++ (more ++ end_of d)) (f.1.added ∙ ap (λ (z : List ℕ). z ++ f.1.text) none);
+      ∙ ap (λ (z : List ℕ). z ++ (more ++ end_of s.format)) (f.1.added ∙ ap (λ (z : List ℕ). z ++ f.1.text) none);
 }
 
 -- the whole text after that on the fault
-abbrev TellsFrom : ℕ → ℕ → Detail → List ℕ → List ℕ → List ℕ → List ℕ → Type 0
-TellsFrom limit base d name code out rest = TellsRefused limit base d name code (out ++ rest)
+abbrev TellsFrom : ℕ → ℕ → Style → List ℕ → List ℕ → List ℕ → List ℕ → Type 0
+TellsFrom limit base s name code out rest = TellsRefused limit base s name code (out ++ rest)
 
 -- a text after the text on the fault is whole where it was written after it
-whole : (limit base : ℕ) (d : Detail) (name code out : List ℕ) (text : List ℕ) → After out (TellsFrom limit base d name code out) text
-    → (more : List ℕ) × TellsRefused limit base d name code (text ++ more)
-whole limit base d name code out text (rest, t, e) =
-    ([], subst (TellsRefused limit base d name code) (sym (append-nil text ∙ e)) t)
+whole : (limit base : ℕ) (s : Style) (name code out : List ℕ) (text : List ℕ) → After out (TellsFrom limit base s name code out) text
+    → (more : List ℕ) × TellsRefused limit base s name code (text ++ more)
+whole limit base s name code out text (rest, t, e) =
+    ([], subst (TellsRefused limit base s name code) (sym (append-nil text ∙ e)) t)
 
 -- the text on the other faults is completed by the end
-ended : (limit base : ℕ) (d : Detail) (name code old out : List ℕ) (fault : VetFault) → HasFault base limit code fault → old ≡ []
-    → (fault ≢ OutOfMemory) × Adds old out (TellsFault d base name fault) → (a b : List ℕ) → TellsMore d limit base code fault a → b ≡ end_of d
-    → TellsFrom limit base d name code out (a ++ b)
-ended limit base d name code old out fault h none f a b m e =
-    refused limit base d name code old out fault h none f (a ++ b) (a, m, ap (λ (z : List ℕ). a ++ z) e)
+ended : (limit base : ℕ) (s : Style) (name code old out : List ℕ) (fault : VetFault) → HasFault base limit code fault → old ≡ []
+    → (fault ≢ OutOfMemory) × Adds old out (TellsFault s.detail s.format base name fault) → (a b : List ℕ) → TellsMore s.detail s.format limit base code fault a → b ≡ end_of s.format
+    → TellsFrom limit base s name code out (a ++ b)
+ended limit base s name code old out fault h none f a b m e =
+    refused limit base s name code old out fault h none f (a ++ b) (a, m, ap (λ (z : List ℕ). a ++ z) e)
 
 -- a prefix was written before the other faults were told
-pub more_begun : (limit base : ℕ) (d : Detail) (name code old out : List ℕ) (fault : VetFault) → HasFault base limit code fault → old ≡ []
-    → (fault ≢ OutOfMemory) × Adds old out (TellsFault d base name fault) → (before after : Option (List ℕ))
-    → HasBegun (After out (TellsMore d limit base code fault)) before after → HasBegun (TellsRefused limit base d name code) before after
-more_begun limit base d name code old out fault h none f before after b =
-    begun_so (After out (TellsFrom limit base d name code out)) (TellsRefused limit base d name code) before after
-    (whole limit base d name code out)
-    (begun_after before after out (TellsMore d limit base code fault) (TellsFrom limit base d name code out)
-    (λ text m. (end_of d, ended limit base d name code old out fault h none f text (end_of d) m refl)) b)
+pub more_begun : (limit base : ℕ) (s : Style) (name code old out : List ℕ) (fault : VetFault) → HasFault base limit code fault → old ≡ []
+    → (fault ≢ OutOfMemory) × Adds old out (TellsFault s.detail s.format base name fault) → (before after : Option (List ℕ))
+    → HasBegun (After out (TellsMore s.detail s.format limit base code fault)) before after → HasBegun (TellsRefused limit base s name code) before after
+more_begun limit base s name code old out fault h none f before after b =
+    begun_so (After out (TellsFrom limit base s name code out)) (TellsRefused limit base s name code) before after
+    (whole limit base s name code out)
+    (begun_after before after out (TellsMore s.detail s.format limit base code fault) (TellsFrom limit base s name code out)
+    (λ text m. (end_of s.format, ended limit base s name code old out fault h none f text (end_of s.format) m refl)) b)
 
 -- or afterwards
-pub refused_begun : (limit base : ℕ) (d : Detail) (name code old out kept : List ℕ) (fault : VetFault) → HasFault base limit code fault → old ≡ []
-    → (fault ≢ OutOfMemory) × Adds old out (TellsFault d base name fault) → (before after : Option (List ℕ))
-    → WritesOn before after out kept (TellsMore d limit base code fault) → HasBegun (TellsRefused limit base d name code) before after
-refused_begun limit base d name code old out kept fault h none f before after w =
-    begun_so (After out (TellsFrom limit base d name code out)) (TellsRefused limit base d name code) before after
-    (whole limit base d name code out)
-    (cut_here before after out kept (TellsMore d limit base code fault) (TellsFrom limit base d name code out)
-    (λ text m. (end_of d, ended limit base d name code old out fault h none f text (end_of d) m refl)) w)
+pub refused_begun : (limit base : ℕ) (s : Style) (name code old out kept : List ℕ) (fault : VetFault) → HasFault base limit code fault → old ≡ []
+    → (fault ≢ OutOfMemory) × Adds old out (TellsFault s.detail s.format base name fault) → (before after : Option (List ℕ))
+    → WritesOn before after out kept (TellsMore s.detail s.format limit base code fault) → HasBegun (TellsRefused limit base s name code) before after
+refused_begun limit base s name code old out kept fault h none f before after w =
+    begun_so (After out (TellsFrom limit base s name code out)) (TellsRefused limit base s name code) before after
+    (whole limit base s name code out)
+    (cut_here before after out kept (TellsMore s.detail s.format limit base code fault) (TellsFrom limit base s name code out)
+    (λ text m. (end_of s.format, ended limit base s name code old out fault h none f text (end_of s.format) m refl)) w)
 
 -- the end was added
-end_added : (d : Detail) (kept all : List ℕ) → all ≡ kept ++ end_of d → Adds kept all (λ text. text ≡ end_of d)
-end_added d kept all e = record { text = end_of d; says = refl; added = e }
+end_added : (s : Style) (kept all : List ℕ) → all ≡ kept ++ end_of s.format → Adds kept all (λ text. text ≡ end_of s.format)
+end_added s kept all e = record { text = end_of s.format; says = refl; added = e }
 
 -- all was written
-pub refused_written : (limit base : ℕ) (d : Detail) (name code old out kept all : List ℕ) (fault : VetFault) → HasFault base limit code fault
-    → old ≡ [] → (fault ≢ OutOfMemory) × Adds old out (TellsFault d base name fault) → (before mid after : Option (List ℕ))
-    → WritesOn before mid out kept (TellsMore d limit base code fault) → all ≡ kept ++ end_of d → Appends mid after all
-    → HasWritten (TellsRefused limit base d name code) before after
-refused_written limit base d name code old out kept all fault h none f before mid after w e p =
-    let v = writes_more before mid after out kept all [] all (TellsMore d limit base code fault) (λ text. text ≡ end_of d)
-    (TellsFrom limit base d name code out) (ended limit base d name code old out fault h none f) w (end_added d kept all e) p (append-nil all) in
+pub refused_written : (limit base : ℕ) (s : Style) (name code old out kept all : List ℕ) (fault : VetFault) → HasFault base limit code fault
+    → old ≡ [] → (fault ≢ OutOfMemory) × Adds old out (TellsFault s.detail s.format base name fault) → (before mid after : Option (List ℕ))
+    → WritesOn before mid out kept (TellsMore s.detail s.format limit base code fault) → all ≡ kept ++ end_of s.format → Appends mid after all
+    → HasWritten (TellsRefused limit base s name code) before after
+refused_written limit base s name code old out kept all fault h none f before mid after w e p =
+    let v = writes_more before mid after out kept all [] all (TellsMore s.detail s.format limit base code fault) (λ text. text ≡ end_of s.format)
+    (TellsFrom limit base s name code out) (ended limit base s name code old out fault h none f) w (end_added s kept all e) p (append-nil all) in
     record {
       text = v.part;
-      says = subst (TellsRefused limit base d name code) (sym (sym (append-nil v.part) ∙ v.kept)) v.says;
+      says = subst (TellsRefused limit base s name code) (sym (sym (append-nil v.part) ∙ v.kept)) v.says;
       written = v.written;
     }
 
 -- or a prefix of it
-pub refused_cut : (limit base : ℕ) (d : Detail) (name code old out kept all : List ℕ) (fault : VetFault) → HasFault base limit code fault
-    → old ≡ [] → (fault ≢ OutOfMemory) × Adds old out (TellsFault d base name fault) → (before mid after : Option (List ℕ)) (n : ℕ)
-    → WritesOn before mid out kept (TellsMore d limit base code fault) → all ≡ kept ++ end_of d → Appends mid after (take n all)
-    → HasBegun (TellsRefused limit base d name code) before after
-refused_cut limit base d name code old out kept all fault h none f before mid after n w e p =
-    begun_so (After out (TellsFrom limit base d name code out)) (TellsRefused limit base d name code) before after
-    (whole limit base d name code out)
-    (cut_in before mid after out kept all n (TellsMore d limit base code fault) (λ text. text ≡ end_of d) (TellsFrom limit base d name code out)
+pub refused_cut : (limit base : ℕ) (s : Style) (name code old out kept all : List ℕ) (fault : VetFault) → HasFault base limit code fault
+    → old ≡ [] → (fault ≢ OutOfMemory) × Adds old out (TellsFault s.detail s.format base name fault) → (before mid after : Option (List ℕ)) (n : ℕ)
+    → WritesOn before mid out kept (TellsMore s.detail s.format limit base code fault) → all ≡ kept ++ end_of s.format → Appends mid after (take n all)
+    → HasBegun (TellsRefused limit base s name code) before after
+refused_cut limit base s name code old out kept all fault h none f before mid after n w e p =
+    begun_so (After out (TellsFrom limit base s name code out)) (TellsRefused limit base s name code) before after
+    (whole limit base s name code out)
+    (cut_in before mid after out kept all n (TellsMore s.detail s.format limit base code fault) (λ text. text ≡ end_of s.format) (TellsFrom limit base s name code out)
     (λ a b m i. (
       [],
-      subst (TellsFrom limit base d name code out) (sym (append-nil (a ++ b)))
-          (ended limit base d name code old out fault h none f a b m i),
-    )) w (end_added d kept all e) p)
+      subst (TellsFrom limit base s name code out) (sym (append-nil (a ++ b)))
+          (ended limit base s name code old out fault h none f a b m i),
+    )) w (end_added s kept all e) p)
 
 -- a prefix of the report on a refused source is one of a report
-pub any_refused : (limit base : ℕ) (d : Detail) (name code : List ℕ) {n k : List ℕ} (before after : Option (List ℕ)) → n ≡ name → k ≡ code
-    → HasBegun (TellsRefused limit base d n k) before after
-    → HasBegun (λ text. (refused : Bool) × Tells limit base d name code refused text) before after
-any_refused limit base d name code {n} {k} before after e f =
-    begun_so (TellsRefused limit base d n k) (λ text. (refused : Bool) × Tells limit base d name code refused text) before after
+pub any_refused : (limit base : ℕ) (s : Style) (name code : List ℕ) {n k : List ℕ} (before after : Option (List ℕ)) → n ≡ name → k ≡ code
+    → HasBegun (TellsRefused limit base s n k) before after
+    → HasBegun (λ text. (refused : Bool) × Tells limit base s name code refused text) before after
+any_refused limit base s name code {n} {k} before after e f =
+    begun_so (TellsRefused limit base s n k) (λ text. (refused : Bool) × Tells limit base s name code refused text) before after
     (λ text t. (
       [],
       (
         true,
         inr (
           refl,
-          subst (λ (z : List ℕ). TellsRefused limit base d name code z) (sym (append-nil text))
-              (subst (λ (z : List ℕ). TellsRefused limit base d name z text) f (subst (λ (z : List ℕ). TellsRefused limit base d z k text) e t)),
+          subst (λ (z : List ℕ). TellsRefused limit base s name code z) (sym (append-nil text))
+              (subst (λ (z : List ℕ). TellsRefused limit base s name z text) f (subst (λ (z : List ℕ). TellsRefused limit base s z k text) e t)),
         ),
       ),
     ))

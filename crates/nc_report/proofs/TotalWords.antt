@@ -45,3 +45,11 @@ kind_added old out new begun kinds all i d lt e added =
 pub totals_added : (old digits words kinds : List ℕ)
     → ((old ++ (codes "  " ++ (digits ++ words))) ++ kinds) ++ 10 ∷ [] ≡ old ++ detail_line (digits ++ (words ++ kinds))
 totals_added old digits words kinds = simp append_assoc
+
+-- the numbers as a member, part after part
+pub counts_parts : (old crosses barred bare targets : List ℕ)
+    → old ++ (codes "],\"counts\":{\"Crosses\":" ++ ((crosses ++ (codes ",\"NotPermitted\":" ++ barred))
+    ++ (codes ",\"Bare\":" ++ ((bare ++ (codes ",\"BadTarget\":" ++ targets)) ++ (codes "}" ++ [])))))
+    ≡ old ++ (codes "]" ++ (codes ",\"counts\":{\"Crosses\":" ++ (crosses ++ (codes ",\"NotPermitted\":" ++ (barred
+    ++ (codes ",\"Bare\":" ++ (bare ++ (codes ",\"BadTarget\":" ++ (targets ++ codes "}")))))))))
+counts_parts old crosses barred bare targets = simp append_assoc

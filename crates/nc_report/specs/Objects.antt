@@ -1,5 +1,5 @@
 -- Verdicts as JSON objects (RFC 8259), each on a line of its own.
-use Rattle.std.specs.Prelude.{ℕ, List, [], ◌∷◌, ◌++◌, ◌==◌, ◌||◌, if◌then◌else◌, nat_lt, codes, Option, Some, None}
+use Rattle.std.specs.Prelude.{ℕ, List, [], ◌∷◌, ◌++◌, ◌==◌, ◌||◌, if◌then◌else◌, nat_lt, codes, drop, Option, Some, None}
 use Rattle.std.specs.List.{flat_map}
 use Rattle.std.specs.Fmt.{decimal}
 use Rattle.hex.specs.Hex.{encode_lower}
@@ -17,6 +17,34 @@ escaped byte =
 abbrev pub string_of : List ℕ → List ℕ
 string_of bytes = 0x22 ∷ (flat_map escaped bytes ++ 0x22 ∷ [])
 
+-- What a text of JSON is: a whole value; or members of an object, or elements of an array, each of them after a comma.
+pub data Part : Type 0 where
+  Whole : Part
+  InObject : Part
+  InArray : Part
+
+-- members as an object, and elements as an array: without the first comma, and in braces or brackets
+abbrev pub object_of : List ℕ → List ℕ
+object_of members = codes "{" ++ (drop 1 members ++ codes "}")
+
+abbrev pub array_of : List ℕ → List ℕ
+array_of elements = codes "[" ++ (drop 1 elements ++ codes "]")
+
+-- a member with this name and this value, after a comma
+abbrev pub member : List ℕ → List ℕ → List ℕ
+member name value = codes "," ++ (string_of name ++ (codes ":" ++ value))
+
+-- The text is JSON, without spaces: strings, and objects and arrays of them. So each quotation mark and each brace
+-- that isn't escaped belongs to the form of the text, whatever bytes its strings have.
+pub data IsJson : Part → List ℕ → Type 0 where
+  Quoted : (bytes : List ℕ) → IsJson Whole (string_of bytes)
+  Braced : {text : List ℕ} → IsJson InObject text → IsJson Whole (object_of text)
+  Bracketed : {text : List ℕ} → IsJson InArray text → IsJson Whole (array_of text)
+  NoMembers : IsJson InObject []
+  Member : {text value : List ℕ} → IsJson InObject text → (name : List ℕ) → IsJson Whole value → IsJson InObject (text ++ member name value)
+  NoElements : IsJson InArray []
+  Element : {text value : List ℕ} → IsJson InArray text → IsJson Whole value → IsJson InArray (text ++ (codes "," ++ value))
+
 -- the first member: the name of a file
 abbrev pub file_member : List ℕ → List ℕ
 file_member name = codes "{\"file\":" ++ string_of name
@@ -33,11 +61,11 @@ abbrev pub at_member : Option ℕ → List ℕ
 at_member None = []
 at_member (Some at) = string_member (codes "at") (address_digits at)
 
--- the object for a source that is accepted
-abbrev pub accepted_object : ℕ → List ℕ → ℕ → ℕ → List ℕ
-accepted_object base name bytes instructions =
+-- the first members of the object for a source that is accepted
+abbrev pub accepted_members : ℕ → List ℕ → ℕ → ℕ → List ℕ
+accepted_members base name bytes instructions =
     file_member name ++ (string_member (codes "address") (address_digits base) ++ (string_member (codes "verdict") (codes "ok")
-    ++ (number_member (codes "bytes") bytes ++ (number_member (codes "instructions") instructions ++ codes "}"))))
+    ++ (number_member (codes "bytes") bytes ++ number_member (codes "instructions") instructions)))
 
 -- the first members of the object for a source that is refused: its name and address, the verdict, the fault, and the fault's
 -- address if it has one
@@ -45,6 +73,10 @@ abbrev pub refused_members : ℕ → List ℕ → VetFault → List ℕ
 refused_members base name fault =
     file_member name ++ (string_member (codes "address") (address_digits base) ++ (string_member (codes "verdict") (codes "refused")
     ++ (string_member (codes "fault") (fault_name fault) ++ at_member (place_of fault))))
+
+-- the beginning of the object for one of several faults: its name and its address
+abbrev pub fault_object : VetFault → List ℕ
+fault_object fault = codes "{\"fault\":" ++ (string_of (fault_name fault) ++ at_member (place_of fault))
 
 -- the object for a file that is refused before any of it is judged: its name, the fault, and what the fault means
 abbrev pub file_object : List ℕ → List ℕ → List ℕ → List ℕ

@@ -1,6 +1,6 @@
 -- The addresses outside a chunk that its direct transfers target, and the number of transfers to each.
 use Rattle.std.specs.Prelude.{◌≡◌, ℕ, ◌+◌, ◌<◌, ◌≤◌, Bool, List, [], ◌∷◌, ◌++◌, ◌==◌, ◌&&◌, ◌||◌, if◌then◌else◌, nat_le, nat_lt}
-use Rattle.std.specs.Prelude.{length, map, replicate, codes, ⊤}
+use Rattle.std.specs.Prelude.{length, replicate, codes, ⊤}
 use Rattle.std.specs.List.{flat_map}
 use Rattle.std.specs.List.Sorted.{IsPermutation}
 use Rattle.std.specs.Fmt.{decimal}
@@ -8,6 +8,12 @@ use Rattle.nc_decode.specs.declared.instruction.Instr.{Instr}
 use Rattle.nc_decode.specs.Transfers.{is_direct, target}
 use Rattle.nc_vet.specs.Chunk.{Piece, place}
 use Rattle.nc_output.specs.Verdicts.{address_digits}
+use Rattle.nc_output.specs.declared.detail.Detail.{Detail}
+use Rattle.nc_output.specs.declared.detail.Detail.TheVariants.{Calls}
+use Rattle.nc_output.specs.declared.detail.Format.{Format}
+use Rattle.nc_output.specs.declared.detail.Format.TheVariants.{Text, Json}
+use Rattle.nc_report.specs.Shown.{detail_line}
+use Rattle.nc_report.specs.Objects.{string_of, member, array_of}
 
 -- the address isn't one of the `len` addresses from the base on
 abbrev pub is_outside : ℕ → ℕ → ℕ → Bool
@@ -37,14 +43,28 @@ pub record Counts (sent : List ℕ) (rows : List OutsideRow) : Type 0 where
   pub ascend : AscendFrom 0 rows
   pub same : IsPermutation sent (flat_map (λ row. replicate row.times row.to) rows)
 
--- a row as text
+-- a row as words, and as an object
 abbrev pub row_words : OutsideRow → List ℕ
 row_words row =
     codes "-> " ++ (address_digits row.to ++ (codes ": " ++ (decimal row.times
     ++ (if row.times == 1 then codes " transfer" else codes " transfers"))))
 
--- the lines about the addresses outside a chunk that its direct transfers target
-pub record ListsOutside (base : ℕ) (pieces : List Piece) (lines : List (List ℕ)) : Type 0 where
-  pub rows : List OutsideRow
-  pub counts : Counts (all_sent base (place pieces) base pieces) rows
-  pub written : lines ≡ map row_words rows
+abbrev pub row_object : OutsideRow → List ℕ
+row_object row =
+    codes "{\"to\":" ++ (string_of (address_digits row.to) ++ (codes ",\"transfers\":" ++ (decimal row.times ++ codes "}")))
+
+-- a row as a line, or as an element of an array
+abbrev pub row_text : Format → OutsideRow → List ℕ
+row_text Text row = detail_line (row_words row)
+row_text Json row = codes "," ++ row_object row
+
+-- the rows as lines, or as a member that is an array; nothing if they aren't asked for
+abbrev pub rows_text : Detail → Format → List OutsideRow → List ℕ
+rows_text Calls Text rows = flat_map (row_text Text) rows
+rows_text Calls Json rows = member (codes "calls") (array_of (flat_map (row_text Json) rows))
+rows_text _ format rows = []
+
+-- the rows, if they are asked for, count the transfers of a chunk with these instructions to addresses outside it
+abbrev pub AreCalls : Detail → ℕ → List Piece → List OutsideRow → Type 0
+AreCalls Calls base pieces rows = Counts (all_sent base (place pieces) base pieces) rows
+AreCalls _ base pieces rows = rows ≡ []

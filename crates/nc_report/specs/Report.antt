@@ -1,7 +1,6 @@
 -- The report on a source: a verdict, and for a refused source its fault and what is shown about that.
 use Rattle.std.specs.Prelude.{◌≡◌, ◌≢◌, ℕ, ◌-◌, ◌⊎◌, Bool, true, false, List, [], ◌∷◌, ◌++◌, length, codes}
 use Rattle.std.specs.Prelude.{MatchOption, Option}
-use Rattle.std.specs.List.{flat_map}
 use Rattle.std.specs.Fmt.{decimal}
 use Rattle.std.specs.Io.KnownBytes.{Appends}
 use Rattle.nc_vet.specs.Chunk.{Piece, code_of, AreSpelled}
@@ -10,15 +9,19 @@ use Rattle.nc_vet.specs.declared.fault.VetFault.{VetFault}
 use Rattle.nc_vet.specs.declared.fault.VetFault.TheVariants.{OutOfMemory}
 use Rattle.nc_output.specs.Verdicts.{IsValidAt, with_line_end, refused_words, fault_words, place_of}
 use Rattle.nc_output.specs.declared.detail.Detail.{Detail}
-use Rattle.nc_output.specs.declared.detail.Detail.TheVariants.{Brief, Calls, Object}
+use Rattle.nc_output.specs.declared.detail.Detail.TheVariants.{Brief}
 use Rattle.nc_output.specs.declared.detail.Detail.TheVariants as detail
+use Rattle.nc_output.specs.declared.detail.Format.{Format}
+use Rattle.nc_output.specs.declared.detail.Format.TheVariants.{Text, Json}
+use Rattle.nc_output.specs.declared.detail.Style.{Style}
 use Rattle.nc_report.specs.declared.steps.Step.{Step}
-use Rattle.nc_report.specs.Shown.{IsShown, AreDetails, detail_line}
-use Rattle.nc_report.specs.Outside.{ListsOutside}
-use Rattle.nc_report.specs.Objects.{accepted_object, refused_members}
+use Rattle.nc_report.specs.declared.totals.Counts.{Counts}
+use Rattle.nc_report.specs.Shown.{AreDetails, detail_line}
+use Rattle.nc_report.specs.Outside.{OutsideRow, AreCalls, rows_text}
+use Rattle.nc_report.specs.Objects.{InObject, IsJson, accepted_members, refused_members, fault_object}
 use Rattle.nc_report.specs.Reading.{IsReading, spots_of}
 use Rattle.nc_report.specs.Further.{others_to}
-use Rattle.nc_report.specs.Totals.{counts_to, totals_line}
+use Rattle.nc_report.specs.Totals.{counts_to, totals_line, counts_member}
 
 -- words about a source, after its name
 abbrev pub said_of : List ℕ → List ℕ → List ℕ
@@ -29,81 +32,113 @@ abbrev pub accepted_words : ℕ → ℕ → List ℕ
 accepted_words bytes instructions =
     codes "ok, " ++ (decimal bytes ++ (codes " bytes, " ++ (decimal instructions ++ codes " instructions")))
 
--- the text written for an accepted source, without the lines of details
-abbrev pub accepted_text : Detail → ℕ → List ℕ → ℕ → ℕ → List ℕ
-accepted_text Brief base name bytes instructions = []
-accepted_text Object base name bytes instructions = with_line_end (accepted_object base name bytes instructions)
-accepted_text _ base name bytes instructions = said_of name (with_line_end (accepted_words bytes instructions))
+-- the beginning of the text for an accepted source: a line, or the first members of an object
+abbrev pub ok_text : Format → ℕ → List ℕ → ℕ → ℕ → List ℕ
+ok_text Text base name bytes instructions = said_of name (with_line_end (accepted_words bytes instructions))
+ok_text Json base name bytes instructions = accepted_members base name bytes instructions
 
--- the lines of details for an accepted source with these instructions: those about its transfers to addresses outside, if
--- they are asked for
-abbrev pub AreCalls : Detail → ℕ → List Piece → List (List ℕ) → Type 0
-AreCalls Calls base pieces lines = ListsOutside base pieces lines
-AreCalls _ base pieces lines = lines ≡ []
+-- the end of the text for any source: that of an object
+abbrev pub end_of : Format → List ℕ
+end_of Text = []
+end_of Json = codes "}\n"
+
+-- the text written for an accepted source, and these rows of its transfers to addresses outside; nothing in brief
+abbrev pub accepted_text : Detail → Format → ℕ → List ℕ → ℕ → ℕ → List OutsideRow → List ℕ
+accepted_text Brief format base name bytes instructions rows = []
+accepted_text detail format base name bytes instructions rows =
+    ok_text format base name bytes instructions ++ (rows_text detail format rows ++ end_of format)
 
 -- the code is a valid chunk, and this is the text written for it, with the number of its instructions
-pub record TellsAccepted (limit base : ℕ) (detail : Detail) (name code text : List ℕ) : Type 0 where
+pub record TellsAccepted (limit base : ℕ) (style : Style) (name code text : List ℕ) : Type 0 where
   pub valid : IsValidAt base limit code
   pub pieces : List Piece
   pub spelled : AreSpelled pieces
   pub parts : code ≡ code_of pieces
-  pub lines : List (List ℕ)
-  pub calls : AreCalls detail base pieces lines
-  pub written : text ≡ accepted_text detail base name (length code) (length pieces) ++ flat_map detail_line lines
+  pub rows : List OutsideRow
+  pub calls : AreCalls style.detail base pieces rows
+  pub written : text ≡ accepted_text style.detail style.format base name (length code) (length pieces) rows
 
--- the verdict on a source that has this fault
+-- the line that is the verdict on a source that has this fault
 abbrev pub refused_line : List ℕ → VetFault → List ℕ
 refused_line name fault = said_of name (with_line_end (refused_words (fault_words fault)))
 
--- the verdict on a source that has this fault, and what is shown about the fault
-abbrev pub TellsFault : Detail → ℕ → List ℕ → VetFault → List ℕ → Type 0
-TellsFault Object base name fault text = (rest : List ℕ) × IsShown rest × (text ≡ refused_members base name fault ++ rest)
-TellsFault _ base name fault text = (words : List ℕ) × AreDetails words × (text ≡ refused_line name fault ++ words)
+-- the verdict as this line, or as the first members of an object
+abbrev pub refused_text : Format → ℕ → List ℕ → VetFault → List ℕ
+refused_text Text base name fault = refused_line name fault
+refused_text Json base name fault = refused_members base name fault
 
--- a line for each further fault, with its name and its address, and after it what is shown about the fault
-abbrev pub TellsEach : List VetFault → List ℕ → Type 0
-TellsEach [] text = text ≡ []
-TellsEach (fault ∷ faults) text =
-    (words rest : List ℕ) × AreDetails words × TellsEach faults rest
-    × (text ≡ detail_line (codes "also " ++ fault_words fault) ++ (words ++ rest))
+-- what is shown about a source: lines of details, or further members of its object
+abbrev pub Shows : Format → List ℕ → Type 0
+Shows Text text = AreDetails text
+Shows Json text = IsJson InObject text
 
--- The text about all faults that reading a refused chunk finds, except that at `own`, and then the numbers of all of them.
-pub record TellsOthers (limit base : ℕ) (code : List ℕ) (own : ℕ) (text : List ℕ) : Type 0 where
+-- the verdict on a source that has this fault, and what is shown about the fault; in brief the verdict alone
+abbrev pub TellsFault : Detail → Format → ℕ → List ℕ → VetFault → List ℕ → Type 0
+TellsFault Brief format base name fault text = text ≡ refused_text format base name fault
+TellsFault detail format base name fault text =
+    (shown : List ℕ) × Shows format shown × (text ≡ refused_text format base name fault ++ shown)
+
+-- what is shown about one of several faults, after its name and address: lines, or the other members of its object
+abbrev pub ShowsOne : Format → List ℕ → Type 0
+ShowsOne Text text = AreDetails text
+ShowsOne Json text = (members : List ℕ) × IsJson InObject members × (text ≡ members ++ codes "}")
+
+-- the name and the address of a further fault: a line, or the beginning of a further element of an array
+abbrev pub heading : Format → VetFault → List ℕ
+heading Text fault = detail_line (codes "also " ++ fault_words fault)
+heading Json fault = codes "," ++ fault_object fault
+
+-- the name and the address of each further fault, and after them what is shown about the fault
+abbrev pub TellsEach : Format → List VetFault → List ℕ → Type 0
+TellsEach format [] text = text ≡ []
+TellsEach format (fault ∷ faults) text =
+    (words rest : List ℕ) × ShowsOne format words × TellsEach format faults rest × (text ≡ heading format fault ++ (words ++ rest))
+
+-- the text before the further faults: none, or the beginning of an array whose first element is the source's own fault
+abbrev pub Opens : Format → VetFault → List ℕ → Type 0
+Opens Text fault text = text ≡ []
+Opens Json fault text = (words : List ℕ) × ShowsOne Json words × (text ≡ codes ",\"faults\":[" ++ (fault_object fault ++ words))
+
+-- the text after the further faults: the numbers of all faults, and what else is shown
+abbrev pub counts_text : Format → Counts → List ℕ
+counts_text Text counts = detail_line (totals_line counts)
+counts_text Json counts = codes "]" ++ counts_member counts
+
+-- The text about all faults that reading a refused chunk finds, that at `own` first, which needs no lines, and then the numbers of
+-- all of them.
+pub record TellsOthers (format : Format) (limit base : ℕ) (code : List ℕ) (fault : VetFault) (own : ℕ) (text : List ℕ) : Type 0 where
   pub steps : List Step
   pub reading : IsReading code steps
+  pub first : List ℕ
+  pub opens : Opens format fault first
   pub each : List ℕ
-  pub tells : TellsEach (others_to base limit code (spots_of steps) own (length code)) each
+  pub tells : TellsEach format (others_to base limit code (spots_of steps) own (length code)) each
   pub last : List ℕ
-  pub details : AreDetails last
-  pub is : text ≡ each ++ (detail_line (totals_line (counts_to base limit code (spots_of steps) (length code))) ++ last)
+  pub shown : Shows format last
+  pub is : text ≡ first ++ (each ++ (counts_text format (counts_to base limit code (spots_of steps) (length code)) ++ last))
 
 -- the text about the other faults of a source that has this one, if they are asked for; none if the fault has no address
-abbrev pub TellsMore : Detail → ℕ → ℕ → List ℕ → VetFault → List ℕ → Type 0
-TellsMore detail.All limit base code fault text =
-    MatchOption (place_of fault) (text ≡ []) (λ at. TellsOthers limit base code (at - base) text)
-TellsMore _ limit base code fault text = text ≡ []
-
--- what ends the report on a refused source
-abbrev pub end_of : Detail → List ℕ
-end_of Object = codes "}\n"
-end_of _ = []
+abbrev pub TellsMore : Detail → Format → ℕ → ℕ → List ℕ → VetFault → List ℕ → Type 0
+TellsMore detail.All format limit base code fault text =
+    MatchOption (place_of fault) (text ≡ []) (λ at. TellsOthers format limit base code fault (at - base) text)
+TellsMore _ format limit base code fault text = text ≡ []
 
 -- the code has a fault, which isn't lack of memory, and this is the text written for it
-pub record TellsRefused (limit base : ℕ) (detail : Detail) (name code text : List ℕ) : Type 0 where
+pub record TellsRefused (limit base : ℕ) (style : Style) (name code text : List ℕ) : Type 0 where
   pub fault : VetFault
   pub has : HasFault base limit code fault
   pub real : fault ≢ OutOfMemory
   pub first : List ℕ
-  pub verdict : TellsFault detail base name fault first
+  pub verdict : TellsFault style.detail style.format base name fault first
   pub more : List ℕ
-  pub others : TellsMore detail limit base code fault more
-  pub written : text ≡ first ++ (more ++ end_of detail)
+  pub others : TellsMore style.detail style.format limit base code fault more
+  pub written : text ≡ first ++ (more ++ end_of style.format)
 
 -- the code is refused or not, and this is the report on it
-abbrev pub Tells : ℕ → ℕ → Detail → List ℕ → List ℕ → Bool → List ℕ → Type 0
-Tells limit base detail name code refused text =
-    ((refused ≡ false) × TellsAccepted limit base detail name code text)
-    ⊎ ((refused ≡ true) × TellsRefused limit base detail name code text)
+abbrev pub Tells : ℕ → ℕ → Style → List ℕ → List ℕ → Bool → List ℕ → Type 0
+Tells limit base style name code refused text =
+    ((refused ≡ false) × TellsAccepted limit base style name code text)
+    ⊎ ((refused ≡ true) × TellsRefused limit base style name code text)
 
 -- a text that satisfies `Says` was written
 pub record HasWritten (Says : List ℕ → Type 0) (before after : Option (List ℕ)) : Type 0 where

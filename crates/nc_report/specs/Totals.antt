@@ -46,6 +46,12 @@ kinds_from begun ((n, name) ∷ kinds) =
     if n == 0 then kinds_from begun kinds
     else ((if begun then codes ", " else []) ++ (decimal n ++ (codes " " ++ (name ++ kinds_from true kinds))))
 
+-- the numbers as a member that is an object, with a member for each kind
+abbrev pub counts_member : Counts → List ℕ
+counts_member counts =
+    codes ",\"counts\":{\"Crosses\":" ++ (decimal counts.crosses ++ (codes ",\"NotPermitted\":" ++ (decimal counts.not_permitted
+    ++ (codes ",\"Bare\":" ++ (decimal counts.bare ++ (codes ",\"BadTarget\":" ++ (decimal counts.bad_target ++ codes "}")))))))
+
 -- the number of faults
 abbrev pub total : Counts → ℕ
 total counts = counts.crosses + counts.not_permitted + counts.bare + counts.bad_target

@@ -17,11 +17,13 @@ const SIZE: usize = BUNDLE as usize;
 
 /// What is shown about a fault that has an address.
 #[derive(Clone, Copy)]
-pub(crate) struct Finding {
+pub(crate) struct Finding<'a> {
     /// The address.
     pub at: u32,
     /// The bytes of its bundle.
     pub bundle: [u8; 32],
+    /// The code from the bundle's first byte on.
+    pub rest: &'a [u8],
     /// Bit k says whether an instruction begins at byte k of the bundle.
     pub starts: u32,
     /// The target of a refused direct transfer.
@@ -65,7 +67,12 @@ fn aim_by(judged: &Judged<'_>, spots: &[Spot], fault: VetFault, k: usize) -> Opt
 }
 
 /// What is shown about a fault at a place of the code, by the spots of all its bytes.
-pub(crate) fn finding_at(judged: &Judged<'_>, spots: &[Spot], fault: VetFault, k: usize) -> Finding
+pub(crate) fn finding_at<'a>(
+    judged: &Judged<'a>,
+    spots: &[Spot],
+    fault: VetFault,
+    k: usize,
+) -> Finding<'a>
     requires span { judged.now.base + length judged.now.code.now < 2 ^ 32 }
     requires whole { length judged.now.code.now % 32 ≡ 0 }
     requires each { length spots.now ≡ length judged.now.code.now }
@@ -75,6 +82,7 @@ pub(crate) fn finding_at(judged: &Judged<'_>, spots: &[Spot], fault: VetFault, k
     Finding {
         at: judged.base + k as u32,
         bundle: bundle_at(judged.code, start),
+        rest: &judged.code[start..],
         starts: starts_at(spots, start),
         aim: aim_by(judged, spots, fault, k),
         meaning: words_about(judged.code, fault, k),
@@ -107,12 +115,12 @@ fn own_aim(
 
 /// What is shown about a chunk's own fault, at a place of the code. The instructions before it have no fault, so its bundle is read
 /// by itself.
-pub(crate) fn own_finding(
+pub(crate) fn own_finding<'a>(
     alloc: Global,
-    judged: &Judged<'_>,
+    judged: &Judged<'a>,
     fault: VetFault,
     k: usize,
-) -> Result<Finding, AllocError>
+) -> Result<Finding<'a>, AllocError>
     requires span { judged.now.base + length judged.now.code.now < 2 ^ 32 }
     requires whole { length judged.now.code.now % 32 ≡ 0 }
     requires within { k < length judged.now.code.now }
@@ -123,6 +131,7 @@ pub(crate) fn own_finding(
     Ok(Finding {
         at: judged.base + k as u32,
         bundle: bundle_at(judged.code, start),
+        rest: &judged.code[start..],
         starts: starts_at(&spots, 0),
         aim,
         meaning: words_about(judged.code, fault, k),

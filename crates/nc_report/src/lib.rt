@@ -2,12 +2,12 @@
 //!
 //! [`read_source`] reads a file's bytes, and [`report`] vets such a source and writes the report on it. Both are generic over the
 //! reader or the writer, so that their contracts can name the bytes. In text, the first line of a report is the verdict, and the
-//! lines after it begin with two spaces; `objects` writes JSON instead, and `outside` lists the addresses outside accepted code
-//! that its direct transfers target.
+//! lines after it begin with two spaces; `objects` writes JSON instead, by `json` and `strings`, and `outside` lists the addresses
+//! outside accepted code that its direct transfers target.
 //!
 //! `telling` writes the report, and `counting` counts the instructions in a valid chunk. A `finding` is what is shown about a
 //! fault: its bundle, the target of a refused transfer by `targets`, and what the fault means by `advice`. `explaining` writes it
-//! as lines. No clause says which words these are; each line passes through `shown`, which leaves no control byte in it.
+//! as lines, and `listing` its bundle as code. No clause says which words these are; each line passes through `shown`, which leaves no control byte in it.
 //!
 //! All faults of a refused chunk are found by one reading of it: `steps` reads it past its faults, with the lengths from
 //! `lengths`, and gives a `spot` for each byte; `quick` reads bundles without a fault, four at a time. `suspects` finds the places
@@ -24,11 +24,13 @@ mod fault;
 mod finding;
 mod forms;
 mod further;
+mod json;
 mod judged;
 mod kind;
 mod labels;
 mod law;
 mod lengths;
+mod listing;
 mod numbers;
 mod objects;
 mod others;
@@ -39,6 +41,7 @@ mod shown;
 mod source;
 mod spot;
 mod steps;
+mod strings;
 mod suspects;
 mod targets;
 mod telling;
@@ -48,7 +51,7 @@ mod words;
 pub use fault::{ReportFault, SourceFault};
 pub use forms::is_hexadecimal;
 pub use labels::{Label, Labels};
-pub use law::law_of_readings;
+pub use law::{law_of_objects, law_of_readings};
 pub use objects::push_file_object;
 pub use reporting::report;
 pub use source::{MOST_BYTES, Source, read_source};

@@ -1,60 +1,23 @@
 //! Verdicts as JSON objects, each on a line of its own.
 
-ghost use Rattle.std.specs.Prelude.{◌≡◌, ◌≢◌, ◌++◌, codes, OnOk};
-ghost use Rattle.std.specs.List.{flat_map};
+ghost use Rattle.std.specs.Prelude.{◌≡◌, ◌≢◌, ◌<◌, ◌++◌, ℕ, List, codes, IfOk, OnOk};
 ghost use Rattle.nc_vet.specs.declared.fault.VetFault.TheVariants as vet;
 ghost use Rattle.nc_output.specs.Verdicts.{with_line_end, address_digits, place_of};
-ghost use Rattle.nc_report.specs.Objects.{escaped, file_member, string_member, at_member, accepted_object, refused_members, file_object};
-ghost use Rattle.nc_report.specs.Report.{TellsFault};
+ghost use Rattle.nc_report.specs.Objects.{InObject, InArray, IsJson, file_member, string_member, at_member, accepted_members, refused_members, fault_object, file_object};
+ghost use Rattle.nc_report.specs.Report.{ShowsOne};
 ghost use Rattle.nc_report.specs.machinery.Added.{Adds};
-ghost use Rattle.nc_report.specs.machinery.Found.{IsPlaced};
 
-use crate::advice::{words_about, words_without_place};
 use crate::explaining::offset_words;
-use crate::judged::Judged;
+use crate::finding::Finding;
+use crate::json::{no_elements, no_members, push_members, with_array, with_object, with_string};
 use crate::labels::Labels;
-use crate::numbers::{address_digits, byte_digits, push_all, push_text};
-use crate::shown::push_shown;
-use nc_output::{Detail, fault_name, place_of};
+use crate::listing::{address_of, is_start, push_named};
+use crate::numbers::{address_digits, push_all, push_text};
+use crate::strings::push_between;
+use crate::targets::Aim;
+use nc_output::{Format, fault_name, place_of};
 use nc_vet::VetFault;
 use std::alloc::{AllocError, Global};
-
-/// Adds a byte of a string, escaped if it is a quotation mark, a backslash or a control byte. So UTF-8 stays UTF-8.
-fn push_escaped(out: &mut Vec<u8>, byte: u8) -> Result<(), AllocError>
-    ensures { OnOk result (out.new.items ≡ out.old.items ++ escaped byte) }
-{
-    if byte == b'"' || byte == b'\\' {
-        push_text(out, &[b'\\', byte])
-    } else if byte < 0x20 || byte == 0x7f {
-        push_all(out, &[b"\\u00", &byte_digits(byte)])
-    } else {
-        push_text(out, &[byte])
-    }
-}
-
-/// Adds the bytes of a string, without the quotation marks.
-fn push_inner(out: &mut Vec<u8>, bytes: &[u8]) -> Result<(), AllocError>
-    ensures { OnOk result (out.new.items ≡ out.old.items ++ flat_map escaped bytes.now) }
-{
-    for byte in bytes {
-        push_escaped(out, *byte)?;
-    }
-    Ok(())
-}
-
-/// Adds the bytes of a string, escaped, between two texts.
-fn push_between(
-    out: &mut Vec<u8>,
-    before: &[u8],
-    bytes: &[u8],
-    after: &[u8],
-) -> Result<(), AllocError>
-    ensures { OnOk result (out.new.items ≡ out.old.items ++ (before.now ++ (flat_map escaped bytes.now ++ after.now))) }
-{
-    push_text(out, before)?;
-    push_inner(out, bytes)?;
-    push_text(out, after)
-}
 
 /// Adds the first two members of the object for a source: its name and its address.
 fn push_front(out: &mut Vec<u8>, name: &[u8], base: u32) -> Result<(), AllocError>
@@ -72,17 +35,17 @@ fn push_meaning(out: &mut Vec<u8>, words: &[u8]) -> Result<(), AllocError>
     push_between(out, b",\"meaning\":\"", words, b"\"")
 }
 
-/// Adds the object for an accepted source, and its line end.
-pub(crate) fn push_accepted_object(
+/// Adds the first members of the object for an accepted source.
+pub(crate) fn push_accepted_members(
     out: &mut Vec<u8>,
     name: &[u8],
     base: u32,
     bytes: usize,
     instructions: usize,
 ) -> Result<(), AllocError>
-    ensures { OnOk result (out.new.items ≡ out.old.items ++ with_line_end (accepted_object base name.now bytes instructions)) }
+    ensures { OnOk result (out.new.items ≡ out.old.items ++ accepted_members base name.now bytes instructions) }
 {
-    let counts = format!(in *out.allocator(); "{bytes},\"instructions\":{instructions}}}\n")?;
+    let counts = format!(in *out.allocator(); "{bytes},\"instructions\":{instructions}")?;
     push_front(out, name, base)?;
     push_all(out, &[b",\"verdict\":\"ok\",\"bytes\":", counts.as_bytes()])
 }
@@ -98,7 +61,7 @@ fn push_at(out: &mut Vec<u8>, at: Option<u32>) -> Result<(), AllocError>
 }
 
 /// Adds the first members of the object for a refused source. Lack of memory is not a verdict: it is returned as an error.
-fn push_members(
+pub(crate) fn push_refused_members(
     out: &mut Vec<u8>,
     name: &[u8],
     base: u32,
@@ -112,48 +75,130 @@ fn push_members(
     push_at(out, place_of(fault))
 }
 
-/// Adds the member that names an address, if it has a label.
-fn push_symbol(out: &mut Vec<u8>, labels: &Labels, at: u32) -> Result<(), AllocError> {
-    let Some(label) = labels.of(at) else {
-        return Ok(());
-    };
-    let offset = offset_words(*out.allocator(), at.saturating_sub(label.address))?;
-    push_between(out, b",\"symbol\":\"", &label.name, offset.as_bytes())?;
-    push_text(out, b"\"")
-}
-
-/// The members about a fault: the name of its address, if it has one and that has a label, and what the fault means.
-fn shown_members(alloc: Global, judged: &Judged<'_>, fault: VetFault) -> Result<Vec<u8>, AllocError>
-    requires { IsPlaced judged.now.base judged.now.code.now (place_of fault) }
+/// The members with one more that names an address, if it has a label.
+fn with_symbol(
+    alloc: Global,
+    members: Vec<u8>,
+    labels: &Labels,
+    at: u32,
+) -> Result<Vec<u8>, AllocError>
+    requires { IsJson InObject members.items }
+    ensures { IfOk result (λ all. IsJson InObject all.items) }
 {
-    let mut members = Vec::new(alloc);
-    let Some(at) = place_of(fault) else {
-        let words = words_without_place(alloc, judged, fault)?;
-        push_meaning(&mut members, &words)?;
+    let Some(label) = labels.of(at) else {
         return Ok(members);
     };
-    push_symbol(&mut members, judged.labels, at)?;
-    push_meaning(
-        &mut members,
-        words_about(judged.code, fault, (at - judged.base) as usize),
-    )?;
-    Ok(members)
+    let offset = offset_words(alloc, at.saturating_sub(label.address))?;
+    let mut name = Vec::from_slice(alloc, &label.name)?;
+    name.extend_from_slice(offset.as_bytes())?;
+    with_string(members, b"symbol", &name)
 }
 
-/// Adds the object for a refused source, without its end. Lack of memory is not a verdict: it is returned as an error.
-pub(crate) fn push_refused_object(
-    out: &mut Vec<u8>,
-    name: &[u8],
-    judged: &Judged<'_>,
-    fault: VetFault,
-) -> Result<(), AllocError>
-    requires { IsPlaced judged.now.base judged.now.code.now (place_of fault) }
-    ensures { OnOk result ((fault ≢ vet.OutOfMemory)
-        × Adds out.old.items out.new.items (TellsFault Detail.Object judged.now.base name.now fault)) }
+/// Why the target of a refused direct transfer is not allowed, in words.
+fn reason(alloc: Global, aim: Aim) -> Result<Vec<u8>, AllocError> {
+    let mut why = Vec::from_slice(alloc, aim.words)?;
+    if let Some(at) = aim.named {
+        why.extend_from_slice(&address_digits(at))?;
+    }
+    Ok(why)
+}
+
+/// The members with two more about the target of a refused direct transfer: where it goes, and why that is not allowed.
+fn with_aim(alloc: Global, members: Vec<u8>, aim: Option<Aim>) -> Result<Vec<u8>, AllocError>
+    requires { IsJson InObject members.items }
+    ensures { IfOk result (λ all. IsJson InObject all.items) }
 {
-    let members = shown_members(*out.allocator(), judged, fault)?;
-    push_members(out, name, judged.base, fault)?;
-    push_shown(out, &members)
+    let Some(aim) = aim else {
+        return Ok(members);
+    };
+    let why = reason(alloc, aim)?;
+    let aimed = with_string(members, b"target", &address_digits(aim.to))?;
+    with_string(aimed, b"why", &why)
+}
+
+/// The members of the object for the instruction that begins at a place of the bundle: its address, and its name if it is permitted.
+fn start_members(alloc: Global, finding: &Finding<'_>, k: usize) -> Result<Vec<u8>, AllocError>
+    requires { k < 32 }
+    ensures { IfOk result (λ all. IsJson InObject all.items) }
+{
+    let mut name = Vec::new(alloc);
+    push_named(&mut name, finding, k)?;
+    let start = with_string(
+        no_members(alloc),
+        b"at",
+        &address_digits(address_of(finding, k)),
+    )?;
+    if name.is_empty() {
+        return Ok(start);
+    }
+    with_string(start, b"name", &name)
+}
+
+/// The elements with one more for the instruction that begins at a place of the bundle, if one does.
+fn with_start(
+    alloc: Global,
+    starts: Vec<u8>,
+    finding: &Finding<'_>,
+    k: usize,
+) -> Result<Vec<u8>, AllocError>
+    requires within { k < 32 }
+    requires starts { IsJson InArray starts.items }
+    ensures { IfOk result (λ all. IsJson InArray all.items) }
+{
+    if !is_start(finding, k) {
+        return Ok(starts);
+    }
+    let start = start_members(alloc, finding, k)?;
+    with_object(starts, start)
+}
+
+/// An element for each instruction that begins in the bundle of a fault.
+fn starts_of(alloc: Global, finding: &Finding<'_>) -> Result<Vec<u8>, AllocError>
+    ensures { IfOk result (λ all. IsJson InArray all.items) }
+{
+    let mut starts = no_elements(alloc);
+    for k in 0..32 {
+        starts = with_start(alloc, starts, finding, k)?;
+    }
+    Ok(starts)
+}
+
+/// The members about a fault: the name of its address, if that has a label; what the fault means; the target of a refused
+/// transfer; and the bundle, by its bytes and by the instructions that begin in it.
+pub(crate) fn finding_members(
+    alloc: Global,
+    labels: &Labels,
+    finding: &Finding<'_>,
+) -> Result<Vec<u8>, AllocError>
+    ensures { IfOk result (λ all. IsJson InObject all.items) }
+{
+    let starts = starts_of(alloc, finding)?;
+    let mut bundle = [0u8; 64];
+    hex::encode_to_slice(finding.bundle, &mut bundle).unwrap();
+    let named = with_symbol(alloc, no_members(alloc), labels, finding.at)?;
+    let told = with_string(named, b"meaning", finding.meaning)?;
+    let aimed = with_aim(alloc, told, finding.aim)?;
+    let shown = with_string(aimed, b"bundle", &bundle)?;
+    with_array(shown, b"starts", starts)
+}
+
+/// Adds the object for one of several faults, after this text. Lack of memory is not a verdict: it is returned as an error.
+pub(crate) fn push_fault_object(
+    out: &mut Vec<u8>,
+    before: &'static [u8],
+    labels: &Labels,
+    fault: VetFault,
+    finding: &Finding<'_>,
+) -> Result<(), AllocError>
+    ensures { OnOk result (Adds out.old.items out.new.items
+        (λ text. (words : List ℕ) × ShowsOne Format.Json words × (text ≡ before.now ++ (fault_object fault ++ words)))) }
+{
+    let members = finding_members(*out.allocator(), labels, finding)?;
+    push_text(out, before)?;
+    push_between(out, b"{\"fault\":\"", fault_name(fault)?, b"\"")?;
+    push_at(out, place_of(fault))?;
+    push_members(out, members)?;
+    push_text(out, b"}")
 }
 
 /// Adds the object for a file that is refused before any of it is judged, for a fault with this name and this meaning, and its

@@ -1,26 +1,26 @@
 //! The other faults of a refused chunk, found by one reading of all of it.
 
-ghost use Rattle.std.specs.Prelude.{◌≡◌, ◌++◌, ◌∷◌, [], ◌+◌, ◌%◌, ◌<◌, ◌^◌, ℕ, List, length, take, codes, IfOk, IfErr, OnOk, OnErr};
+ghost use Rattle.std.specs.Prelude.{◌≡◌, ◌++◌, ◌∷◌, [], ◌+◌, ◌%◌, ◌<◌, ◌^◌, ℕ, List, length, take, ◌==◌, if◌then◌else◌, IfOk, IfErr, OnOk, OnErr};
 ghost use Rattle.std.specs.Io.KnownBytes.{Appends};
 ghost use Rattle.nc_vet.specs.Faults.{HasGoodSpan};
-ghost use Rattle.nc_output.specs.Verdicts.{fault_words};
-ghost use Rattle.nc_report.specs.Shown.{detail_line};
-ghost use Rattle.nc_report.specs.Further.{fault_at, others_at, others_to};
+ghost use Rattle.nc_report.specs.Further.{listed, others_to};
 ghost use Rattle.nc_report.specs.Totals.{counts_to};
-ghost use Rattle.nc_report.specs.Report.{TellsEach, TellsOthers, HasBegun};
+ghost use Rattle.nc_report.specs.Report.{heading, Opens, TellsEach, TellsOthers, HasBegun};
 ghost use Rattle.nc_report.specs.machinery.Added.{Adds, After, WritesOn, IsOfWriting};
 
 use crate::explaining::push_finding;
 use crate::fault::ReportFault;
-use crate::finding::finding_at;
+use crate::finding::{Finding, finding_at};
 use crate::further::fault_at;
 use crate::judged::Judged;
+use crate::labels::Labels;
 use crate::numbers::push_text;
+use crate::objects::push_fault_object;
 use crate::spot::Spot;
 use crate::steps::read_spots;
 use crate::suspects::next_suspect;
 use crate::totals::{Counts, NO_FAULTS, counted, push_last};
-use nc_output::{push_name, write_out};
+use nc_output::{Format, push_name, write_out};
 use nc_vet::VetFault;
 use std::alloc::AllocError;
 use std::io::Write;
@@ -30,54 +30,73 @@ const PIECE: usize = 65536;
 
 /// Adds the line that names a further fault.
 fn push_heading(out: &mut Vec<u8>, fault: VetFault) -> Result<(), AllocError>
-    ensures { OnOk result (out.new.items ≡ out.old.items ++ detail_line (codes "also " ++ fault_words fault)) }
+    ensures { OnOk result (out.new.items ≡ out.old.items ++ heading Format.Text fault) }
 {
     push_text(out, b"  also ")?;
     push_name(out, fault)?;
     push_text(out, b"\n")
 }
 
-/// Adds the lines about a further fault, at this place.
+/// Adds the lines about a further fault.
+fn push_lines(
+    out: &mut Vec<u8>,
+    labels: &Labels,
+    fault: VetFault,
+    finding: &Finding<'_>,
+) -> Result<(), AllocError>
+    ensures { OnOk result (Adds out.old.items out.new.items (TellsEach Format.Text (fault ∷ []))) }
+{
+    push_heading(out, fault)?;
+    push_finding(out, labels, finding)
+}
+
+/// Adds the text about a further fault, at this place.
 fn push_also(
     out: &mut Vec<u8>,
     judged: &Judged<'_>,
     spots: &[Spot],
     k: usize,
     fault: VetFault,
+    format: Format,
 ) -> Result<(), AllocError>
     requires span { judged.now.base + length judged.now.code.now < 2 ^ 32 }
     requires whole { length judged.now.code.now % 32 ≡ 0 }
     requires each { length spots.now ≡ length judged.now.code.now }
     requires within { k < length judged.now.code.now }
-    ensures { OnOk result (Adds out.old.items out.new.items (TellsEach (fault ∷ []))) }
+    ensures { OnOk result (Adds out.old.items out.new.items (TellsEach format (fault ∷ []))) }
 {
-    push_heading(out, fault)?;
-    push_finding(out, judged.labels, &finding_at(judged, spots, fault, k))
+    let finding = finding_at(judged, spots, fault, k);
+    match format {
+        Format::Text => push_lines(out, judged.labels, fault, &finding),
+        Format::Json => push_fault_object(out, b",", judged.labels, fault, &finding),
+    }
 }
 
-/// Adds the lines about a place of the code by the fault there, if it has one other than the chunk's own.
+/// The fault at a place, if it isn't the chunk's own.
+fn other_than(own: usize, k: usize, found: Option<VetFault>) -> Option<VetFault>
+    ensures { listed result ≡ (if k == own then [] else listed found) }
+{
+    if k == own { None } else { found }
+}
+
+/// Adds the text about a place of the code, by the fault there other than the chunk's own, if there is one.
 #[inline(always)]
 fn push_place(
     out: &mut Vec<u8>,
     judged: &Judged<'_>,
     spots: &[Spot],
-    own: usize,
     k: usize,
-    found: Option<VetFault>,
+    other: Option<VetFault>,
+    format: Format,
 ) -> Result<(), AllocError>
     requires span { judged.now.base + length judged.now.code.now < 2 ^ 32 }
     requires whole { length judged.now.code.now % 32 ≡ 0 }
     requires each { length spots.now ≡ length judged.now.code.now }
     requires within { k < length judged.now.code.now }
-    requires found { found ≡ fault_at judged.now.base judged.now.limit judged.now.code.now spots.now k }
-    ensures { OnOk result (Adds out.old.items out.new.items
-        (TellsEach (others_at judged.now.base judged.now.limit judged.now.code.now spots.now own k))) }
+    ensures { OnOk result (Adds out.old.items out.new.items (TellsEach format (listed other))) }
 {
-    if k == own {
-        return Ok(());
-    }
-    match found {
-        Some(fault) => push_also(out, judged, spots, k, fault),
+    match other {
+        Some(fault) => push_also(out, judged, spots, k, fault, format),
         None => Ok(()),
     }
 }
@@ -101,23 +120,24 @@ fn write_much<W: Write>(out: &mut Vec<u8>, writer: &mut W) -> Result<(), ReportF
     Ok(())
 }
 
-/// Writes the lines about all places of the code, and returns the number of its faults of each kind. Text that isn't written
+/// Writes the text about all places of the code, and returns the number of its faults of each kind. Text that isn't written
 /// yet is kept in `out`.
 fn write_places<W: Write>(
     out: &mut Vec<u8>,
     judged: &Judged<'_>,
     spots: &[Spot],
     own: usize,
+    format: Format,
     writer: &mut W,
 ) -> Result<Counts, ReportFault>
     requires span { judged.now.base + length judged.now.code.now < 2 ^ 32 }
     requires whole { length judged.now.code.now % 32 ≡ 0 }
     requires each { length spots.now ≡ length judged.now.code.now }
     ensures ok { OnOk result (WritesOn (W.contents writer.old) (W.contents writer.new) out.old.items out.new.items
-        (TellsEach (others_to judged.now.base judged.now.limit judged.now.code.now spots.now own (length judged.now.code.now)))) }
+        (TellsEach format (others_to judged.now.base judged.now.limit judged.now.code.now spots.now own (length judged.now.code.now)))) }
     ensures counts { IfOk result (λ counts. counts
         ≡ counts_to judged.now.base judged.now.limit judged.now.code.now spots.now (length judged.now.code.now)) }
-    ensures cut { OnErr result (HasBegun (After out.old.items (TellsEach (others_to judged.now.base judged.now.limit judged.now.code.now
+    ensures cut { OnErr result (HasBegun (After out.old.items (TellsEach format (others_to judged.now.base judged.now.limit judged.now.code.now
         spots.now own (length judged.now.code.now)))) (W.contents writer.old) (W.contents writer.new)) }
     ensures faults { IfErr result IsOfWriting }
 {
@@ -125,7 +145,7 @@ fn write_places<W: Write>(
     let mut k = 0;
     while k < judged.code.len() {
         let found = fault_at(judged.base, judged.limit, judged.code, spots, k);
-        match push_place(out, judged, spots, own, k, found) {
+        match push_place(out, judged, spots, k, other_than(own, k, found), format) {
             Ok(()) => {}
             Err(_) => return Err(ReportFault::OutOfMemory),
         }
@@ -139,29 +159,61 @@ fn write_places<W: Write>(
     Ok(counts)
 }
 
-/// Reads all of the code once, past its faults, and writes the lines about each fault except the one at `own`, and then the
-/// last lines. Text that isn't written yet is kept in `out`.
+/// Adds the text before the further faults: in JSON the beginning of an array whose first element is the chunk's own fault.
+fn push_opening(
+    out: &mut Vec<u8>,
+    judged: &Judged<'_>,
+    spots: &[Spot],
+    own: usize,
+    fault: VetFault,
+    format: Format,
+) -> Result<(), AllocError>
+    requires span { judged.now.base + length judged.now.code.now < 2 ^ 32 }
+    requires whole { length judged.now.code.now % 32 ≡ 0 }
+    requires each { length spots.now ≡ length judged.now.code.now }
+    requires within { own < length judged.now.code.now }
+    ensures { OnOk result (Adds out.old.items out.new.items (Opens format fault)) }
+{
+    match format {
+        Format::Text => Ok(()),
+        Format::Json => {
+            let finding = finding_at(judged, spots, fault, own);
+            push_fault_object(out, b",\"faults\":[", judged.labels, fault, &finding)
+        }
+    }
+}
+
+/// Reads all of the code once, past its faults, and writes the text about each fault except this one at `own`, and then the
+/// last of what is shown. Text that isn't written yet is kept in `out`.
 pub(crate) fn write_others<W: Write>(
     out: &mut Vec<u8>,
     judged: &Judged<'_>,
+    fault: VetFault,
     own: usize,
+    format: Format,
     writer: &mut W,
 ) -> Result<(), ReportFault>
-    requires { HasGoodSpan judged.now.base judged.now.limit (length judged.now.code.now) }
+    requires span { HasGoodSpan judged.now.base judged.now.limit (length judged.now.code.now) }
+    requires within { own < length judged.now.code.now }
     ensures ok { OnOk result (WritesOn (W.contents writer.old) (W.contents writer.new) out.old.items out.new.items
-        (TellsOthers judged.now.limit judged.now.base judged.now.code.now own)) }
-    ensures cut { OnErr result (HasBegun (After out.old.items (TellsOthers judged.now.limit judged.now.base judged.now.code.now own))
+        (TellsOthers format judged.now.limit judged.now.base judged.now.code.now fault own)) }
+    ensures cut { OnErr result (HasBegun
+        (After out.old.items (TellsOthers format judged.now.limit judged.now.base judged.now.code.now fault own))
         (W.contents writer.old) (W.contents writer.new)) }
     ensures faults { IfErr result IsOfWriting }
 {
     let Ok(spots) = read_spots(*out.allocator(), judged.code) else {
         return Err(ReportFault::OutOfMemory);
     };
-    let counts = match write_places(out, judged, &spots, own, writer) {
+    match push_opening(out, judged, &spots, own, fault, format) {
+        Ok(()) => {}
+        Err(_) => return Err(ReportFault::OutOfMemory),
+    }
+    let counts = match write_places(out, judged, &spots, own, format, writer) {
         Ok(counts) => counts,
         Err(fault) => return Err(fault),
     };
-    match push_last(out, counts, &spots) {
+    match push_last(out, counts, &spots, format) {
         Ok(()) => Ok(()),
         Err(_) => Err(ReportFault::OutOfMemory),
     }

@@ -1,15 +1,18 @@
 //! The addresses outside a chunk that its direct transfers target.
 
-ghost use Rattle.std.specs.Prelude.{◌≡◌, ◌++◌, ◌+◌, ◌<◌, ◌^◌, List, length, IfOk, OnOk};
+ghost use Rattle.std.specs.Prelude.{◌≡◌, ◌++◌, ◌+◌, ◌<◌, ◌^◌, List, codes, length, IfOk, OnOk};
 ghost use Rattle.std.specs.List.Sorted.{IsNonDecreasing};
 ghost use Rattle.nc_vet.specs.Chunk.{Piece, code_of, AreSpelled};
-ghost use Rattle.nc_report.specs.Outside.{sent_outside, row_words, ListsOutside};
+ghost use Rattle.nc_report.specs.Outside.{sent_outside, row_words, row_object, row_text};
 ghost use Rattle.nc_report.specs.Shown.{detail_line};
-ghost use Rattle.nc_report.specs.machinery.Found.{AddsLines};
+ghost use Rattle.nc_report.specs.machinery.Found.{AddsRows, AddsCalls};
 ghost use Rattle.nc_report.specs.machinery.Runs.{IsSent, BeginsWithRun, AddsCounts};
 
-use crate::numbers::{address_digits, choose, push_all};
+use crate::json::after_first;
+use crate::numbers::{address_digits, choose, push_all, push_text};
+use crate::strings::push_between;
 use nc_decode::{Instr, decode};
+use nc_output::{Detail, Format};
 use std::alloc::{AllocError, Global};
 
 /// Adds the target of the instruction at this address, if it is a direct transfer to an address outside the code.
@@ -63,7 +66,7 @@ fn run_of(numbers: &[u32]) -> usize
 }
 
 /// Adds the line about an address and the number of transfers to it.
-fn push_row(out: &mut Vec<u8>, to: u32, times: usize) -> Result<(), AllocError>
+fn push_line(out: &mut Vec<u8>, to: u32, times: usize) -> Result<(), AllocError>
     ensures { OnOk result (out.new.items ≡ out.old.items ++ detail_line (row_words (record { to = to; times = times }))) }
 {
     let count = times.to_string(*out.allocator())?;
@@ -80,27 +83,75 @@ fn push_row(out: &mut Vec<u8>, to: u32, times: usize) -> Result<(), AllocError>
     )
 }
 
-/// Adds a line for each distinct one of these numbers, which are in ascending order, with the number of its occurrences.
-fn push_counts(out: &mut Vec<u8>, numbers: &[u32]) -> Result<(), AllocError>
+/// Adds the object for an address and the number of transfers to it, after a comma.
+fn push_object(out: &mut Vec<u8>, to: u32, times: usize) -> Result<(), AllocError>
+    ensures { OnOk result (out.new.items ≡ out.old.items ++ (codes "," ++ row_object (record { to = to; times = times }))) }
+{
+    let count = times.to_string(*out.allocator())?;
+    push_between(
+        out,
+        b",{\"to\":\"",
+        &address_digits(to),
+        b"\",\"transfers\":",
+    )?;
+    push_text(out, count.as_bytes())?;
+    push_text(out, b"}")
+}
+
+/// Adds the row of an address and the number of transfers to it.
+fn push_row(out: &mut Vec<u8>, to: u32, times: usize, format: Format) -> Result<(), AllocError>
+    ensures { OnOk result (out.new.items ≡ out.old.items ++ row_text format (record { to = to; times = times })) }
+{
+    match format {
+        Format::Text => push_line(out, to, times),
+        Format::Json => push_object(out, to, times),
+    }
+}
+
+/// Adds a row for each distinct one of these numbers, which are in ascending order, with the number of its occurrences.
+fn push_counts(out: &mut Vec<u8>, numbers: &[u32], format: Format) -> Result<(), AllocError>
     requires { IsNonDecreasing numbers.now }
-    ensures { OnOk result (AddsCounts numbers.now out.old.items out.new.items) }
+    ensures { OnOk result (AddsCounts format numbers.now out.old.items out.new.items) }
 {
     let mut rest = numbers;
     while !rest.is_empty() {
         let times = run_of(rest);
-        push_row(out, rest[0], times)?;
+        push_row(out, rest[0], times, format)?;
         rest = &rest[times..];
     }
     Ok(())
 }
 
-/// Adds the lines about the addresses outside some code that its direct transfers target.
-pub(crate) fn push_outside(out: &mut Vec<u8>, base: u32, code: &[u8]) -> Result<(), AllocError>
+/// Adds the rows about the addresses outside some code that its direct transfers target.
+fn push_rows(out: &mut Vec<u8>, base: u32, code: &[u8], format: Format) -> Result<(), AllocError>
     requires { base + length code.now < 2 ^ 32 }
     ensures { OnOk result ((pieces : List Piece) → AreSpelled pieces → code.now ≡ code_of pieces
-        → AddsLines out.old.items out.new.items (ListsOutside base pieces)) }
+        → AddsRows format out.old.items out.new.items base pieces) }
 {
     let mut sent = all_sent(*out.allocator(), base, code)?;
     sent.sort_unstable();
-    push_counts(out, &sent)
+    push_counts(out, &sent, format)
+}
+
+/// Adds the rows as lines, or as a member that is an array.
+pub(crate) fn push_calls(
+    out: &mut Vec<u8>,
+    base: u32,
+    code: &[u8],
+    format: Format,
+) -> Result<(), AllocError>
+    requires { base + length code.now < 2 ^ 32 }
+    ensures { OnOk result ((pieces : List Piece) → AreSpelled pieces → code.now ≡ code_of pieces
+        → AddsCalls Detail.Calls format out.old.items out.new.items base pieces) }
+{
+    match format {
+        Format::Text => push_rows(out, base, code, Format::Text),
+        Format::Json => {
+            let mut rows = Vec::new(*out.allocator());
+            push_rows(&mut rows, base, code, Format::Json)?;
+            push_text(out, b",\"calls\":[")?;
+            push_text(out, after_first(&rows))?;
+            push_text(out, b"]")
+        }
+    }
 }

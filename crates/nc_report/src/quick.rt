@@ -1,13 +1,13 @@
 //! The quick reading of bundles of a refused chunk, by the automaton.
 
 ghost use Rattle.std.specs.Prelude.{◌≡◌, ◌≤◌, ◌<◌, ◌+◌, ◌%◌, ◌++◌, ◌==◌, ℕ, List, Option, None, IsTrue, IsFalse, length, replicate, get_or, if◌then◌else◌};
-ghost use Rattle.nc_decode.specs.declared.automaton.TheConstants.{STATES, END};
+ghost use Rattle.nc_decode.specs.declared.automaton.TheConstants.{END};
 ghost use Rattle.nc_report.specs.declared.spot.Spot.{Spot};
 ghost use Rattle.nc_report.specs.machinery.Quick.{states_after, spot_by, spots_by, HasRead};
 ghost use Rattle.nc_report.specs.machinery.Seen.{HasFilled};
 
 use crate::spot::Spot;
-use nc_decode::{AFTER_PAIR, BUNDLE, END, advance};
+use nc_decode::{AFTER_PAIR, BUNDLE, END, Row};
 
 /// The number of bytes of four bundles.
 const FOUR: usize = 128;
@@ -16,7 +16,7 @@ const FOUR: usize = 128;
 #[derive(Drop)]
 struct Lane {
     /// The state after the last byte that is read.
-    state: usize,
+    state: Row,
     /// The state before the first byte, the state after each byte that is read, and 0 at the end. The spot of byte `k` follows
     /// from the elements `k` and `k + 2`, that of the last byte too, so LLVM computes spots by vectors.
     states: [u8; 34],
@@ -31,7 +31,7 @@ impl Lane {
         let mut states = [0; 34];
         states[0] = END;
         Lane {
-            state: END as usize,
+            state: Row::start(),
             states,
         }
     }
@@ -40,13 +40,11 @@ impl Lane {
     #[inline(always)]
     fn step(&mut self, i: usize, byte: u8)
         requires place { i < 32 }
-        requires state { self.old.state < STATES }
         ensures { (bytes : List ℕ) → length bytes ≡ 32 → byte ≡ get_or bytes i 0 → HasRead bytes i self.old.state self.old.states
             → HasRead bytes (i + 1) self.new.state self.new.states }
     {
-        let next = advance(self.state, byte);
-        self.states[i + 1] = next;
-        self.state = usize::from(next);
+        self.state = self.state.next(byte);
+        self.states[i + 1] = self.state.state();
     }
 
     /// Writes the spots of the bundle's bytes over as many that are `Inside`, if an instruction ends at the end of the bundle,

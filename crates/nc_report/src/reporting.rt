@@ -9,7 +9,7 @@ use crate::fault::ReportFault;
 use crate::source::Source;
 use crate::telling::tell;
 use nc_decode::{BUNDLE, START, is_region_size};
-use nc_output::Detail;
+use nc_output::Style;
 use std::alloc::Global;
 use std::io::Write;
 
@@ -19,17 +19,17 @@ fn tell_all<W: Write>(
     source: Source,
     base: u32,
     limit: u32,
-    detail: Detail,
+    style: Style,
     writer: &mut W,
 ) -> Result<bool, ReportFault>
-    ensures ok { IfOk result (λ refused. HasWritten (Tells limit base detail source.name.items source.code.items refused)
+    ensures ok { IfOk result (λ refused. HasWritten (Tells limit base style source.name.items source.code.items refused)
         (W.contents writer.old) (W.contents writer.new)) }
     ensures cut { OnErr result (HasBegun
-        (λ text. (refused : Bool) × Tells limit base detail source.name.items source.code.items refused text)
+        (λ text. (refused : Bool) × Tells limit base style source.name.items source.code.items refused text)
         (W.contents writer.old) (W.contents writer.new)) }
     ensures faults { IfErr result IsOfWriting }
 {
-    let refused = match tell(alloc, source, base, limit, detail, writer) {
+    let refused = match tell(alloc, source, base, limit, style, writer) {
         Ok(refused) => refused,
         Err(fault) => return Err(fault),
     };
@@ -42,11 +42,11 @@ fn tell_all<W: Write>(
 /// Vets a source as a chunk at this base in a region of `bundles` bundles, and writes the report on it. Returns whether it is
 /// refused.
 ///
-/// In text, an accepted source has a line with its name, `ok`, and the numbers of its bytes and of its instructions; with
-/// `Brief` it has none. A refused source first has a line with its name and the reply of `vet_lines` to a chunk with its
-/// fault. Further lines begin with two spaces, and `detail` says which they are. The name of the source is written unchanged,
-/// names of labels without control bytes. With `Object` the source has instead one JSON object on a line of its own, in which
-/// names are escaped.
+/// As text, an accepted source has a line with its name, `ok`, and the numbers of its bytes and of its instructions. A refused
+/// source first has a line with its name and the reply of `vet_lines` to a chunk with its fault. Further lines begin with two
+/// spaces, and `style.detail` says which they are. The name of the source is written unchanged, names of labels without control
+/// bytes. As JSON the source has one object on a line of its own, in which names are escaped. In brief nothing is written about
+/// an accepted source, and nothing about a refused one but its verdict.
 ///
 /// The source is vetted before any byte is written. The promises about bytes hold for a writer whose bytes are known;
 /// nothing is promised about when a device fails, or about the words on a fault.
@@ -55,7 +55,7 @@ pub fn report<W: Write>(
     source: Source,
     base: u32,
     bundles: u32,
-    detail: Detail,
+    style: Style,
     writer: &mut W,
 ) -> Result<bool, ReportFault>
     // The number of bundles is checked first, before anything is written.
@@ -64,26 +64,19 @@ pub fn report<W: Write>(
 
     // Exactly the report on the source was written, and the result says whether the source is refused.
     ensures ok { IfOk result (λ refused. HasWritten
-        (Tells (limit_after bundles) base detail source.name.items source.code.items refused)
+        (Tells (limit_after bundles) base style source.name.items source.code.items refused)
         (W.contents writer.old) (W.contents writer.new)) }
 
     // If the writer fails or memory runs out, nothing was written, or a prefix of a report on the source.
     ensures write_failed { IsErrOf result ReportFault.WriteFailed → HasBegun
-        (λ text. (refused : Bool) × Tells (limit_after bundles) base detail source.name.items source.code.items refused text)
+        (λ text. (refused : Bool) × Tells (limit_after bundles) base style source.name.items source.code.items refused text)
         (W.contents writer.old) (W.contents writer.new) }
     ensures out_of_memory { IsErrOf result ReportFault.OutOfMemory → HasBegun
-        (λ text. (refused : Bool) × Tells (limit_after bundles) base detail source.name.items source.code.items refused text)
+        (λ text. (refused : Bool) × Tells (limit_after bundles) base style source.name.items source.code.items refused text)
         (W.contents writer.old) (W.contents writer.new) }
 {
     if !is_region_size(bundles) {
         return Err(ReportFault::BadSize);
     }
-    tell_all(
-        alloc,
-        source,
-        base,
-        START + BUNDLE * bundles,
-        detail,
-        writer,
-    )
+    tell_all(alloc, source, base, START + BUNDLE * bundles, style, writer)
 }

@@ -1,34 +1,37 @@
 //! The report on one source.
 
-ghost use Rattle.std.specs.Prelude.{◌≡◌, ◌≢◌, ◌++◌, Bool, IfOk, IfErr, OnOk, OnErr};
+ghost use Rattle.std.specs.Prelude.{◌≡◌, ◌≢◌, ◌++◌, Bool, List, length, IfOk, IfErr, OnOk, OnErr};
 ghost use Rattle.nc_vet.specs.Faults.{HasFault};
 ghost use Rattle.nc_vet.specs.declared.fault.VetFault.TheVariants.{OutOfMemory};
 ghost use Rattle.nc_output.specs.Verdicts.{with_line_end, place_of};
-ghost use Rattle.nc_report.specs.Shown.{AreDetails};
-ghost use Rattle.nc_report.specs.Report.{said_of, accepted_words, refused_line, end_of, TellsAccepted, TellsFault, TellsMore, TellsRefused, Tells};
+ghost use Rattle.nc_vet.specs.Chunk.{Piece, code_of, AreSpelled};
+ghost use Rattle.nc_report.specs.Report.{said_of, accepted_words, ok_text, end_of, refused_line, refused_text, Shows};
+ghost use Rattle.nc_report.specs.Report.{TellsAccepted, TellsFault, TellsMore, TellsRefused, Tells};
 ghost use Rattle.nc_report.specs.Report.{HasWritten, HasBegun};
 ghost use Rattle.nc_report.specs.machinery.Added.{Adds, After, WritesOn, IsOfWriting};
-ghost use Rattle.nc_report.specs.machinery.Found.{IsPlaced, AddsAccepted};
+ghost use Rattle.nc_report.specs.machinery.Found.{IsPlaced, AddsCalls, AddsAccepted};
 
 use crate::advice::words_without_place;
 use crate::counting::count_instructions;
 use crate::explaining::push_finding;
 use crate::fault::ReportFault;
-use crate::finding::own_finding;
+use crate::finding::{Finding, own_finding};
+use crate::json::{no_members, push_members, with_string};
 use crate::judged::Judged;
+use crate::labels::Labels;
 use crate::numbers::{push_all, push_text};
-use crate::objects::{push_accepted_object, push_refused_object};
+use crate::objects::{finding_members, push_accepted_members, push_refused_members};
 use crate::others::write_others;
-use crate::outside::push_outside;
+use crate::outside::push_calls;
 use crate::shown::push_detail;
 use crate::source::Source;
-use nc_output::{Detail, place_of, push_fault, write_out};
+use nc_output::{Detail, Format, Style, place_of, push_fault, write_out};
 use nc_vet::{VetFault, Vetted, vet};
 use std::alloc::{AllocError, Global};
 use std::io::Write;
 
-/// Adds the verdict on an accepted source.
-fn push_ok(
+/// Adds the line that is the verdict on an accepted source.
+fn push_ok_line(
     out: &mut Vec<u8>,
     name: &[u8],
     bytes: usize,
@@ -40,13 +43,48 @@ fn push_ok(
     push_all(out, &[name, words.as_bytes()])
 }
 
-/// Adds the verdict on an accepted source, and the addresses outside it that its direct transfers target.
-fn push_calls(out: &mut Vec<u8>, name: &[u8], chunk: &Vetted) -> Result<(), AllocError>
-    ensures { OnOk result (AddsAccepted out.old.items out.new.items Detail.Calls name.now chunk.now) }
+/// Adds the beginning of the report on an accepted source.
+fn push_ok(
+    out: &mut Vec<u8>,
+    name: &[u8],
+    chunk: &Vetted,
+    instructions: usize,
+    format: Format,
+) -> Result<(), AllocError>
+    ensures { OnOk result (out.new.items
+        ≡ out.old.items ++ ok_text format chunk.now.base name.now (length chunk.now.code) instructions) }
 {
-    let code = chunk.code();
-    push_ok(out, name, code.len(), count_instructions(chunk))?;
-    push_outside(out, chunk.base(), code)
+    let bytes = chunk.code().len();
+    match format {
+        Format::Text => push_ok_line(out, name, bytes, instructions),
+        Format::Json => push_accepted_members(out, name, chunk.base(), bytes, instructions),
+    }
+}
+
+/// Adds the transfers of an accepted source to addresses outside it, if they are asked for.
+fn push_transfers(
+    out: &mut Vec<u8>,
+    chunk: &Vetted,
+    detail: Detail,
+    format: Format,
+) -> Result<(), AllocError>
+    ensures { OnOk result ((pieces : List Piece) → AreSpelled pieces → chunk.now.code ≡ code_of pieces
+        → AddsCalls detail format out.old.items out.new.items chunk.now.base pieces) }
+{
+    match detail {
+        Detail::Calls => push_calls(out, chunk.base(), chunk.code(), format),
+        _ => Ok(()),
+    }
+}
+
+/// Adds what ends a report.
+fn push_end(out: &mut Vec<u8>, format: Format) -> Result<(), AllocError>
+    ensures { OnOk result (out.new.items ≡ out.old.items ++ end_of format) }
+{
+    match format {
+        Format::Text => Ok(()),
+        Format::Json => push_text(out, b"}\n"),
+    }
 }
 
 /// Adds the report on an accepted source.
@@ -54,21 +92,19 @@ fn push_accepted(
     out: &mut Vec<u8>,
     name: &[u8],
     chunk: &Vetted,
-    detail: Detail,
+    style: Style,
 ) -> Result<(), AllocError>
-    ensures { OnOk result (AddsAccepted out.old.items out.new.items detail name.now chunk.now) }
+    ensures { OnOk result (AddsAccepted out.old.items out.new.items style name.now chunk.now) }
 {
-    let bytes = chunk.code().len();
-    match detail {
-        Detail::Brief => Ok(()),
-        Detail::Usual => push_ok(out, name, bytes, count_instructions(chunk)),
-        Detail::All => push_ok(out, name, bytes, count_instructions(chunk)),
-        Detail::Calls => push_calls(out, name, chunk),
-        Detail::Object => {
-            let count = count_instructions(chunk);
-            push_accepted_object(out, name, chunk.base(), bytes, count)
-        }
+    // Called for its postconditions.
+    let _facts = chunk.code();
+    match style.detail {
+        Detail::Brief => return Ok(()),
+        _ => {}
     }
+    push_ok(out, name, chunk, count_instructions(chunk), style.format)?;
+    push_transfers(out, chunk, style.detail, style.format)?;
+    push_end(out, style.format)
 }
 
 /// Writes the report on an accepted source.
@@ -76,17 +112,17 @@ fn tell_accepted<W: Write>(
     alloc: Global,
     name: &[u8],
     chunk: &Vetted,
-    detail: Detail,
+    style: Style,
     writer: &mut W,
 ) -> Result<(), ReportFault>
-    ensures ok { OnOk result (HasWritten (TellsAccepted chunk.now.limit chunk.now.base detail name.now chunk.now.code)
+    ensures ok { OnOk result (HasWritten (TellsAccepted chunk.now.limit chunk.now.base style name.now chunk.now.code)
         (W.contents writer.old) (W.contents writer.new)) }
-    ensures cut { OnErr result (HasBegun (TellsAccepted chunk.now.limit chunk.now.base detail name.now chunk.now.code)
+    ensures cut { OnErr result (HasBegun (TellsAccepted chunk.now.limit chunk.now.base style name.now chunk.now.code)
         (W.contents writer.old) (W.contents writer.new)) }
     ensures faults { IfErr result IsOfWriting }
 {
     let mut out = Vec::new(alloc);
-    match push_accepted(&mut out, name, chunk, detail) {
+    match push_accepted(&mut out, name, chunk, style) {
         Ok(()) => {}
         Err(_) => return Err(ReportFault::OutOfMemory),
     }
@@ -104,77 +140,118 @@ fn push_refusal(out: &mut Vec<u8>, name: &[u8], fault: VetFault) -> Result<(), A
     push_fault(out, fault)
 }
 
-/// Adds the lines about a fault.
-fn push_explained(out: &mut Vec<u8>, judged: &Judged<'_>, fault: VetFault) -> Result<(), AllocError>
+/// Adds the verdict on a refused source. Lack of memory is not a verdict: it is returned as an error.
+fn push_verdict(
+    out: &mut Vec<u8>,
+    name: &[u8],
+    base: u32,
+    fault: VetFault,
+    format: Format,
+) -> Result<(), AllocError>
+    ensures { OnOk result ((fault ≢ OutOfMemory) × (out.new.items ≡ out.old.items ++ refused_text format base name.now fault)) }
+{
+    match format {
+        Format::Text => push_refusal(out, name, fault),
+        Format::Json => push_refused_members(out, name, base, fault),
+    }
+}
+
+/// Adds what a fault without an address means.
+fn push_words(out: &mut Vec<u8>, words: &[u8], format: Format) -> Result<(), AllocError>
+    ensures { OnOk result (Adds out.old.items out.new.items (Shows format)) }
+{
+    match format {
+        Format::Text => push_detail(out, &[words]),
+        Format::Json => {
+            let members = with_string(no_members(*out.allocator()), b"meaning", words)?;
+            push_members(out, members)
+        }
+    }
+}
+
+/// Adds what is shown about a fault at an address.
+fn push_found(
+    out: &mut Vec<u8>,
+    labels: &Labels,
+    finding: &Finding<'_>,
+    format: Format,
+) -> Result<(), AllocError>
+    ensures { OnOk result (Adds out.old.items out.new.items (Shows format)) }
+{
+    match format {
+        Format::Text => push_finding(out, labels, finding),
+        Format::Json => {
+            let members = finding_members(*out.allocator(), labels, finding)?;
+            push_members(out, members)
+        }
+    }
+}
+
+/// Adds what is shown about a fault.
+fn push_explained(
+    out: &mut Vec<u8>,
+    judged: &Judged<'_>,
+    fault: VetFault,
+    format: Format,
+) -> Result<(), AllocError>
     requires { IsPlaced judged.now.base judged.now.code.now (place_of fault) }
-    ensures { OnOk result (Adds out.old.items out.new.items AreDetails) }
+    ensures { OnOk result (Adds out.old.items out.new.items (Shows format)) }
 {
     let Some(at) = place_of(fault) else {
         let words = words_without_place(*out.allocator(), judged, fault)?;
-        return push_detail(out, &[&words]);
+        return push_words(out, &words, format);
     };
     let place = (at - judged.base) as usize;
     let finding = own_finding(*out.allocator(), judged, fault, place)?;
-    push_finding(out, judged.labels, &finding)
+    push_found(out, judged.labels, &finding, format)
 }
 
-/// Adds the verdict on a refused source, and what is shown about its fault. Lack of memory is not a verdict: it is returned as an
-/// error.
+/// Adds the verdict on a refused source, and unless it is to be brief, what is shown about its fault. Lack of memory is not a
+/// verdict: it is returned as an error.
 fn push_refused(
     out: &mut Vec<u8>,
     name: &[u8],
     judged: &Judged<'_>,
     fault: VetFault,
-    detail: Detail,
+    style: Style,
 ) -> Result<(), AllocError>
     requires { IsPlaced judged.now.base judged.now.code.now (place_of fault) }
     ensures { OnOk result ((fault ≢ OutOfMemory)
-        × Adds out.old.items out.new.items (TellsFault detail judged.now.base name.now fault)) }
+        × Adds out.old.items out.new.items (TellsFault style.detail style.format judged.now.base name.now fault)) }
 {
-    match detail {
-        Detail::Object => push_refused_object(out, name, judged, fault),
-        Detail::Brief => push_refusal(out, name, fault),
-        _ => {
-            push_refusal(out, name, fault)?;
-            push_explained(out, judged, fault)
-        }
+    push_verdict(out, name, judged.base, fault, style.format)?;
+    match style.detail {
+        Detail::Brief => return Ok(()),
+        _ => {}
     }
+    push_explained(out, judged, fault, style.format)
 }
 
-/// Writes the lines about the other faults of a refused source, if they are asked for. Text that isn't written yet is kept
+/// Writes the text about the other faults of a refused source, if they are asked for. Text that isn't written yet is kept
 /// in `out`.
 fn write_more<W: Write>(
     out: &mut Vec<u8>,
     judged: &Judged<'_>,
     fault: VetFault,
-    detail: Detail,
+    style: Style,
     writer: &mut W,
 ) -> Result<(), ReportFault>
     requires { HasFault judged.now.base judged.now.limit judged.now.code.now fault }
     ensures ok { OnOk result (WritesOn (W.contents writer.old) (W.contents writer.new) out.old.items out.new.items
-        (TellsMore detail judged.now.limit judged.now.base judged.now.code.now fault)) }
+        (TellsMore style.detail style.format judged.now.limit judged.now.base judged.now.code.now fault)) }
     ensures cut { OnErr result (HasBegun (After out.old.items
-        (TellsMore detail judged.now.limit judged.now.base judged.now.code.now fault)) (W.contents writer.old) (W.contents writer.new)) }
+        (TellsMore style.detail style.format judged.now.limit judged.now.base judged.now.code.now fault)) (W.contents writer.old) (W.contents writer.new)) }
     ensures faults { IfErr result IsOfWriting }
 {
-    match detail {
+    match style.detail {
         Detail::All => {}
         _ => return Ok(()),
     }
     let Some(at) = place_of(fault) else {
         return Ok(());
     };
-    write_others(out, judged, (at - judged.base) as usize, writer)
-}
-
-/// Adds what ends the report on a refused source.
-fn push_end(out: &mut Vec<u8>, detail: Detail) -> Result<(), AllocError>
-    ensures { OnOk result (out.new.items ≡ out.old.items ++ end_of detail) }
-{
-    match detail {
-        Detail::Object => push_text(out, b"}\n"),
-        _ => Ok(()),
-    }
+    let own = (at - judged.base) as usize;
+    write_others(out, judged, fault, own, style.format, writer)
 }
 
 /// Writes the report on a refused source.
@@ -183,26 +260,26 @@ fn tell_refused<W: Write>(
     name: &[u8],
     judged: &Judged<'_>,
     fault: VetFault,
-    detail: Detail,
+    style: Style,
     writer: &mut W,
 ) -> Result<(), ReportFault>
     requires { HasFault judged.now.base judged.now.limit judged.now.code.now fault }
-    ensures ok { OnOk result (HasWritten (TellsRefused judged.now.limit judged.now.base detail name.now judged.now.code.now)
+    ensures ok { OnOk result (HasWritten (TellsRefused judged.now.limit judged.now.base style name.now judged.now.code.now)
         (W.contents writer.old) (W.contents writer.new)) }
-    ensures cut { OnErr result (HasBegun (TellsRefused judged.now.limit judged.now.base detail name.now judged.now.code.now)
+    ensures cut { OnErr result (HasBegun (TellsRefused judged.now.limit judged.now.base style name.now judged.now.code.now)
         (W.contents writer.old) (W.contents writer.new)) }
     ensures faults { IfErr result IsOfWriting }
 {
     let mut out = Vec::new(alloc);
-    match push_refused(&mut out, name, judged, fault, detail) {
+    match push_refused(&mut out, name, judged, fault, style) {
         Ok(()) => {}
         Err(_) => return Err(ReportFault::OutOfMemory),
     }
-    match write_more(&mut out, judged, fault, detail, writer) {
+    match write_more(&mut out, judged, fault, style, writer) {
         Ok(()) => {}
         Err(fault) => return Err(fault),
     }
-    match push_end(&mut out, detail) {
+    match push_end(&mut out, style.format) {
         Ok(()) => {}
         Err(_) => return Err(ReportFault::OutOfMemory),
     }
@@ -218,19 +295,19 @@ pub(crate) fn tell<W: Write>(
     source: Source,
     base: u32,
     limit: u32,
-    detail: Detail,
+    style: Style,
     writer: &mut W,
 ) -> Result<bool, ReportFault>
-    ensures ok { IfOk result (λ refused. HasWritten (Tells limit base detail source.name.items source.code.items refused)
+    ensures ok { IfOk result (λ refused. HasWritten (Tells limit base style source.name.items source.code.items refused)
         (W.contents writer.old) (W.contents writer.new)) }
     ensures cut { OnErr result (HasBegun
-        (λ text. (refused : Bool) × Tells limit base detail source.name.items source.code.items refused text)
+        (λ text. (refused : Bool) × Tells limit base style source.name.items source.code.items refused text)
         (W.contents writer.old) (W.contents writer.new)) }
     ensures faults { IfErr result IsOfWriting }
 {
     let Source { name, code, labels } = source;
     match vet(base, limit, code) {
-        Ok(chunk) => match tell_accepted(alloc, &name, &chunk, detail, writer) {
+        Ok(chunk) => match tell_accepted(alloc, &name, &chunk, style, writer) {
             Ok(()) => Ok(false),
             Err(fault) => Err(fault),
         },
@@ -241,7 +318,7 @@ pub(crate) fn tell<W: Write>(
                 code: &code,
                 labels: &labels,
             };
-            match tell_refused(alloc, &name, &judged, fault, detail, writer) {
+            match tell_refused(alloc, &name, &judged, fault, style, writer) {
                 Ok(()) => Ok(true),
                 Err(fault) => Err(fault),
             }

@@ -2,17 +2,20 @@
 
 ghost use Rattle.std.specs.Prelude.{false, ◌≡◌, ◌<◌, ◌≤◌, ◌+◌, ◌/◌, ◌^◌, ◌++◌, Bool, if◌then◌else◌, ◌==◌, codes, length, map, List, ℕ, OnOk};
 ghost use Rattle.std.specs.Fmt.{decimal};
-ghost use Rattle.nc_report.specs.Shown.{AreDetails, detail_line};
+ghost use Rattle.nc_report.specs.Shown.{detail_line};
+ghost use Rattle.nc_report.specs.Report.{Shows, counts_text};
 ghost use Rattle.nc_report.specs.Totals.{total, kinds_from, totals_line};
 ghost use Rattle.nc_report.specs.machinery.Added.{Adds};
 ghost use Rattle.nc_report.specs.machinery.Seen.{counted, kind_words};
 
 use crate::further::is_begun;
+use crate::json::{no_members, push_members as add_members, with_string};
 use crate::numbers::{choose, push_all, push_text};
 use crate::shown::push_detail;
 use crate::spot::{Spot, spot_at};
 use crate::words::NOT_IN_BUNDLES;
 use nc_decode::BUNDLE;
+use nc_output::Format;
 use nc_vet::VetFault;
 use std::alloc::AllocError;
 
@@ -130,24 +133,86 @@ fn push_totals(out: &mut Vec<u8>, counts: Counts) -> Result<(), AllocError>
     push_text(out, b"\n")
 }
 
-/// Adds that the code isn't in bundles, if more than half of them begin inside an instruction.
-fn push_adrift(out: &mut Vec<u8>, inside: usize, bundles: usize) -> Result<(), AllocError>
-    requires { inside < 2 ^ 62 }
-    ensures { OnOk result (Adds out.old.items out.new.items AreDetails) }
+/// Adds the member with the number of faults of each kind, after the end of the array of faults.
+fn push_members(out: &mut Vec<u8>, counts: Counts) -> Result<(), AllocError>
+    ensures { OnOk result (out.new.items ≡ out.old.items ++ counts_text Format.Json counts) }
 {
-    if 2 * inside <= bundles {
-        return Ok(());
-    }
-    let share = format!(in *out.allocator(); "the code isn't in bundles: {inside} of {bundles}")?;
-    push_detail(out, &[share.as_bytes(), NOT_IN_BUNDLES])
+    let Counts {
+        crosses,
+        not_permitted,
+        bare,
+        bad_target,
+    } = counts;
+    let first = format!(in *out.allocator(); "{crosses},\"NotPermitted\":{not_permitted}")?;
+    let second = format!(in *out.allocator(); "{bare},\"BadTarget\":{bad_target}")?;
+    push_all(
+        out,
+        &[
+            b"],\"counts\":{\"Crosses\":",
+            first.as_bytes(),
+            b",\"Bare\":",
+            second.as_bytes(),
+            b"}",
+        ],
+    )
 }
 
-/// Adds the last lines: the totals, and whether the code is in bundles.
-pub(crate) fn push_last(out: &mut Vec<u8>, counts: Counts, spots: &[Spot]) -> Result<(), AllocError>
+/// Adds the numbers of faults.
+fn push_counts(out: &mut Vec<u8>, counts: Counts, format: Format) -> Result<(), AllocError>
     requires { total counts < 2 ^ 63 }
-    ensures { OnOk result ((last : List ℕ) × AreDetails last
-        × (out.new.items ≡ out.old.items ++ (detail_line (totals_line counts) ++ last))) }
+    ensures { OnOk result (out.new.items ≡ out.old.items ++ counts_text format counts) }
 {
-    push_totals(out, counts)?;
-    push_adrift(out, count_inside(spots), spots.len() / BUNDLE as usize)
+    match format {
+        Format::Text => push_totals(out, counts),
+        Format::Json => push_members(out, counts),
+    }
+}
+
+/// Adds that this many of the bundles begin inside an instruction, so the code isn't in bundles.
+fn push_adrift(
+    out: &mut Vec<u8>,
+    inside: usize,
+    bundles: usize,
+    format: Format,
+) -> Result<(), AllocError>
+    ensures { OnOk result (Adds out.old.items out.new.items (Shows format)) }
+{
+    let alloc = *out.allocator();
+    let share = format!(in alloc; "the code isn't in bundles: {inside} of {bundles}")?;
+    match format {
+        Format::Text => push_detail(out, &[share.as_bytes(), NOT_IN_BUNDLES]),
+        Format::Json => {
+            let mut note = Vec::from_slice(alloc, share.as_bytes())?;
+            note.extend_from_slice(NOT_IN_BUNDLES)?;
+            let members = with_string(no_members(alloc), b"note", &note)?;
+            add_members(out, members)
+        }
+    }
+}
+
+/// Adds whether the code is in bundles, if more than half of them begin inside an instruction.
+fn push_note(out: &mut Vec<u8>, spots: &[Spot], format: Format) -> Result<(), AllocError>
+    ensures { OnOk result (Adds out.old.items out.new.items (Shows format)) }
+{
+    let bundles = spots.len() / BUNDLE as usize;
+    let inside = count_inside(spots);
+    if inside <= bundles / 2 {
+        return Ok(());
+    }
+    push_adrift(out, inside, bundles, format)
+}
+
+/// Adds the last of what is shown: the totals, and whether the code is in bundles.
+pub(crate) fn push_last(
+    out: &mut Vec<u8>,
+    counts: Counts,
+    spots: &[Spot],
+    format: Format,
+) -> Result<(), AllocError>
+    requires { total counts < 2 ^ 63 }
+    ensures { OnOk result ((last : List ℕ) × Shows format last
+        × (out.new.items ≡ out.old.items ++ (counts_text format counts ++ last))) }
+{
+    push_counts(out, counts, format)?;
+    push_note(out, spots, format)
 }

@@ -1,6 +1,12 @@
--- The answers that a run of a script wrote.
-use Rattle.std.specs.Prelude.{ℕ, List, Option}
-use Rattle.nc_lines.specs.Answering.{IsAnswered}
+-- What a run of a script does.
+use Rattle.std.specs.Prelude.{◌≡◌, ◌≢◌, ◌⊎◌, ◌↔◌, ℕ, List, Option, Result, OnOk, IfErr, IfSome, IsErrOf}
+use Rattle.std.specs.Io.KnownBytes.{Consumes, IsAtEnd}
+use Rattle.nc_decode.specs.Bundles.{IsRegionSize}
+use Rattle.nc_gens.specs.Seen.{AreSeats}
+use Rattle.nc_lines.specs.declared.fault.ReplayFault.{ReplayFault}
+use Rattle.nc_lines.specs.declared.fault.ReplayFault.TheVariants.{ReadFailed, WriteFailed, OutOfMemory, BadSize, BadSeats, BadWorkers}
+use Rattle.nc_lines.specs.Lines.{lines_of, ended_lines}
+use Rattle.nc_lines.specs.Answering.{IsAnswered, IsBegun, IsCutShort}
 use Rattle.nc_script.specs.Answers.{AnswersOnly, new_script}
 use Rattle.nc_script.specs.Script.{Script}
 
@@ -8,3 +14,28 @@ use Rattle.nc_script.specs.Script.{Script}
 abbrev pub HasAnswered : ℕ → ℕ → Option (List ℕ) → Option (List ℕ) → List (List ℕ) → Type 0
 HasAnswered bundles seats before after lines =
     (new : Script) × IsAnswered AnswersOnly (new_script bundles seats) new before after lines
+
+-- What a run of a script has done, by its result: the reader was `reader` before it and `left` after it, and the writer `writer` and
+-- `after`. `remaining` is what a reader has left to read, and `contents` what a writer has.
+pub record HasRun {R W T : Type 0} (bundles seats : ℕ) (remaining : R → Option (List ℕ)) (contents : W → Option (List ℕ))
+    (reader left : R) (writer after : W) (result : Result T ReplayFault) : Type 0 where
+  -- The two numbers are checked first, in this order, before anything is read or written.
+  pub bad_size : IsErrOf result BadSize ↔ ¬ IsRegionSize bundles
+  pub bad_seats : IsErrOf result BadSeats ↔ (IsRegionSize bundles × ¬ AreSeats seats)
+  pub no_workers : IfErr result (λ fault. fault ≢ BadWorkers)
+  pub untouched : ¬ (IsRegionSize bundles × AreSeats seats) → (left ≡ reader) × (after ≡ writer)
+  -- The whole input was read, and exactly the answers to its lines were written.
+  pub ok : OnOk result (IfSome (remaining reader) (λ input.
+      HasAnswered bundles seats (contents writer) (contents after) (lines_of input)))
+  pub read : OnOk result (IsAtEnd (remaining left))
+  -- A prefix of the answers was written.
+  pub write_failed : IsErrOf result WriteFailed → IfSome (remaining reader) (λ input.
+      IsBegun AnswersOnly (new_script bundles seats) (contents writer) (contents after) (lines_of input))
+  -- Exactly the answers to the lines whose line end was read were written.
+  pub read_failed : IsErrOf result ReadFailed → (front : List ℕ) × Consumes (remaining reader) (remaining left) front
+      × HasAnswered bundles seats (contents writer) (contents after) (ended_lines front)
+  -- Exactly the answers to the lines before the one that failed were written, or there was no memory for the region, and nothing was
+  -- read or written.
+  pub out_of_memory : IsErrOf result OutOfMemory
+      → ((left ≡ reader) × (after ≡ writer)) ⊎ IfSome (remaining reader) (λ input.
+      IsCutShort AnswersOnly (new_script bundles seats) (contents writer) (contents after) (lines_of input))

@@ -1,6 +1,6 @@
 //! Running a script from a reader to a writer.
 
-ghost use Rattle.std.specs.Prelude.{◌≡◌, ◌++◌, ◌⊎◌, ◌↔◌, ◌≢◌, ℕ, List, OnOk, IfErr, IfSome, IsErrOf};
+ghost use Rattle.std.specs.Prelude.{◌≡◌, ◌⊎◌, ◌≢◌, ℕ, List, OnOk, IfErr, IfSome, IsErrOf};
 ghost use Rattle.std.specs.Io.KnownBytes.{Consumes, IsAtEnd};
 ghost use Rattle.nc_gens.specs.Seen.{AreSeats};
 ghost use Rattle.nc_decode.specs.Bundles.{IsRegionSize};
@@ -8,7 +8,7 @@ ghost use Rattle.nc_lines.specs.Lines.{lines_of, ended_lines};
 ghost use Rattle.nc_lines.specs.Answering.{IsBegun, IsCutShort};
 ghost use Rattle.nc_script.specs.Answers.{AnswersOnly, new_script};
 ghost use Rattle.nc_script.specs.Laws.{BeginsAll, HasOneReply, FreesByLeast, LeavesOpen};
-ghost use Rattle.nc_script.specs.Run.{HasAnswered};
+ghost use Rattle.nc_script.specs.Run.{HasAnswered, HasRun};
 
 use crate::session::Session;
 use nc_decode::is_region_size;
@@ -33,31 +33,7 @@ pub fn run<R: Read, W: Write>(
     bundles: u32,
     seats: u32,
 ) -> Result<(), ReplayFault>
-    // The two numbers are checked first, in this order, before anything is read or written.
-    ensures bad_size { IsErrOf result ReplayFault.BadSize ↔ ¬ IsRegionSize bundles }
-    ensures bad_seats { IsErrOf result ReplayFault.BadSeats ↔ (IsRegionSize bundles × ¬ AreSeats seats) }
-    ensures no_workers { IfErr result (λ fault. fault ≢ ReplayFault.BadWorkers) }
-    ensures untouched { ¬ (IsRegionSize bundles × AreSeats seats) → (reader.new ≡ reader.old) × (writer.new ≡ writer.old) }
-
-    // The whole input was read, and exactly the answers to its lines were written.
-    ensures ok { OnOk result (IfSome (R.remaining reader.old) (λ input.
-        HasAnswered bundles seats (W.contents writer.old) (W.contents writer.new) (lines_of input))) }
-    ensures read { OnOk result (IsAtEnd (R.remaining reader.new)) }
-
-    // A prefix of the answers was written.
-    ensures write_failed { IsErrOf result ReplayFault.WriteFailed → IfSome (R.remaining reader.old) (λ input.
-        IsBegun AnswersOnly (new_script bundles seats) (W.contents writer.old) (W.contents writer.new) (lines_of input)) }
-
-    // Exactly the answers to the lines whose line end was read were written.
-    ensures read_failed { IsErrOf result ReplayFault.ReadFailed → (front : List ℕ)
-        × Consumes (R.remaining reader.old) (R.remaining reader.new) front
-        × HasAnswered bundles seats (W.contents writer.old) (W.contents writer.new) (ended_lines front) }
-
-    // Exactly the answers to the lines before the one that failed were written, or there was no memory for the region, and
-    // nothing was read or written.
-    ensures out_of_memory { IsErrOf result ReplayFault.OutOfMemory
-        → ((reader.new ≡ reader.old) × (writer.new ≡ writer.old)) ⊎ IfSome (R.remaining reader.old) (λ input.
-        IsCutShort AnswersOnly (new_script bundles seats) (W.contents writer.old) (W.contents writer.new) (lines_of input)) }
+    ensures { HasRun bundles seats R.remaining W.contents reader.old reader.new writer.old writer.new result }
 {
     run_gathered(alloc, reader, writer, bundles, seats, 0)
 }
@@ -72,31 +48,7 @@ pub fn run_gathered<R: Read, W: Write>(
     seats: u32,
     most: usize,
 ) -> Result<(), ReplayFault>
-    // The two numbers are checked first, in this order, before anything is read or written.
-    ensures bad_size { IsErrOf result ReplayFault.BadSize ↔ ¬ IsRegionSize bundles }
-    ensures bad_seats { IsErrOf result ReplayFault.BadSeats ↔ (IsRegionSize bundles × ¬ AreSeats seats) }
-    ensures no_workers { IfErr result (λ fault. fault ≢ ReplayFault.BadWorkers) }
-    ensures untouched { ¬ (IsRegionSize bundles × AreSeats seats) → (reader.new ≡ reader.old) × (writer.new ≡ writer.old) }
-
-    // The whole input was read, and exactly the answers to its lines were written.
-    ensures ok { OnOk result (IfSome (R.remaining reader.old) (λ input.
-        HasAnswered bundles seats (W.contents writer.old) (W.contents writer.new) (lines_of input))) }
-    ensures read { OnOk result (IsAtEnd (R.remaining reader.new)) }
-
-    // A prefix of the answers was written.
-    ensures write_failed { IsErrOf result ReplayFault.WriteFailed → IfSome (R.remaining reader.old) (λ input.
-        IsBegun AnswersOnly (new_script bundles seats) (W.contents writer.old) (W.contents writer.new) (lines_of input)) }
-
-    // Exactly the answers to the lines whose line end was read were written.
-    ensures read_failed { IsErrOf result ReplayFault.ReadFailed → (front : List ℕ)
-        × Consumes (R.remaining reader.old) (R.remaining reader.new) front
-        × HasAnswered bundles seats (W.contents writer.old) (W.contents writer.new) (ended_lines front) }
-
-    // Exactly the answers to the lines before the one that failed were written, or there was no memory for the region, and
-    // nothing was read or written.
-    ensures out_of_memory { IsErrOf result ReplayFault.OutOfMemory
-        → ((reader.new ≡ reader.old) × (writer.new ≡ writer.old)) ⊎ IfSome (R.remaining reader.old) (λ input.
-        IsCutShort AnswersOnly (new_script bundles seats) (W.contents writer.old) (W.contents writer.new) (lines_of input)) }
+    ensures { HasRun bundles seats R.remaining W.contents reader.old reader.new writer.old writer.new result }
 {
     if !is_region_size(bundles) {
         return Err(ReplayFault::BadSize);

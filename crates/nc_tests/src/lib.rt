@@ -1,6 +1,6 @@
 //! Tests of behaviour that the built programs and the library for C don't show. The other tests are rows of text in
-//! `tests/scripts` and `tests/reports`, which `tools/try-scripts` and `tools/try-check` run, and Python in `tests/library`,
-//! which `tools/try-library` runs.
+//! `tests/scripts` and `tests/reports`, which `tools/try/scripts` and `tools/try/check` run, and Python in `tests/library`,
+//! which `tools/try/library` runs.
 //!
 //! A crate with tests is proved once more for them, and its must-fail edits wait for that proof. These tests are therefore in
 //! a crate above the others, and use only the names that those export.

@@ -23,25 +23,25 @@ bit_of_half n k =
 pub lowest_place : (n : ℕ) → 0 < n → n < 2 ^ 32 → trailing_zeros w32 n < 32
 lowest_place n some fits = (bit_at-trailing_zeros w32 n some fits).0
 
--- it is set
+-- the lowest bit of a word that isn't 0 is set
 pub lowest_set : (n : ℕ) → 0 < n → n < 2 ^ 32 → bit_at n (trailing_zeros w32 n) ≡ 1
 lowest_set n some fits = (bit_at-trailing_zeros w32 n some fits).1
 
--- no lower one is
+-- no bit of a word below its lowest is set
 pub none_lower : (n : ℕ) → 0 < n → n < 2 ^ 32 → (i : ℕ) → i < trailing_zeros w32 n → bit_at n i ≡ 0
 none_lower n some fits = (bit_at-trailing_zeros w32 n some fits).2
 
--- cleared, it isn't set
+-- the lowest bit of a word, once cleared, isn't set
 pub lowest_cleared : (n : ℕ) → 0 < n → n < 2 ^ 32
     → bit_at (bit_and n (bit_not w32 (1 * 2 ^ trailing_zeros w32 n % 2 ^ 32))) (trailing_zeros w32 n) ≡ 0
 lowest_cleared n some fits = bit_at_clear_same w32 n (trailing_zeros w32 n) (lowest_place n some fits)
 
--- and the others stay
+-- clearing the lowest bit of a word leaves the others
 pub others_left : (n : ℕ) → 0 < n → n < 2 ^ 32 → (i : ℕ) → i < 32 → i ≢ trailing_zeros w32 n
     → bit_at (bit_and n (bit_not w32 (1 * 2 ^ trailing_zeros w32 n % 2 ^ 32))) i ≡ bit_at n i
 others_left n some fits i lt ne = bit_at_clear_other w32 n (trailing_zeros w32 n) (lowest_place n some fits) i lt ne
 
--- so the number is smaller
+-- clearing the lowest bit of a word makes it smaller
 pub fewer_left : (n : ℕ) → 0 < n → n < 2 ^ 32 → bit_and n (bit_not w32 (1 * 2 ^ trailing_zeros w32 n % 2 ^ 32)) < n
 fewer_left n some fits =
     let other : bit_and n (bit_not w32 (1 * 2 ^ trailing_zeros w32 n % 2 ^ 32)) ≢ n = λ same. (

@@ -21,7 +21,7 @@ masked_for IndirectJump r m is indirect = is
 masked_for IndirectCall r m is indirect = is
 masked_for Stop r m is other = let idle : false ≡ true = other in cc
 
--- a permitted instruction stands there
+-- a state at whose place a permitted instruction stands stands in the region
 stands_in_region : (text : List ℕ) (now : State) (found : Option Instr) → instruction_at text now.place ≡ found
     → IsSomeAnd found (IsPermitted now) → InRegion text now.place → StandsInRegion text now
 stands_in_region text now None e is inside = absurd is

@@ -59,7 +59,7 @@ spanned {X = X} d f g size start ys fits within others =
     seen : (h : ℕ → X) (k : ℕ) → k < size → get_or (map h (range_with_len 0 size)) k d ≡ h k
     seen h k inside = get_or-map-range_with_len h 0 size k k d inside (omega arith)
 
--- so with the bytes of a table that was lent
+-- a span of bytes replaced in a table that was lent is replaced in the text's bytes
 pub bytes_spanned : (old lent new : List Slot) (size at : ℕ) (bytes : List ℕ) (now : TextState) → lent ≡ old → text_of old size ≡ now
     → at - 65536 + length bytes ≤ length now.marked.bytes
     → ((k : ℕ) → k < length bytes → byte_of new (at - 65536 + k) ≡ get_or bytes k 0)
@@ -71,7 +71,7 @@ bytes_spanned old lent new size at bytes now loan view fits within others =
     (λ k out. others k out ∙ ap (λ (ps : List Slot). byte_of ps k) loan)
     ∙ ap (λ (t : TextState). with_span t.marked.bytes (at - 65536) bytes) view
 
--- and with its marks
+-- a span of marks replaced in a table that was lent is replaced in the text's marks
 pub marks_spanned : (old lent new : List Slot) (size at : ℕ) (marks : List Mark) (now : TextState) → lent ≡ old → text_of old size ≡ now
     → at - 65536 + length marks ≤ length now.marked.bytes
     → ((k : ℕ) → k < length marks → mark_in_pages new (at - 65536 + k) ≡ get_or marks k Unmarked)

@@ -2,6 +2,7 @@
 use Rattle.std.proofs.Common.{◌≡◌, ◌≢◌, ℕ, ◌+◌, ◌/◌, ◌%◌, ◌<◌, ◌≤◌, Bool, true, false, suc, zero, List, [], ◌∷◌, map, length}
 use Rattle.std.proofs.Common.{get_or, set, replicate, Some, None, arith, ◌⊎◌, refl, sym, ap, subst, ◌∙◌, inl, inr}
 use Rattle.std.specs.Prelude.{Box}
+use Rattle.std.specs.Box.{with_value}
 use Rattle.std.specs.declared.alloc.Global.{Global}
 use Rattle.std.specs.Option.{is_some}
 use Rattle.std.specs.List.{range_with_len}
@@ -34,7 +35,7 @@ bare_at k lt =
 pub unused_mark_in : (k : ℕ) → unused_mark (k % 32) ≡ unused_mark k
 unused_mark_in k = let e : k % 32 % 32 ≡ k % 32 = omega arith in grind (arith, nat_tests, e)
 
--- and by its number on the page
+-- an unused place has the same mark by its number on the page
 pub unused_mark_on : (k : ℕ) → unused_mark (k % 4096) ≡ unused_mark k
 unused_mark_on k = let e : k % 4096 % 32 ≡ k % 32 = omega arith in grind (arith, nat_tests, e)
 
@@ -82,6 +83,22 @@ one_page F pages i new k inside same =
       | inr other ↦ ap (λ (o : Slot). F o (k % 4096)) (get_or-set_other pages i (k / 4096) new None other)
     ]
 
+-- a page that was lent and came back as another: the byte of a place that is the same on both
+pub byte_kept : (pages : List Slot) (i k : ℕ) (boxed : Box Page Global) (old new : Page) → get_or pages i None ≡ Some boxed
+    → old ≡ boxed.value → i < length pages → (k / 4096 ≡ i → byte_on new (k % 4096) ≡ byte_on old (k % 4096))
+    → byte_of (set pages i (Some (with_value boxed new))) k ≡ byte_of pages k
+byte_kept pages i k boxed old new e is inside same =
+    one_page byte_if_made pages i (Some (with_value boxed new)) k inside (λ here. same here
+    ∙ (ap (λ (p : Page). byte_on p (k % 4096)) is ∙ ap (λ (o : Slot). byte_if_made o (k % 4096)) (sym e)))
+
+-- a mark in a table stays where a page is changed to one with the same mark there
+pub mark_kept : (pages : List Slot) (i k : ℕ) (boxed : Box Page Global) (old new : Page) → get_or pages i None ≡ Some boxed
+    → old ≡ boxed.value → i < length pages → (k / 4096 ≡ i → mark_on new (k % 4096) ≡ mark_on old (k % 4096))
+    → mark_in_pages (set pages i (Some (with_value boxed new))) k ≡ mark_in_pages pages k
+mark_kept pages i k boxed old new e is inside same =
+    one_page mark_if_made pages i (Some (with_value boxed new)) k inside (λ here. same here
+    ∙ (ap (λ (p : Page). mark_on p (k % 4096)) is ∙ ap (λ (o : Slot). mark_if_made o (k % 4096)) (sym e)))
+
 -- what is said of a place, by the page of another place
 pub same_page : {X : Type 0} (F : Slot → ℕ → X) (pages : List Slot) (at k : ℕ) → at % 4096 + k < 4096
     → F (get_or pages ((at + k) / 4096) None) ((at + k) % 4096) ≡ F (get_or pages (at / 4096) None) (at % 4096 + k)
@@ -103,13 +120,13 @@ made_at [] i = refl
 made_at (page ∷ pages) zero = refl
 made_at (page ∷ pages) (suc i) = made_at pages i
 
--- the same pages are made where one was changed
+-- a page changed to one that is made, or not, like it leaves which pages are made
 pub same_made : (pages : List Slot) (i : ℕ) (new : Slot) → is_some new ≡ is_some (get_or pages i None)
     → map is_some (set pages i new) ≡ map is_some pages
 same_made pages i new e =
     map-set is_some pages i new ∙ (ap (set (map is_some pages) i) (e ∙ sym (made_at pages i)) ∙ set-get_or (map is_some pages) i false)
 
--- so a page is made here where it is made there
+-- a page is made in one table where it is made in another with the same pages made
 pub made_too : (pages others : List Slot) (i : ℕ) → map is_some pages ≡ map is_some others → is_some (get_or others i None) ≡ true
     → is_some (get_or pages i None) ≡ true
 made_too pages others i same made =
@@ -126,7 +143,7 @@ same_all d f g n same =
     get_or-map-range_with_len g 0 n k k d short (omega arith)
     ∙ (same k short ∙ sym (get_or-map-range_with_len f 0 n k k d short (omega arith))))
 
--- or which agree but at one place
+-- lists that are made from functions which agree but at one place
 pub same_but_one : {X : Type 0} (d : X) (f g : ℕ → X) (n at : ℕ) (x : X) → at < n → g at ≡ x → ((k : ℕ) → k ≢ at → g k ≡ f k)
     → map g (range_with_len 0 n) ≡ set (map f (range_with_len 0 n)) at x
 same_but_one d f g n at x inside here other =
@@ -147,7 +164,7 @@ bare_if_none : (o : Slot) (k : ℕ) → is_some o ≡ false → mark_if_made o (
 bare_if_none None k unmade = unused_mark_on k
 bare_if_none (Some page) k contrary = let idle : true ≡ false = contrary in cc
 
--- so it is at each place of it
+-- a place on a page of the table that is not made is marked if it is a bundle start
 pub bare_if_unmade : (pages : List Slot) (k : ℕ) → is_some (get_or pages (k / 4096) None) ≡ false → mark_in_pages pages k ≡ unused_mark k
 bare_if_unmade pages k unmade = bare_if_none (get_or pages (k / 4096) None) k unmade
 
@@ -167,7 +184,7 @@ pub record IsMaking (old new : List Slot) (first i : ℕ) : Type 0 where
   pub bytes : (k : ℕ) → byte_of new k ≡ byte_of old k
   pub marks : (k : ℕ) → mark_in_pages new k ≡ mark_in_pages old k
 
--- one more that was made already
+-- pages are made as far as one more that was made already
 pub making_made : (old new : List Slot) (first i : ℕ) → IsMaking old new first i → is_some (get_or new i None) ≡ true
     → IsMaking old new first (i + 1)
 making_made old new first i so here =
@@ -183,7 +200,7 @@ making_made old new first i so here =
       marks = so.marks;
     }
 
--- one more that is made now
+-- pages are made as far as one more that is made now
 pub making_more : (old new : List Slot) (first i : ℕ) (page : Box Page Global) → IsMaking old new first i → first ≤ i → i < length new
     → get_or new i None ≡ None → ((k : ℕ) → k < 4096 → byte_on page.value k ≡ 244)
     → ((k : ℕ) → k < 4096 → mark_on page.value k ≡ unused_mark k) → IsMaking old (set new i (Some page)) first (i + 1)

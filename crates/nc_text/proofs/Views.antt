@@ -24,11 +24,11 @@ pub whole_slice : {X : Type 0} → (new old : List X) (n : ℕ) → n ≡ length
 whole_slice new old n e long =
     ap (λ xs. take n (new ++ xs)) (drop_all (length new) old (omega arith)) ∙ (ap (take n) (append-nil new) ∙ take_all n new (omega arith))
 
--- as many bytes as places, and as many marks
+-- a text has as many bytes as places
 pub bytes_long : (pages : List Slot) (size : ℕ) → length (text_of pages size).marked.bytes ≡ size
 bytes_long pages size = length-map-range_with_len (byte_of pages) 0 size
 
--- so with the marks
+-- a text has as many marks as places
 pub marks_long : (pages : List Slot) (size : ℕ) → length (text_of pages size).marked.marks ≡ size
 marks_long pages size = length-map-range_with_len (mark_in_pages pages) 0 size
 
@@ -36,11 +36,21 @@ marks_long pages size = length-map-range_with_len (mark_in_pages pages) 0 size
 pub byte_seen : (pages : List Slot) (size k : ℕ) → k < size → get_or (text_of pages size).marked.bytes k 0 ≡ byte_of pages k
 byte_seen pages size k inside = get_or-map-range_with_len (byte_of pages) 0 size k k 0 inside (omega arith)
 
--- the mark there
+-- the mark of a place of a text is that in its pages
 pub mark_seen : (pages : List Slot) (size k : ℕ) → k < size → get_or (text_of pages size).marked.marks k Unmarked ≡ mark_in_pages pages k
 mark_seen pages size k inside = get_or-map-range_with_len (mark_in_pages pages) 0 size k k Unmarked inside (omega arith)
 
--- a byte in a table that was lent
+-- a place of the region is one of the table
+pub place_inside : (old : List Slot) (size k : ℕ) (now : TextState) → text_of old size ≡ now → k < length now.marked.bytes → k < size
+place_inside old size k now view inside = omega (arith, bytes_long old size, ap (λ (t : TextState). length t.marked.bytes) view, inside)
+
+-- the page of a place of the region is in a table that was lent
+pub page_inside : (old lent : List Slot) (size k : ℕ) (now : TextState) → lent ≡ old → text_of old size ≡ now → length old ≡ (size + 4095) / 4096
+    → k < length now.marked.bytes → k / 4096 < length lent
+page_inside old lent size k now loan view long inside =
+    omega (arith, place_inside old size k now view inside, ap (λ (ps : List Slot). length ps) loan, long)
+
+-- a byte in a table that was lent is the text's
 pub byte_there : (old lent : List Slot) (size at k : ℕ) (now : TextState) → lent ≡ old → text_of old size ≡ now → 65536 ≤ at
     → at - 65536 + k < length now.marked.bytes → byte_of lent (at - 65536 + k) ≡ byte_at now.marked.bytes (at + k)
 byte_there old lent size at k now loan view low inside =
@@ -51,7 +61,7 @@ byte_there old lent size at k now loan view low inside =
     ∙ (ap (λ (t : TextState). get_or t.marked.bytes (at - 65536 + k) 0) view
     ∙ ap (λ (j : ℕ). get_or now.marked.bytes j 0) moved))
 
--- and a mark
+-- a mark in a table that was lent is the text's
 pub mark_there : (old lent : List Slot) (size at k : ℕ) (now : TextState) → lent ≡ old → text_of old size ≡ now → 65536 ≤ at
     → at - 65536 + k < length now.marked.bytes → mark_in_pages lent (at - 65536 + k) ≡ mark_at now.marked.marks (at + k)
 mark_there old lent size at k now loan view low inside =
@@ -85,7 +95,7 @@ state_is bs cs ms ns ds es b m d =
     ap (λ (xs : List ℕ). state (both xs ms) ds) b
     ∙ (ap (λ (xs : List Mark). state (both cs xs) ds) m ∙ ap (λ (xs : List Bool). state (both cs ns) xs) d)
 
--- one byte put
+-- a byte put in a table is put in its text
 pub put_seen : (old new : List Slot) (size at byte : ℕ) → at < size → byte_of new at ≡ byte
     → ((k : ℕ) → k ≢ at → byte_of new k ≡ byte_of old k) → ((k : ℕ) → mark_in_pages new k ≡ mark_in_pages old k)
     → map is_some new ≡ map is_some old
@@ -128,7 +138,7 @@ text_with_byte marked at byte is closed =
       closed = closed;
     }
 
--- so is one with the marks of a span set
+-- a text with the marks of a span set is one if it is closed
 pub text_with_marks : (marked : MarkedText) (at : ℕ) (marks : List Mark) → (at - 65536) + length marks ≤ length marked.bytes
     → IsText marked → IsClosed marked.bytes (with_marks marked at marks).marks → IsText (with_marks marked at marks)
 text_with_marks marked at marks fits is closed =
@@ -144,7 +154,7 @@ pub record IsSeenAs (table : List Slot) (size : ℕ) (new : TextState) : Type 0 
   pub whole : IsText new.marked
   pub long : length table ≡ (size + 4095) / 4096
 
--- and what they then keep
+-- a table that is seen as a text keeps the text's invariant
 pub keeps_invariant : (table : List Slot) (size : ℕ) (new : TextState) → IsSeenAs table size new
     → IsText (text_of table size).marked × (length table ≡ (size + 4095) / 4096)
 keeps_invariant table size new is = (subst (λ (t : TextState). IsText t.marked) (sym is.seen) is.whole, is.long)
@@ -206,7 +216,7 @@ ready_made old lent size at k now loan view low ready =
     ap (λ (ps : List Slot). is_some (get_or ps ((at - 65536 + k) / 4096) None)) loan
     ∙ (sym (made_at old ((at - 65536 + k) / 4096)) ∙ (ap (λ (t : TextState). get_or t.made ((at - 65536 + k) / 4096) false) view ∙ here))
 
--- and the other way round
+-- a place that lies on a page of the table that is made is ready
 pub made_ready : (table : List Slot) (size at k : ℕ) (now : TextState) → text_of table size ≡ now → 65536 ≤ at
     → is_some (get_or table ((at - 65536 + k) / 4096) None) ≡ true → IsReady now.made (at + k)
 made_ready table size at k now view low made =
@@ -219,7 +229,7 @@ pub place_on : (start len i last : ℕ) → 0 < len → start / 4096 ≤ i → i
     → (4096 * i - start < len) × ((start + (4096 * i - start)) / 4096 ≡ i)
 place_on start len i last some low high is = (omega arith, omega arith)
 
--- and each place lies on a page of it
+-- each place of a span lies on a page of it
 pub page_within : (start len k last : ℕ) → k < len → last ≡ (start + len) / 4096 + min 1 ((start + len) % 4096)
     → (start / 4096 ≤ (start + k) / 4096) × ((start + k) / 4096 < last)
 page_within start len k last within is = (omega arith, omega arith)
@@ -233,7 +243,7 @@ all_made table size at len last now view low some end ready i from below =
     subst (λ (j : ℕ). is_some (get_or table j None) ≡ true) on.1
     (ready_made table table size at (4096 * i - (at - 65536)) now refl view low (ready (4096 * i - (at - 65536)) on.0))
 
--- and a span is ready whose pages are made
+-- a span is ready if its pages are made
 pub all_ready : (table : List Slot) (size at len last : ℕ) (now : TextState) → text_of table size ≡ now → 65536 ≤ at
     → last ≡ (at - 65536 + len) / 4096 + min 1 ((at - 65536 + len) % 4096) →
     ((i : ℕ) → (at - 65536) / 4096 ≤ i → i < last → is_some (get_or table i None) ≡ true) → AreReady now.made at len
@@ -309,7 +319,7 @@ unused_mark_up k = let e : (65536 + k) % 32 ≡ k % 32 = omega arith in grind (a
 abbrev pub unmade : Slot
 unmade = None
 
--- none at any number
+-- a list of unmade pages has none made at any number
 pub unmade_at : (n i : ℕ) → get_or (replicate n unmade) i None ≡ None
 unmade_at n i =
     elim (cases_lt i n) [
@@ -317,12 +327,12 @@ unmade_at n i =
       | inr past ↦ get_or_past (replicate n unmade) i None (let long = length-replicate n unmade in omega (arith, long))
     ]
 
--- each of so many pages
+-- of a list of unmade pages none is made
 pub none_made : (n : ℕ) → map is_some (replicate n unmade) ≡ replicate n false
 none_made zero = refl
 none_made (suc n) = ap (λ (ds : List Bool). false ∷ ds) (none_made n)
 
--- what is seen of it is a new text
+-- a table of unmade pages is seen as a new text
 pub new_seen : (limit n size : ℕ) → size ≡ limit - 65536 → n ≡ (limit - 65536 + 4095) / 4096
     → text_of (replicate n unmade) size ≡ state (unused_text limit) (unmade_pages limit)
 new_seen limit n size e m =

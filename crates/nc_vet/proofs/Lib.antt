@@ -12,6 +12,8 @@ pub mod LaneBits
 pub mod RunStates
 pub mod EightRuns
 pub mod BitPlaces
+pub mod LowestBits
+pub mod PlaceLists
 pub mod BitReading
 pub mod KeptValid
 pub mod Offered

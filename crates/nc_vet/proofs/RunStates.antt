@@ -10,7 +10,7 @@ use Rattle.std.proofs.Math.Nat.{div-eq_of_lt-le, pow-succ'}
 use Rattle.std.proofs.lemmas.Bool.{cases_lt, eqb-false}
 use Rattle.std.proofs.lemmas.List.{length-drop, length-take-le, take_more, get_or-take, get_or-drop, get_or-set_same, get_or-set_other}
 use Rattle.std.proofs.lemmas.List.{length-set, get_or_append_left, get_or-append_right, length-append}
-use Rattle.nc_decode.specs.declared.automaton.TheConstants.{STATES, END, AFTER_SHORT, AFTER_NEAR, AFTER_PAIR}
+use Rattle.nc_decode.specs.declared.automaton.TheConstants.{END, AFTER_SHORT, AFTER_NEAR, AFTER_PAIR}
 use Rattle.nc_decode.specs.Automaton.{next_state}
 use Rattle.nc_decode.proofs.Offered.{true_or_false}
 use Rattle.nc_decode.specs.declared.bundle.Bundle.{Bundle}
@@ -77,9 +77,9 @@ entered_some code at i some = elim (true_or_false (i == 0)) [
 
 -- one more byte
 pub run_on : (code : List ℕ) (at i state byte : ℕ) (states : List ℕ) → at % 32 ≡ 0 → i < 32 → at + i < length code
-    → HasRun code at i state states → byte ≡ get_or code (at + i) 0 → next_state state byte < STATES
+    → HasRun code at i state states → byte ≡ get_or code (at + i) 0
     → HasRun code at (i + 1) (next_state state byte) (slice_set states i (next_state state byte))
-run_on code at i state byte states start lt in_code h is small =
+run_on code at i state byte states start lt in_code h is =
     let next : next_state state byte ≡ state_after code (at + i) =
     ap (λ (b : ℕ). next_state state b) is
     ∙ ap (λ (s : ℕ). next_state s (get_or code (at + i) 0)) (h.now ∙ entered_before code at i start lt)
@@ -95,16 +95,15 @@ run_on code at i state byte states start lt in_code h is small =
             ∙ ap (λ (j : ℕ). state_after code (at + j)) (sym same))
       ];
       long = length-set states i (next_state state byte) ∙ h.long;
-      small = small;
     }
 
 -- the same of what a step has left
 pub run_stepped : (code : List ℕ) (at i state byte after : ℕ) (states more : List ℕ) → at % 32 ≡ 0 → i < 32 → at + i < length code
     → HasRun code at i state states → byte ≡ get_or code (at + i) 0
-    → after ≡ next_state state byte → more ≡ slice_set states i (next_state state byte) → after < STATES
+    → after ≡ next_state state byte → more ≡ slice_set states i (next_state state byte)
     → HasRun code at (i + 1) after more
-run_stepped code at i state byte after states more start lt in_code h is to set_is small =
-    let w = run_on code at i state byte states start lt in_code h is (omega (arith, to, small)) in
+run_stepped code at i state byte after states more start lt in_code h is to set_is =
+    let w = run_on code at i state byte states start lt in_code h is in
     subst (λ (z : List ℕ). HasRun code at (i + 1) after z) (sym set_is)
     (subst (λ (s : ℕ). HasRun code at (i + 1) s (slice_set states i (next_state state byte))) (sym to) w)
 

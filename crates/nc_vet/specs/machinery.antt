@@ -2,4 +2,5 @@
 pub mod Running
 pub mod Scans
 pub mod Judged
+pub mod Lists
 pub mod Steps

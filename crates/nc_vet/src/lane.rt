@@ -5,13 +5,13 @@ ghost use Rattle.std.specs.Int.{bit_at};
 ghost use Rattle.nc_decode.specs.Automaton.{next_state};
 ghost use Rattle.nc_vet.specs.machinery.Running.{TellsStates};
 
-use nc_decode::{AFTER_NEAR, AFTER_PAIR, AFTER_SHORT, Bundle, END, STATES, advance};
+use nc_decode::{AFTER_NEAR, AFTER_PAIR, AFTER_SHORT, Bundle, END, Row};
 use std::simd::prelude::*;
 
 /// The states after each of the first bytes of a bundle, and the last of these states.
-#[derive(Clone, Copy, Drop)]
+#[derive(Drop)]
 pub(crate) struct Lane {
-    pub(crate) state: usize,
+    pub(crate) state: Row,
     pub(crate) states: [u8; 32],
 }
 
@@ -22,7 +22,7 @@ impl Lane {
         ensures { result ≡ record { state = END; states = replicate 32 0 } }
     {
         Lane {
-            state: END as usize,
+            state: Row::start(),
             states: [0; 32],
         }
     }
@@ -31,29 +31,24 @@ impl Lane {
     #[inline(always)]
     pub(crate) fn step(&mut self, i: usize, byte: u8)
         requires place { i < 32 }
-        requires state { self.old.state < STATES }
         ensures state { self.new.state ≡ next_state self.old.state byte }
         ensures states { self.new.states ≡ slice_set self.old.states i (next_state self.old.state byte) }
-        ensures small { self.new.state < STATES }
     {
-        let state = advance(self.state, byte);
-        self.states[i] = state;
-        self.state = usize::from(state);
+        self.state = self.state.next(byte);
+        self.states[i] = self.state.state();
     }
 }
 
 /// Reads one more byte in a state; returns the state after it, which is stored at a place.
 #[inline(always)]
-pub(crate) fn step_at(states: &mut [u8; 256], place: usize, state: usize, byte: u8) -> usize
+pub(crate) fn step_at(states: &mut [u8; 256], place: usize, state: &Row, byte: u8) -> Row
     requires place { place < 256 }
-    requires state { state < STATES }
-    ensures state { result ≡ next_state state byte }
-    ensures states { states.new ≡ slice_set states.old place (next_state state byte) }
-    ensures small { result < STATES }
+    ensures state { result ≡ next_state state.now byte }
+    ensures states { states.new ≡ slice_set states.old place (next_state state.now byte) }
 {
-    let next = advance(state, byte);
-    states[place] = next;
-    usize::from(next)
+    let next = state.next(byte);
+    states[place] = next.state();
+    next
 }
 
 /// The bits of a mask of 32 lanes.

@@ -6,7 +6,7 @@ ghost use Rattle.nc_decode.specs.Bits.{no_bits};
 ghost use Rattle.nc_vet.specs.machinery.Running.{TellsBundle, AreEightRuns, AreTold, EndsFront};
 
 use crate::lane::{Lane, step_at, told, told_by};
-use nc_decode::{Bundle, END};
+use nc_decode::{Bundle, Row};
 use std::alloc::Global;
 
 /// The number of bundles read in lock step: no instruction crosses the end of a bundle, so each is read independently.
@@ -43,24 +43,24 @@ fn run_eight(code: &[u8], at: usize, stride: usize, states: &mut [u8; 256])
     requires stride { stride ≡ 1 }
     ensures { AreEightRuns code.now at states.new }
 {
-    let mut a = END as usize;
-    let mut b = END as usize;
-    let mut c = END as usize;
-    let mut d = END as usize;
-    let mut e = END as usize;
-    let mut f = END as usize;
-    let mut g = END as usize;
-    let mut h = END as usize;
+    let mut a = Row::start();
+    let mut b = Row::start();
+    let mut c = Row::start();
+    let mut d = Row::start();
+    let mut e = Row::start();
+    let mut f = Row::start();
+    let mut g = Row::start();
+    let mut h = Row::start();
     let mut place = 0;
     for i in 0..32 {
-        a = step_at(states, place, a, code[at + i]);
-        b = step_at(states, place + 32, b, code[at + 32 + i]);
-        c = step_at(states, place + 64, c, code[at + 64 + i]);
-        d = step_at(states, place + 96, d, code[at + 96 + i]);
-        e = step_at(states, place + 128, e, code[at + 128 + i]);
-        f = step_at(states, place + 160, f, code[at + 160 + i]);
-        g = step_at(states, place + 192, g, code[at + 192 + i]);
-        h = step_at(states, place + 224, h, code[at + 224 + i]);
+        a = step_at(states, place, &a, code[at + i]);
+        b = step_at(states, place + 32, &b, code[at + 32 + i]);
+        c = step_at(states, place + 64, &c, code[at + 64 + i]);
+        d = step_at(states, place + 96, &d, code[at + 96 + i]);
+        e = step_at(states, place + 128, &e, code[at + 128 + i]);
+        f = step_at(states, place + 160, &f, code[at + 160 + i]);
+        g = step_at(states, place + 192, &g, code[at + 192 + i]);
+        h = step_at(states, place + 224, &h, code[at + 224 + i]);
         place += stride;
     }
 }

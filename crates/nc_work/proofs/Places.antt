@@ -66,7 +66,7 @@ pub done_head : (jobs : List Job) (all : List Done) (one : Done) (rest : List Do
 done_head jobs all one rest e h = All-head (λ (d : Done). FitsPlace jobs d.job (Some d.answer)) one rest
     (subst (λ (z : List Done). All (λ d. FitsPlace jobs d.job (Some d.answer)) z) e h.each)
 
--- so are the others
+-- the other answers of a worker's list are those on their jobs
 pub done_tail : (jobs : List Job) (all : List Done) (one : Done) (rest : List Done) → all ≡ one ∷ rest
     → AreDone jobs all → AreDone jobs rest
 done_tail jobs all one rest e h = record { each = All-rest (λ (d : Done). FitsPlace jobs d.job (Some d.answer)) one rest all e h.each }
@@ -87,7 +87,7 @@ next_of (y ∷ ys) (suc n) x rest e =
     let r = next_of ys n x rest e in
     record { below = omega (arith, r.below); here = r.here; front = ap (λ (z : List _). y ∷ z) r.front; behind = r.behind }
 
--- the same, where what is left is known by an equation
+-- the first of the elements that are left, known by an equation, is the next one
 pub next_at : {X : Type 0} (xs left rest : List X) (n : ℕ) (x : X) → left ≡ drop n xs → left ≡ x ∷ rest → IsNextChunk xs n x rest
 next_at xs left rest n x at e = next_of xs n x rest (sym at ∙ e)
 

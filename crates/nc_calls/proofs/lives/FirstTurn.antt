@@ -71,15 +71,15 @@ put_at_start d base (x ∷ rest) start some = go (start_or_not base)
 
 -- ---- the creation
 
--- the events of its turn
+-- the events of the creation's turn: the thread enters before the settling
 abbrev pub creation_events : MarkedChunk → List Event
 creation_events v = create_first v ++ Enters 0 v.base ∷ create_second v
 
--- those up to the moment when the thread is inside
+-- the events of the creation's turn up to the thread's entering
 abbrev until_entered : MarkedChunk → List Event
 until_entered v = create_first v ++ Enters 0 v.base ∷ []
 
--- the writer's
+-- the writer's events of the creation's turn are those of a creation
 own_created : (v : MarkedChunk) → writers (creation_events v) ≡ create_events v
 own_created v =
     own_before (create_first v) (Enters 0 v.base ∷ create_second v) (create_first_text v)
@@ -91,7 +91,7 @@ stage_first v =
     stage_of_text v.limit (first_keeper_numbers 1) first_seat (first_world v.limit 1) (create_first v) (create_first_text v)
     (first_stage v.limit)
 
--- and when it has entered
+-- the world when the thread has entered
 stage_inside : (v : MarkedChunk)
     → Stage v.limit (first_keeper_numbers 1) (seat_in (start_of v)) (world_after (first_world v.limit 1) (until_entered v))
 stage_inside v =
@@ -114,7 +114,7 @@ stage_created v =
     (stage_of_text v.limit (first_keeper_numbers 1) (seat_in (start_of v)) (world_after (first_world v.limit 1) (until_entered v))
     (create_second v) (create_second_text v) (stage_inside v)))
 
--- the thread may enter
+-- the thread may enter in the creation's turn
 may_enter : (v : MarkedChunk) → IsValid v → ThreadsMay (first_world v.limit 1) (creation_events v)
 may_enter v valid =
     let w = world_after (first_world v.limit 1) (create_first v) in
@@ -152,15 +152,15 @@ same_created v keeper created is =
       logged = created.logged;
     } in r) (is.chunks.2 ∙ insert_none is.chunks.0 (live_chunk v))
 
--- its limit is the chunk's
+-- the limit of the unused text is the chunk's
 same_limit : (v : MarkedChunk) → IsValid v → v.limit ≡ limit_of (unused_text v.limit).bytes
 same_limit v valid = omega (arith, length-replicate {A = ℕ} (v.limit - 65536) 244, valid.range.1, valid.base_is.1)
 
--- the turn
+-- the turn of the creation
 abbrev pub creation_turn : (v : MarkedChunk) (created : Region) → Turn
 creation_turn v created = record { events = creation_events v; region = created }
 
--- it is one
+-- the creation with the thread's entering is a turn (`IsTurn`)
 pub creation_is_turn : (v : MarkedChunk) (keeper : KeeperState) (created : Region) → IsValid v
     → IsCreated (first_region v.limit (fresh keeper)) created v
     → IsTurn v.limit 1 [] (first_region v.limit (fresh keeper)) (creation_turn v created)
@@ -171,7 +171,7 @@ creation_is_turn v keeper created valid is = record {
       (ap (λ (x : World). x.keeper) (stage_created v).is ∙ sym (ap (λ (r : Region). r.keeper.numbers) is.others));
 }
 
--- around the thread
+-- the turn of the creation stands around the thread's entering
 pub creates_around : (v : MarkedChunk) (keeper : KeeperState) (created : Region) → IsValid v
     → IsCreated (first_region v.limit (fresh keeper)) created v → CreatesAround v (fresh keeper) (creation_turn v created)
 creates_around v keeper created valid is =
@@ -206,7 +206,7 @@ creates_around v keeper created valid is =
 pub lies_in : (v : MarkedChunk) → IsValid v → v.base - 65536 + length v.code ≤ v.limit - 65536
 lies_in v valid = omega (arith, valid.range.1, valid.base_is.1)
 
--- the bytes once they are stops again
+-- the bytes of the created chunk, set to stops, are those of the unused text
 pub bytes_back : (v : MarkedChunk) (keeper : KeeperState) (created : Region) → IsValid v
     → IsCreated (first_region v.limit (fresh keeper)) created v
     → with_span created.marked.bytes (v.base - 65536) (replicate (length v.code) 244) ≡ (unused_text v.limit).bytes
@@ -218,7 +218,7 @@ bytes_back v keeper created valid is =
     (omega (arith, long, stops, lies_in v valid)) (omega arith) (omega (arith, stops))
     ∙ same_over (v.limit - 65536) (v.base - 65536) (length v.code) 244 (lies_in v valid))
 
--- the marks once they are the unused ones again
+-- the marks of the created chunk, set to unused ones, are those of the unused text
 pub marks_back : (v : MarkedChunk) (keeper : KeeperState) (created : Region) → IsValid v
     → IsCreated (first_region v.limit (fresh keeper)) created v
     → with_span created.marked.marks (v.base - 65536) (unused_marks v.base (length v.code)) ≡ (unused_text v.limit).marks

@@ -61,11 +61,11 @@ pub record Begun (v : MarkedChunk) (before : List Event) (text : List ℕ) : Typ
 
 -- ---- the deletion
 
--- the keeper's numbers after it
+-- the keeper's numbers after the deletion
 abbrev pub second_numbers : KeeperNumbers
 second_numbers = generation_raised (first_keeper_numbers 1)
 
--- the world after it
+-- the world after the events of a deletion
 stage_deleted : (limit base len : ℕ) (now : State) (marks : List Mark) (w : World)
     → Stage limit (first_keeper_numbers 1) (seat_in now) w
     → Stage limit second_numbers (seat_in now) (world_after w (delete_events marks base len))
@@ -82,37 +82,37 @@ stage_deleted limit base len now marks w s =
       as_long = front.as_long;
     }))
 
--- all its events are the writer's
+-- all events of a deletion are the writer's
 own_deleted : (marks : List Mark) (base len : ℕ) → writers (delete_events marks base len) ≡ delete_events marks base len
 own_deleted marks base len =
     ap writers (delete_parts marks base len)
     ∙ (own_before (delete_front marks base len) (Retires base len ∷ []) (delete_front_text marks base len) ∙ sym (delete_parts marks base len))
 
--- they ask nothing of the thread
+-- the events of a deletion ask nothing of the thread
 may_deleted : (marks : List Mark) (base len : ℕ) (w : World) → ThreadsMay w (delete_events marks base len)
 may_deleted marks base len w =
     subst (ThreadsMay w) (sym (delete_parts marks base len))
     (may_before w (delete_front marks base len) (Retires base len ∷ []) (delete_front_text marks base len) ((λ e. tt), tt))
 
--- the region after it
+-- the region after the deletion
 abbrev deleted_of : MarkedChunk → KeeperState → MarkedText → List Bool → List Entry → Region
 deleted_of v keeper marked made logged = deleted_region (with_live v keeper marked made logged) 0 (live_chunk v)
 
--- the events of its turn
+-- the events of the deletion's turn: the thread goes its path before the deletion
 abbrev gone_and_deleted : MarkedChunk → List State → List Mark → List Event
 gone_and_deleted v path marks = map (Steps 0) path ++ delete_events marks v.base (length v.code)
 
--- its turn
+-- the turn of the deletion
 abbrev deletion_turn : MarkedChunk → KeeperState → MarkedText → List Bool → List Entry → List State → Turn
 deletion_turn v keeper marked made logged path =
     record { events = gone_and_deleted v path marked.marks; region = deleted_of v keeper marked made logged }
 
--- what it does
+-- what the deletion does to the region
 abbrev deletes_of : (v : MarkedChunk) (keeper : KeeperState) (marked : MarkedText) (made : List Bool) (logged : List Entry)
     → IsDeleted (with_live v keeper marked made logged) (deleted_of v keeper marked made logged) v.base 1
 deletes_of v keeper marked made logged = deleted_at (with_live v keeper marked made logged) 0 (live_chunk v) refl refl (omega arith)
 
--- the world after what happened before, and this turn
+-- the world after what happened before and the deletion's turn
 stage_then : (v : MarkedChunk) (before : List Event) (marks : List Mark) (path : List State)
     → Stage v.limit (first_keeper_numbers 1) (seat_in (start_of v)) (world_after (first_world v.limit 1) before)
     → Stage v.limit second_numbers (seat_in (last_of (start_of v) path))
@@ -126,7 +126,7 @@ stage_then v before marks path s =
     (world_after (world_after (first_world v.limit 1) before) (map (Steps 0) path))
     (stage_gone v.limit (first_keeper_numbers 1) (start_of v) w path s))
 
--- it is a turn
+-- the deletion after the thread's path is a turn (`IsTurn`)
 deletion_is_turn : (v : MarkedChunk) (keeper : KeeperState) (marked : MarkedText) (made : List Bool) (logged : List Entry)
     (before : List Event) (path : List State) → Begun v before marked.bytes → Joined marked.bytes (start_of v) path
     → IsTurn v.limit 1 before (with_live v keeper marked made logged) (deletion_turn v keeper marked made logged path)
@@ -146,7 +146,7 @@ deletion_is_turn v keeper marked made logged before path b joined =
 
 -- ---- the reclaim
 
--- the keeper's numbers after it
+-- the keeper's numbers after the reclaim
 abbrev pub third_numbers : KeeperNumbers
 third_numbers = record { generation = 1; bounds = 1 ∷ []; looks = 1 ∷ [] }
 
@@ -154,7 +154,7 @@ third_numbers = record { generation = 1; bounds = 1 ∷ []; looks = 1 ∷ [] }
 abbrev pub last_events : MarkedChunk → List Event
 last_events v = Exits 0 ∷ Takes 0 ∷ Stores 0 ∷ Looks 0 ∷ Frees (span_of v) ∷ []
 
--- the region after it
+-- the region after the reclaim
 abbrev reclaimed_of : MarkedChunk → KeeperState → MarkedText → List Bool → List Entry → Region
 reclaimed_of v keeper marked made logged =
     reclaimed_region (deleted_of v keeper marked made logged) (record keeper { numbers = third_numbers })
@@ -164,12 +164,12 @@ one_more : (i : ℕ) → i < 1 → slice_index third_numbers.looks i ≡ slice_i
 one_more zero lt = refl
 one_more (suc i) lt = absurd (omega (arith, lt))
 
--- its bound is no lower
+-- the one seat's bound is no lower than before the look
 not_lower : (i : ℕ) → i < 1 → slice_index second_numbers.bounds i ≤ slice_index third_numbers.bounds i
 not_lower zero lt = omega arith
 not_lower (suc i) lt = absurd (omega (arith, lt))
 
--- the keeper has looked
+-- the keeper has looked at the one seat
 has_looked : (keeper : KeeperState) → HasLooked (record keeper { numbers = second_numbers }) (record keeper { numbers = third_numbers })
 has_looked keeper =
     record { table = refl; generation = refl; looks = (refl, one_more); counted = refl; raised = (refl, not_lower) }
@@ -180,11 +180,11 @@ abbrev reclaims_of : (v : MarkedChunk) (keeper : KeeperState) (marked : MarkedTe
 reclaims_of v keeper marked made logged =
     reclaimed_exists (deleted_of v keeper marked made logged) (record keeper { numbers = third_numbers }) (has_looked keeper)
 
--- its turn
+-- the turn of the reclaim
 abbrev reclaim_turn : MarkedChunk → KeeperState → MarkedText → List Bool → List Entry → Turn
 reclaim_turn v keeper marked made logged = record { events = last_events v; region = reclaimed_of v keeper marked made logged }
 
--- its own events
+-- the writer's events of the reclaim's turn are those of a reclaim
 own_reclaimed : (v : MarkedChunk) → writers (last_events v)
     ≡ reclaim_events 1 1 (record { base = v.base; length = length v.code; state = Retired 1 } ∷ [])
 own_reclaimed v =
@@ -197,7 +197,7 @@ may_check_in v now w s =
     subst (λ (x : World). ThreadsMay x (last_events v)) (sym s.is)
     ((λ e. tt), ((λ e. refl), ((λ e. refl), ((λ e. tt), ((λ e. tt), tt)))))
 
--- it is a turn
+-- the reclaim with the thread's check-in is a turn (`IsTurn`)
 reclaim_is_turn : (v : MarkedChunk) (keeper : KeeperState) (marked : MarkedText) (made : List Bool) (logged : List Entry)
     (before : List Event) (now : State) → Stage v.limit second_numbers (seat_in now) (world_after (first_world v.limit 1) before)
     → IsTurn v.limit 1 before (deleted_of v keeper marked made logged) (reclaim_turn v keeper marked made logged)
@@ -211,7 +211,7 @@ reclaim_is_turn v keeper marked made logged before now s = record {
 
 -- ---- both
 
--- the last turns
+-- the turns of the deletion and the reclaim end the chunk's life
 pub ended : (v : MarkedChunk) (keeper : KeeperState) (marked : MarkedText) (made : List Bool) (logged : List Entry) (before : List Event)
     → Begun v before marked.bytes
     → with_span marked.bytes (v.base - 65536) (replicate (length v.code) 244) ≡ (unused_text v.limit).bytes

@@ -21,7 +21,7 @@ pub record Stage (limit : ℕ) (keeper : KeeperNumbers) (seat : Seat) (w : World
   pub is : w ≡ record { marked = marked; earlier = earlier; retired = retired; keeper = keeper; seats = seat ∷ [] }
   pub as_long : length marked.bytes ≡ limit - 65536
 
--- the first one
+-- the first world, as a stage
 pub first_stage : (limit : ℕ) → Stage limit (first_keeper_numbers 1) first_seat (first_world limit 1)
 first_stage limit = record {
   marked = (first_world limit 1).marked;
@@ -68,7 +68,7 @@ stage_of_text limit keeper seat w (event ∷ events) t s = absurd t
 abbrev pub seat_in : State → Seat
 seat_in now = record first_seat { inside = Some now }
 
--- the thread enters
+-- a stage after the thread has entered
 pub stage_entered : (limit : ℕ) (keeper : KeeperNumbers) (at : ℕ) (w : World) → Stage limit keeper first_seat w
     → Stage limit keeper (seat_in (state at None)) (after w (Enters 0 at))
 stage_entered limit keeper at w s = record {
@@ -81,7 +81,7 @@ stage_entered limit keeper at w s = record {
 
 -- ---- a thread that goes along a path
 
--- one step
+-- a stage after one step of the thread
 stage_step : (limit : ℕ) (keeper : KeeperNumbers) (now next : State) (w : World) → Stage limit keeper (seat_in now) w
     → Stage limit keeper (seat_in next) (after w (Steps 0 next))
 stage_step limit keeper now next w s = record {
@@ -92,14 +92,14 @@ stage_step limit keeper now next w s = record {
   as_long = s.as_long;
 }
 
--- all of them
+-- a stage after all steps of the thread along a path
 pub stage_gone : (limit : ℕ) (keeper : KeeperNumbers) (now : State) (w : World) (path : List State)
     → Stage limit keeper (seat_in now) w → Stage limit keeper (seat_in (last_of now path)) (world_after w (map (Steps 0) path))
 stage_gone limit keeper now w [] s = s
 stage_gone limit keeper now w (next ∷ rest) s =
     stage_gone limit keeper next (after w (Steps 0 next)) rest (stage_step limit keeper now next w s)
 
--- none is the writer's
+-- no step of the thread is the writer's
 pub own_gone : (path : List State) (more : List Event) → writers (map (Steps 0) path ++ more) ≡ writers more
 own_gone [] more = refl
 own_gone (next ∷ rest) more = own_gone rest more

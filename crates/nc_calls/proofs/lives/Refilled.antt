@@ -24,7 +24,7 @@ span_same : {X : Type 0} (xs : List X) (i : ℕ) (zs : List X) (d : X) → i + l
     → ((k : ℕ) → i ≤ k → k < i + length zs → get_or xs k d ≡ get_or zs (k - i) d) → with_span xs i zs ≡ xs
 span_same xs i zs d fits same = sym (is_with_span xs xs i zs d fits refl (λ k lt. refl) same (λ k past. refl))
 
--- the same element so many times
+-- a list of one element stays as it is where a span of it is set to that element
 pub same_over : (n i m y : ℕ) → i + m ≤ n → with_span (replicate n y) i (replicate m y) ≡ replicate n y
 same_over n i m y fits =
     let many : length (replicate n y) ≡ n = length-replicate n y in
@@ -33,7 +33,7 @@ same_over n i m y fits =
     (λ k from to. get_or-replicate n k y y (omega (arith, fits, some, to))
     ∙ sym (get_or-replicate m (k - i) y y (omega (arith, some, from, to))))
 
--- unused marks
+-- unused marks stay as they are where a span of them is set to unused marks
 pub unused_over : (n i at m : ℕ) → i + m ≤ n → 65536 + i ≡ at → with_span (unused_marks 65536 n) i (unused_marks at m) ≡ unused_marks 65536 n
 unused_over n i at m fits here =
     let many : length (unused_marks 65536 n) ≡ n = length-map-range_with_len unused_mark 65536 n in

@@ -53,14 +53,14 @@ patch_lies v keeper created at bytes valid is lawful =
 abbrev patched_of : (created : Region) (at : ℕ) (bytes : List ℕ) → IsPatch created at bytes → Region
 patched_of created at bytes lawful = modified_region created at bytes lawful.1.2.0.run.news
 
--- its turn
+-- the turn of the patch
 abbrev patch_turn : (created : Region) (at : ℕ) (bytes : List ℕ) → IsPatch created at bytes → Turn
 patch_turn created at bytes lawful = record {
   events = modify_events created.marked.bytes at lawful.1.2.0.run.news;
   region = patched_of created at bytes lawful;
 }
 
--- it patches
+-- the turn of the patch patches the created region
 patches_at : (created : Region) (at : ℕ) (bytes : List ℕ) (lawful : IsPatch created at bytes)
     → PatchesAt created at bytes (patch_turn created at bytes lawful)
 patches_at created at bytes lawful = record {
@@ -70,7 +70,7 @@ patches_at created at bytes lawful = record {
   own = refl;
 }
 
--- the world after it
+-- the world after the patch
 stage_patched : (v : MarkedChunk) (text : List ℕ) (at : ℕ) (news : List Piece)
     → Stage v.limit (first_keeper_numbers 1) (seat_in (start_of v))
     (world_after (first_world v.limit 1) (creation_events v ++ modify_events text at news))
@@ -80,7 +80,7 @@ stage_patched v text at news =
     (stage_of_text v.limit (first_keeper_numbers 1) (seat_in (start_of v)) (world_after (first_world v.limit 1) (creation_events v))
     (modify_events text at news) (modify_text text at news) (stage_created v))
 
--- it is a turn
+-- the patch is a turn (`IsTurn`)
 patch_is_turn : (v : MarkedChunk) (keeper : KeeperState) (created : Region) (at : ℕ) (bytes : List ℕ)
     → IsCreated (first_region v.limit (fresh keeper)) created v → (lawful : IsPatch created at bytes)
     → IsTurn v.limit 1 (creation_events v) created (patch_turn created at bytes lawful)
@@ -101,7 +101,7 @@ patch_is_turn v keeper created at bytes is lawful =
           ∙ sym (ap (λ (r : Region). r.keeper.numbers) is.others));
     }
 
--- the bytes once they are stops again
+-- the bytes of the patched chunk, set to stops, are those of the unused text
 patched_back : (v : MarkedChunk) (keeper : KeeperState) (created : Region) (at : ℕ) (bytes : List ℕ) → IsValid v
     → IsCreated (first_region v.limit (fresh keeper)) created v → IsPatch created at bytes
     → with_span (with_span created.marked.bytes (at - 65536) bytes) (v.base - 65536) (replicate (length v.code) 244)

@@ -1,8 +1,11 @@
 -- What each state of the automaton waits for, and that its table says the next one.
-use Rattle.std.proofs.Common.{◌≡◌, ℕ, zero, suc, ◌+◌, ◌-◌, ◌%◌, ◌<◌, Bool, true, false, List, [], ◌∷◌, Option, Some, None, get_or, refl}
-use Rattle.std.proofs.Common.{ap, arith, subst, length, inl, inr, ◌==◌, ◌&&◌, ◌||◌, eqb-true, ltb-true, nat_le, nat_lt}
-use Rattle.std.specs.Prelude.{if◌then◌else◌}
-use Rattle.nc_decode.specs.declared.automaton.TheConstants.{NEXT, STATES}
+use Rattle.std.proofs.Common.{◌≡◌, ℕ, zero, suc, ◌+◌, ◌-◌, ◌*◌, ◌/◌, ◌%◌, ◌<◌, Bool, true, false, List, [], ◌∷◌, Option, Some, None, get_or, refl}
+use Rattle.std.proofs.Common.{ap, sym, ◌∙◌, arith, subst, length, inl, inr, ◌==◌, ◌&&◌, ◌||◌, eqb-true, ltb-true, nat_le, nat_lt}
+use Rattle.std.specs.Prelude.{if◌then◌else◌, take, drop, ◌++◌}
+use Rattle.std.specs.List.{flat_map}
+use Rattle.std.proofs.Math.ListN.{get_or-append}
+use Rattle.std.proofs.lemmas.List.{get_or-take, get_or-drop, get_or-append-add, length-take-le}
+use Rattle.nc_decode.specs.declared.automaton.TheConstants.{ROWS, STATES}
 use Rattle.nc_decode.specs.declared.entry.Entry.{Entry}
 use Rattle.nc_decode.specs.declared.entry.Number.{Number}
 use Rattle.nc_decode.specs.declared.entry.Number.TheVariants.{Short, Near}
@@ -220,12 +223,12 @@ numbered-at t k (x ∷ xs) zero n e lt is =
     let same : k ≡ n = omega arith in subst (λ (j : ℕ). t j x ≡ true) same (numbered_first t k x xs e).0
 numbered-at t k (x ∷ xs) (suc b) n e lt is = numbered-at t (suc k) xs b n (numbered_first t k x xs e).1 (omega arith) (omega arith)
 
--- a row of the table agrees with a stage, in a number for each byte
+-- a row of the table agrees with a stage, in the place of a row for each byte
 abbrev agrees : List ℕ → Stage → Bool
-agrees row x = (length row == 256) && each_numbered (λ b s. same_stage (stage_of s) (after x b)) 0 row
+agrees row x = (length row == 257) && each_numbered (λ b p. same_stage (stage_of (p / 257)) (after x b)) 0 (take 256 row)
 
 -- the table agrees
-tabled : each_below (λ s. agrees (get_or NEXT s []) (stage_of s)) STATES ≡ true
+tabled : each_below (λ s. agrees (get_or ROWS s []) (stage_of s)) STATES ≡ true
 unfolding opcode_entry forms_of prefix_of coded_len permits
 tabled = refl
 
@@ -233,16 +236,25 @@ tabled = refl
 pub next_stage : (s b : ℕ) → s < STATES → b < 256 → stage_of (next_state s b) ≡ after (stage_of s) b
 unfolding next_state
 next_stage s b s-lt b-lt =
-    let row : List ℕ = get_or NEXT s [] in
-    let test : ℕ → ℕ → Bool = λ x y. same_stage (stage_of y) (after (stage_of s) x) in
-    let h = both (length row == 256) (each_numbered test 0 row)
-    (each_below-at (λ t. agrees (get_or NEXT t []) (stage_of t)) STATES s tabled s-lt) in
-    let long : length row ≡ 256 = eqb-true (length row) 256 h.0 in
-    stage_same _ _ (numbered-at test 0 row b b h.1 (omega arith) (omega arith))
+    let row : List ℕ = get_or ROWS s [] in
+    let test : ℕ → ℕ → Bool = λ x y. same_stage (stage_of (y / 257)) (after (stage_of s) x) in
+    let h = both (length row == 257) (each_numbered test 0 (take 256 row))
+    (each_below-at (λ t. agrees (get_or ROWS t []) (stage_of t)) STATES s tabled s-lt) in
+    let long : length row ≡ 257 = eqb-true (length row) 257 h.0 in
+    let here : get_or (take 256 row) b 0 ≡ get_or row b 0 = get_or-take 256 row b 0 b-lt in
+    ap (λ (p : ℕ). stage_of (p / 257)) (sym here)
+    ∙ stage_same _ _ (numbered-at test 0 (take 256 row) b b h.1 (omega (arith, length-take-le 256 row (omega (arith, long)), b-lt)) (omega arith))
 
--- each number of the table is a state
-small : each (λ row. each (λ s. nat_lt s STATES) row) NEXT ≡ true
-small = refl
+-- each number of the table is the place of a state's row
+abbrev is_place : ℕ → Bool
+is_place p = (p % 257 == 0) && nat_lt (p / 257) STATES
+
+placed : each (λ row. each is_place row) ROWS ≡ true
+placed = refl
+
+-- each row is as long
+long_rows : each (λ row. length row == 257) ROWS ≡ true
+long_rows = refl
 
 -- the first of a test of each
 each_first : {A : Type 0} (t : A → Bool) (x : A) (xs : List A) → each t (x ∷ xs) ≡ true → (t x ≡ true) × (each t xs ≡ true)
@@ -251,20 +263,48 @@ each_first t x xs e = elim (true_or_false (t x)) [
   | inr not ↦ absurd (let f : false ≡ true = chosen_false (t x) (each t xs) false true not e in cc)
 ]
 
--- each number of a row is a state
-row_small : (row : List ℕ) (b : ℕ) → each (λ s. nat_lt s STATES) row ≡ true → get_or row b 0 < STATES
-row_small [] b e = omega arith
-row_small (s ∷ row) zero e = let h = (each_first (λ x. nat_lt x STATES) s row e).0 in ltb-true s STATES h
-row_small (s ∷ row) (suc b) e = row_small row b (each_first (λ x. nat_lt x STATES) s row e).1
+-- each number of a row is such a place
+row_placed : (row : List ℕ) (b : ℕ) → each is_place row ≡ true → is_place (get_or row b 0) ≡ true
+row_placed [] b e = refl
+row_placed (s ∷ row) zero e = (each_first is_place s row e).0
+row_placed (s ∷ row) (suc b) e = row_placed row b (each_first is_place s row e).1
 
--- each number of the table is a state
-table_small : (rows : List (List ℕ)) (s b : ℕ) → each (λ row. each (λ x. nat_lt x STATES) row) rows ≡ true
-    → get_or (get_or rows s []) b 0 < STATES
-table_small [] s b e = omega arith
-table_small (row ∷ rows) zero b e = row_small row b (each_first (λ r. each (λ x. nat_lt x STATES) r) row rows e).0
-table_small (row ∷ rows) (suc s) b e = table_small rows s b (each_first (λ r. each (λ x. nat_lt x STATES) r) row rows e).1
+-- each number of the table is such a place
+table_placed : (rows : List (List ℕ)) (s b : ℕ) → each (λ row. each is_place row) rows ≡ true → is_place (get_or (get_or rows s []) b 0) ≡ true
+table_placed [] s b e = refl
+table_placed (row ∷ rows) zero b e = row_placed row b (each_first (λ r. each is_place r) row rows e).0
+table_placed (row ∷ rows) (suc s) b e = table_placed rows s b (each_first (λ r. each is_place r) row rows e).1
+
+-- the place in the table at a state and a byte is that of the row of the next state
+pub place_lawful : (s b : ℕ) → (get_or (get_or ROWS s []) b 0 % 257 ≡ 0) × (get_or (get_or ROWS s []) b 0 / 257 < STATES)
+place_lawful s b =
+    let p : ℕ = get_or (get_or ROWS s []) b 0 in
+    let h = both (p % 257 == 0) (nat_lt (p / 257) STATES) (table_placed ROWS s b placed) in
+    (eqb-true (p % 257) 0 h.0, ltb-true (p / 257) STATES h.1)
 
 -- the next state is one
 pub next_small : (s b : ℕ) → next_state s b < STATES
 unfolding next_state
-next_small s b = table_small NEXT s b small
+next_small s b = (place_lawful s b).1
+
+-- in rows of 257 numbers one after the other, the number at a row and a place in it
+flat_at : (rows : List (List ℕ)) (s b : ℕ) → each (λ row. length row == 257) rows ≡ true → s < length rows → b < 257
+    → get_or (flat_map (λ x. x) rows) (257 * s + b) 0 ≡ get_or (get_or rows s []) b 0
+flat_at [] s b e lt b-lt = absurd (omega (arith, lt))
+flat_at (row ∷ rows) zero b e lt b-lt =
+    let long : length row ≡ 257 = eqb-true (length row) 257 (each_first (λ r. length r == 257) row rows e).0 in
+    ap (λ (k : ℕ). get_or (row ++ flat_map (λ x. x) rows) k 0) {x = 257 * 0 + b} {y = b} (omega arith)
+    ∙ get_or-append row (flat_map (λ x. x) rows) 0 b (omega (arith, long, b-lt))
+flat_at (row ∷ rows) (suc s) b e lt b-lt =
+    let h = each_first (λ r. length r == 257) row rows e in
+    let long : length row ≡ 257 = eqb-true (length row) 257 h.0 in
+    ap (λ (k : ℕ). get_or (row ++ flat_map (λ x. x) rows) k 0) {x = 257 * suc s + b} {y = length row + (257 * s + b)} (omega (arith, long))
+    ∙ get_or-append-add row (flat_map (λ x. x) rows) (257 * s + b) 0 ∙ flat_at rows s b h.1 (omega (arith, lt)) b-lt
+
+-- the number of the flattened table behind a byte at the place of a row
+pub flat_row : (p b : ℕ) → p % 257 ≡ 0 → p / 257 < STATES → b < 256
+    → get_or (drop b (flat_map (λ x. x) ROWS)) p 0 ≡ get_or (get_or ROWS (p / 257) []) b 0
+flat_row p b even low b-lt =
+    get_or-drop b (flat_map (λ x. x) ROWS) p 0
+    ∙ ap (λ (k : ℕ). get_or (flat_map (λ x. x) ROWS) k 0) {x = b + p} {y = 257 * (p / 257) + b} (omega (arith, even))
+    ∙ flat_at ROWS (p / 257) b long_rows (omega (arith, low)) (omega (arith, b-lt))

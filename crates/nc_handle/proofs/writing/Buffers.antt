@@ -11,7 +11,7 @@ drop_none : {X : Type 0} (n : ℕ) → drop {A = X} n [] ≡ []
 drop_none zero = refl
 drop_none (suc n) = refl
 
--- one more element
+-- an element written behind the first ones of a buffer is one more of them
 pub over_more : {X : Type 0} (xs start : List X) (y : X) → length xs < length (over xs start)
     → set (over xs start) (length xs) y ≡ over (xs ++ y ∷ []) start
 over_more [] [] y lt = absurd (omega (arith, lt))
@@ -20,7 +20,7 @@ over_more {X} (x ∷ xs) [] y lt =
     absurd (omega (arith, lt, ap (λ (z : List X). length (x ∷ xs ++ z)) (drop_none (length (x ∷ xs))), ap (λ (z : List X). length z) (append-nil (x ∷ xs))))
 over_more (x ∷ xs) (s ∷ rest) y lt = ap (λ z. x ∷ z) (over_more xs rest y (omega (arith, lt)))
 
--- one more entry
+-- an entry written behind the first ones of a buffer is one more of them
 pub write_one : (start now : List NcAct) (count : ℕ) (log : List Entry) (a : Entry) → HasWritten start now count log → count < length now
     → HasWritten start (set now count (entry_of a)) (count + 1) (log ++ a ∷ [])
 write_one start now count log a h lt =

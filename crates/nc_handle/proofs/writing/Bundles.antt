@@ -30,15 +30,15 @@ passed_all chosen at bytes initial from n (suc j) acts count fits none h =
 
 -- ---- the bytes of a bundle
 
--- there are 32
+-- a bundle of the code has 32 bytes
 pub bundle_size : (code : List ℕ) (i : ℕ) → i + 32 ≤ length code → length (take 32 (drop i code)) ≡ 32
 bundle_size code i fits = length-take-le 32 (drop i code) (omega (arith, fits, length-drop i code))
 
--- one of them
+-- a byte of a bundle is that of the code at its place
 pub bundle_byte : (code : List ℕ) (i k : ℕ) → k < 32 → get_or (take 32 (drop i code)) k 0 ≡ get_or code (i + k) 0
 bundle_byte code i k lt = get_or-take 32 (drop i code) k 0 lt ∙ get_or-drop i code k 0
 
--- they are any 32 bytes that are the same
+-- 32 bytes that are those of the code from a place on are its bundle there
 pub bundle_is : (code bytes : List ℕ) (i : ℕ) → i + 32 ≤ length code → length bytes ≡ 32
     → ((k : ℕ) → k < 32 → get_or bytes k 0 ≡ get_or code (i + k) 0) → take 32 (drop i code) ≡ bytes
 bundle_is code bytes i fits long same =
@@ -49,21 +49,21 @@ bundle_is code bytes i fits long same =
 
 -- ---- one bundle
 
--- its start
+-- the first place of a bundle is its start
 start_there : (at : ℕ) → at % 32 ≡ 0 → is_start (at + 0) ≡ true
 start_there at start = ap (λ (n : ℕ). n == 0) {x = (at + 0) % 32} {y = 0} (omega (arith, start))
 
--- the others
+-- the places of a bundle behind its start are inside it
 pub inside_there : (at k : ℕ) → at % 32 ≡ 0 → 0 < k → k < 32 → is_inside (at + k) ≡ true
 inside_there at k start some lt = ap not (is_start_false (at + k) (λ e. omega (arith, e, start, some, lt)))
 
--- there is room for the put of its first byte
+-- there is room for the put of a bundle's first byte
 pub start_fits : (at : ℕ) (bytes : List ℕ) (initial : List NcAct) (from : ℕ) → at % 32 ≡ 0 → length bytes ≡ 32
     → from + length (puts_where is_start at bytes) ≤ length initial → from < length initial
 start_fits at bytes initial from start long room =
     next_fits is_start at bytes initial from 0 initial from (put_none is_start at bytes initial from) (omega (arith, long)) (start_there at start) room
 
--- which is all
+-- the put of its first byte is all that a bundle has at starts
 pub start_put : (at : ℕ) (bytes : List ℕ) (initial : List NcAct) (from : ℕ) → at % 32 ≡ 0 → length bytes ≡ 32
     → from + length (puts_where is_start at bytes) ≤ length initial
     → HasPutUpTo is_start at bytes initial from 32 (set initial from (act_of (Put at (get_or bytes 0 0)))) (from + 1)
@@ -85,7 +85,7 @@ start_passed at bytes initial from start long =
 
 -- ---- one bundle after others
 
--- there is room for its puts
+-- there is room for the puts of one more bundle
 pub part_fits : (chosen inner : ℕ → Bool) (base at n : ℕ) (bytes others : List ℕ) (initial : List NcAct) (from : ℕ) (acts : List NcAct) (count : ℕ)
     → puts_where chosen base (take (32 * (n + 1)) bytes) ≡ puts_where chosen base (take (32 * n) bytes) ++ puts_where inner at others
     → HasPutUpTo chosen base bytes initial from (32 * n) acts count → from + length (puts_where chosen base bytes) ≤ length initial
@@ -101,7 +101,7 @@ part_fits chosen inner base at n bytes others initial from acts count both h roo
       length-append (puts_where chosen base (take (32 * n) bytes)) (puts_where inner at others),
     )
 
--- they follow those of the bundles before
+-- the puts of one more bundle follow those of the bundles before
 pub part_next : (chosen inner : ℕ → Bool) (base at n : ℕ) (bytes others : List ℕ) (initial : List NcAct) (from : ℕ) (acts now : List NcAct)
     (count m : ℕ) → length others ≡ 32
     → puts_where chosen base (take (32 * (n + 1)) bytes) ≡ puts_where chosen base (take (32 * n) bytes) ++ puts_where inner at others

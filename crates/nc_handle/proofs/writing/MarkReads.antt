@@ -20,7 +20,7 @@ bit_is_mark Unmarked = refl
 bit_is_mark Plain = refl
 bit_is_mark (After register) = refl
 
--- and its opposite where it stands for none
+-- the opposite of the bit of a mark is set where the mark stands for no state
 pub bit_is_none : (mark : Mark) → (1 - mark_bit mark == 1) ≡ not (is_mark mark)
 bit_is_none Unmarked = refl
 bit_is_none Plain = refl
@@ -30,7 +30,7 @@ bit_is_none (After register) = refl
 pub marked_bit : (places k : ℕ) (mark : Mark) → bit_at places k ≡ mark_bit mark → (bit_at places k == 1) ≡ mark_if true mark
 marked_bit places k mark is = ap (λ (b : ℕ). b == 1) is ∙ bit_is_mark mark
 
--- another, by the opposite bit
+-- an unmarked place, by the opposite of its bit
 pub unmarked_bit : (places k : ℕ) (mark : Mark) → places < 2 ^ 32 → k < 32 → bit_at places k ≡ mark_bit mark
     → (bit_at (bit_not w32 places) k == 1) ≡ mark_if false mark
 unmarked_bit places k mark fits lt is =
@@ -44,7 +44,7 @@ start_bit at zero start lt =
 start_bit at (suc k) start lt =
     ap (λ (b : ℕ). b == 1) (bit_at-suc 1 k ∙ bit_at-zero k) ∙ sym (is_start_false (at + suc k) (λ e. omega (arith, start, lt, e)))
 
--- and the others are inside
+-- the places of a bundle above its lowest are inside it
 pub inside_bit : (at k : ℕ) → at % 32 ≡ 0 → k < 32 → (bit_at 4294967294 k == 1) ≡ is_inside (at + k)
 inside_bit at k start lt =
     ap (λ (b : ℕ). b == 1) (bit_at_not w32 1 k (omega arith) lt) ∙ (opposite (bit_at 1 k) (bit_at-lt 1 k) ∙ ap not (start_bit at k start lt))

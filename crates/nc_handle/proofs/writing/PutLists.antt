@@ -62,7 +62,7 @@ put_in chosen at bytes i lt is =
     puts_more chosen at bytes i lt
     ∙ ap (λ (b : Bool). puts_where chosen at (take i bytes) ++ cond b (Put (at + i) (get_or bytes i 0) ∷ []) []) is
 
--- a byte at another place isn't
+-- a byte at a place that doesn't pass isn't put
 pub put_out : (chosen : ℕ → Bool) (at : ℕ) (bytes : List ℕ) (i : ℕ) → i < length bytes → chosen (at + i) ≡ false
     → puts_where chosen at (take (i + 1) bytes) ≡ puts_where chosen at (take i bytes)
 put_out chosen at bytes i lt is =
@@ -70,7 +70,7 @@ put_out chosen at bytes i lt is =
     ∙ (ap (λ (b : Bool). puts_where chosen at (take i bytes) ++ cond b (Put (at + i) (get_or bytes i 0) ∷ []) []) is
     ∙ append-nil (puts_where chosen at (take i bytes)))
 
--- there is room for the next put
+-- there is room for the put of a byte at a place that passes
 pub put_fits : (chosen : ℕ → Bool) (at : ℕ) (bytes : List ℕ) (i from room : ℕ) → i < length bytes → chosen (at + i) ≡ true
     → from + length (puts_where chosen at bytes) ≤ room → from + length (puts_where chosen at (take i bytes)) < room
 put_fits chosen at bytes i from room lt is fits =

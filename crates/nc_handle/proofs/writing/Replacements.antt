@@ -17,7 +17,7 @@ use Rattle.nc_handle.specs.machinery.Written.{Adds}
 use Rattle.nc_handle.specs.machinery.Writing.{HasPutUpTo}
 use Rattle.nc_handle.proofs.writing.WriteSteps.{put_all, adds_both}
 
--- as many puts as bytes
+-- where any place passes there are as many puts as bytes
 pub all_puts : (at : ℕ) (bytes : List ℕ) → length (puts_where any_place at bytes) ≡ length bytes
 all_puts at [] = refl
 all_puts at (x ∷ rest) = ap (λ (n : ℕ). suc n) (all_puts (at + 1) rest)
@@ -28,7 +28,7 @@ of_one at [] e = absurd (omega (arith, e))
 of_one at (x ∷ []) e = refl
 of_one at (x ∷ y ∷ rest) e = absurd (omega (arith, e))
 
--- a longer one
+-- the log of an instruction of several bytes: a stop, the bytes behind the first, the first
 pub of_more : (at : ℕ) (bytes : List ℕ) → 1 < length bytes
     → log_of_instruction at bytes ≡ Did (Put at 244) ∷ Settled
     ∷ (unsettled (puts_where any_place (at + 1) (drop 1 bytes)) ++ (Settled ∷ Did (Put at (get_or bytes 0 0)) ∷ []))
@@ -68,7 +68,7 @@ rest_counted at bytes one two n m middle =
     refl middle in
     omega (arith, all.counted, all_puts (at + 1) (take (length bytes - 1) (drop 1 bytes)), rest_long bytes)
 
--- a first byte that stands there
+-- where the first byte stands in the text, bytes do if those behind it do
 pub stands_first : (text : List ℕ) (at : ℕ) (bytes : List ℕ) → 0 < length bytes → byte_at text at ≡ get_or bytes 0 0
     → stands_there text at bytes ≡ stands_there text (at + 1) (drop 1 bytes)
 stands_first text at [] lt e = absurd (omega (arith, lt))

@@ -48,7 +48,7 @@ bundle_long i bytes le =
     length-take-le 32 (drop (32 * i) bytes) (omega (arith, le, length-drop (32 * i) bytes)) in
     omega (arith, long)
 
--- a run of the chunk's bytes
+-- the entries of a run of the chunk's bytes are puts at the places that pass
 put_entries : (chosen : ℕ → Bool) (base : ℕ) (code : List ℕ) (i bits : ℕ) → 32 * i + 32 ≤ length code
     → AreBits chosen (base + 32 * i) 32 bits
     → entries_of base code (PutRun (base + 32 * i) bits) ≡ unsettled (puts_where chosen (base + 32 * i) (take 32 (drop (32 * i) code)))
@@ -58,12 +58,12 @@ put_entries chosen base code i bits le h =
     ∙ ap (λ (z : List Act). unsettled z)
     (by_bits chosen (base + 32 * i) 32 bits (take 32 (drop (32 * i) code)) h (bundle_long i code le))
 
--- a bundle of stops
+-- a bundle of stops is 32 of them
 pub stops_there : (n i : ℕ) → 32 * i + 32 ≤ n → take 32 (drop (32 * i) (replicate {A = ℕ} n 244)) ≡ replicate {A = ℕ} 32 244
 stops_there n i le =
     ap (λ (z : List ℕ). take 32 z) (drop-replicate (32 * i) n 244) ∙ take-replicate 32 (n - 32 * i) 244 (omega (arith, le))
 
--- a run of stops
+-- the entries of a run of stops are puts at the places that pass
 stop_entries : (chosen : ℕ → Bool) (base : ℕ) (code : List ℕ) (i bits : ℕ) → 32 * i + 32 ≤ length code
     → AreBits chosen (base + 32 * i) 32 bits
     → entries_of base code (StopRun (base + 32 * i) bits)
@@ -73,7 +73,7 @@ stop_entries chosen base code i bits le h =
     (by_bits chosen (base + 32 * i) 32 bits (replicate {A = ℕ} 32 244) h (omega (arith, length-replicate {A = ℕ} 32 244)))
     ∙ ap (λ (z : List ℕ). unsettled (puts_where chosen (base + 32 * i) z)) (sym (stops_there (length code) i le))
 
--- a run
+-- the entries of a run are puts at the places that it picks
 pub run_entries : (places : Places) (marks : ℕ → Mark) (base : ℕ) (code : List ℕ) (i bits : ℕ) → 32 * i + 32 ≤ length code
     → HasBits (picks places marks base) (base + 32 * i) 32 bits
     → entries_of base code (run_at places (base + 32 * i) bits)
@@ -83,14 +83,14 @@ run_entries Starts marks base code i bits le h = put_entries (picks Starts marks
 run_entries Marked marks base code i bits le h = stop_entries (picks Marked marks base) base code i bits le h.are
 run_entries Unmarked marks base code i bits le h = stop_entries (picks Unmarked marks base) base code i bits le h.are
 
--- as many bytes as the chunk has
+-- there are as many bytes for a run's entries as the chunk has
 pub bytes_long : (places : Places) (code : List ℕ) → length (bytes_for places code) ≡ length code
 bytes_long Inside code = refl
 bytes_long Starts code = refl
 bytes_long Marked code = length-replicate {A = ℕ} (length code) 244
 bytes_long Unmarked code = length-replicate {A = ℕ} (length code) 244
 
--- runs, and others after them
+-- the entries of runs, and of others after them
 pub entries_append : (base : ℕ) (code : List ℕ) (xs ys : List Run)
     → entries_in base code (xs ++ ys) ≡ entries_in base code xs ++ entries_in base code ys
 entries_append base code [] ys = refl
@@ -98,18 +98,18 @@ entries_append base code (x ∷ rest) ys =
     ap (λ (z : List Entry). entries_of base code x ++ z) (entries_append base code rest ys)
     ∙ sym (append_assoc (entries_of base code x) (entries_in base code rest) (entries_in base code ys))
 
--- a bit before others
+-- a number is its lowest bit and twice the others
 bit_more : (b : Bool) (bits rest : ℕ) → (bits % 2 == 1) ≡ b → bits / 2 ≡ rest → bits ≡ cond b 1 0 + 2 * rest
 bit_more true bits rest h e = omega (arith, eqb-true (bits % 2) 1 h, e)
 bit_more false bits rest h e = omega (arith, eqb-false (bits % 2) 1 h, e)
 
--- there is one number with these bits
+-- only one number has the bits that say which places pass
 bits_are : (chosen : ℕ → Bool) (at n bits : ℕ) → AreBits chosen at n bits → bits ≡ bits_where chosen at n
 bits_are chosen at zero bits h = h
 bits_are chosen at (suc n) bits (here, more) =
     bit_more (chosen at) bits (bits_where chosen (at + 1) n) here (bits_are chosen (at + 1) n (bits / 2) more)
 
--- and one for a bundle
+-- only one number has the bits that say which places of a bundle pass
 pub bits_bundle : (chosen : ℕ → Bool) (at bits : ℕ) → HasBits chosen at 32 bits → bits ≡ bits_at chosen at
 unfolding bits_at
 bits_bundle chosen at bits h = bits_are chosen at 32 bits h.are
@@ -143,12 +143,12 @@ bits_same f g at (suc n) h =
     (λ k lt. subst (λ (m : ℕ). f m ≡ g m) {x = at + suc k} {y = at + 1 + k} (omega arith) (h (suc k) (omega (arith, lt)))) in
     ap (λ (b : Bool). cond b 1 0 + 2 * bits_where f (at + 1) n) here ∙ ap (λ (m : ℕ). cond (g at) 1 0 + 2 * m) more
 
--- those of a bundle
+-- two tests that agree on the places of a bundle have the same bits
 bundle_same : (f g : ℕ → Bool) (at : ℕ) → ((k : ℕ) → k < 32 → f (at + k) ≡ g (at + k)) → bits_at f at ≡ bits_at g at
 unfolding bits_at
 bundle_same f g at h = bits_same f g at 32 h
 
--- and the same runs
+-- two tests that agree on the places have the same runs
 pub runs_same : (run : ℕ → ℕ → Run) (f g : ℕ → Bool) (at n : ℕ) → ((k : ℕ) → k < 32 * n → f (at + k) ≡ g (at + k))
     → runs_where run f at n ≡ runs_where run g at n
 runs_same run f g at zero h = refl

@@ -17,7 +17,7 @@ use Rattle.nc_handle.specs.machinery.Running.{picks, bytes_for, run_at, HasBits,
 use Rattle.nc_handle.proofs.writing.Buffers.{over_more}
 use Rattle.nc_handle.proofs.writing.RunLists.{bundle_more, bytes_long, entries_append, run_entries, bits_bundle, runs_more}
 
--- one more run
+-- a run written behind the first ones of a buffer is one more of them
 pub write_run : (start now : List NcAct) (count base : ℕ) (code : List ℕ) (runs : List Run) (log : List Entry) (r : Run)
     → HasRuns start now count base code runs log → count < length now
     → HasRuns start (set now count (run_of r)) (count + 1) base code (runs ++ r ∷ []) (log ++ entries_of base code r)
@@ -33,18 +33,18 @@ write_run start now count base code runs log r h lt =
           ∙ ap (λ (z : List Entry). log ++ z) (append-nil (entries_of base code r)));
     }
 
--- nothing is added
+-- a buffer that stays has no run added
 pub adds_no_run : (base : ℕ) (code : List ℕ) (acts : List NcAct) (count : ℕ) → AddsRuns base code acts count acts count [] []
 adds_no_run base code acts count = λ start before log h.
     subst (λ (z : List Run). HasRuns start acts count base code z (log ++ [])) (sym (append-nil before))
     (subst (λ (z : List Entry). HasRuns start acts count base code before z) (sym (append-nil log)) h)
 
--- one run
+-- a run written at the next place of a buffer is added
 pub adds_run : (base : ℕ) (code : List ℕ) (acts : List NcAct) (count : ℕ) (r : Run) → count < length acts
     → AddsRuns base code acts count (set acts count (run_of r)) (count + 1) (r ∷ []) (entries_of base code r)
 adds_run base code acts count r lt = λ start before log h. write_run start acts count base code before log r h lt
 
--- some runs, and others after them
+-- runs that are added after others are added with them
 pub adds_both_runs : (base : ℕ) (code : List ℕ) (a b c : List NcAct) (n m k : ℕ) (rs ss : List Run) (xs ys : List Entry)
     → AddsRuns base code a n b m rs xs → AddsRuns base code b m c k ss ys → AddsRuns base code a n c k (rs ++ ss) (xs ++ ys)
 adds_both_runs base code a b c n m k rs ss xs ys one two = λ start before log h.
@@ -73,7 +73,7 @@ one_bundle places marks base code n acts count bits le are lt =
     (entries_of base code (run_at places (base + 32 * n) bits)))
     (bits_bundle (picks places marks base) (base + 32 * n) bits are) (adds_run base code acts count (run_at places (base + 32 * n) bits) lt))
 
--- one more bundle
+-- the runs are written up to the next bundle by the run of this one
 pub run_next : (places : Places) (marks : ℕ → Mark) (base : ℕ) (code : List ℕ) (initial : List NcAct) (from n : ℕ) (acts : List NcAct)
     (count bits : ℕ) → HasRunUpTo places marks base code initial from n acts count → 32 * n + 32 ≤ length code
     → HasBits (picks places marks base) (base + 32 * n) 32 bits → count < length acts

@@ -24,7 +24,7 @@ use Rattle.nc_handle.proofs.writing.WholeLists.{same_stops, stands_so}
 no_runs : (acts : List NcAct) (base : ℕ) (code : List ℕ) → HasRuns acts acts 0 base code [] []
 no_runs acts base code = record { buffer = refl; counted = refl; entries = refl }
 
--- a single entry, and what follows it
+-- a single entry is added with the runs that are added after it
 then_single : (base : ℕ) (code : List ℕ) (acts next last : List NcAct) (n m k : ℕ) (a : Entry) (runs : List Run) (rest : List Entry)
     → next ≡ set acts n (entry_of a) → m ≡ n + 1 → n < length acts → AddsRuns base code next m last k runs rest
     → AddsRuns base code acts n last k (Single a ∷ runs) (a ∷ rest)
@@ -55,7 +55,7 @@ creation_runs base code acts acts1 acts2 acts3 acts4 n1 n2 n3 n4 one long m1 e2 
     subst (λ (n : ℕ). HasRuns acts acts4 n base code (runs_of_create base code) (log_of_create base code))
     {x = n4} {y = 2 * (length code / 32) + 2} (omega (arith, m1, m2, m3, m4)) all
 
--- the same runs by a chunk's marks as by those of the text in which they stand
+-- the runs by a chunk's marks are those by the marks of the text in which they stand
 same_runs : (marked : Bool) (marks : ℕ → Mark) (text : List Mark) (base len : ℕ) → AreMarksAt text base len marks
     → runs_where StopRun (marks_if marked marks base) base (len / 32)
     ≡ runs_where StopRun (λ at. mark_if marked (mark_at text at)) base (len / 32)

@@ -37,7 +37,7 @@ pub record Stopping (places left at : ℕ) (initial : List NcAct) (from : ℕ) (
   pub rest : (k : ℕ) → done ≤ k → k < 32 → bit_at left k ≡ bit_at places k
   pub put : HasPutUpTo (is_among places at) at stops initial from done acts count
 
--- at first none are
+-- at the beginning no stop is written
 pub stopping_none : (places at : ℕ) (initial : List NcAct) (from : ℕ) → Stopping places places at initial from initial from
 stopping_none places at initial from = record {
   done = 0;
@@ -83,7 +83,7 @@ next_found places left at initial from acts count s k lt is below =
       put = stopping_to places left at initial from acts count s k past (omega (arith, lt)) below;
     }
 
--- there is room for its stop
+-- there is room for the stop at the lowest bit that is left
 pub stop_fits : (places left at : ℕ) (initial : List NcAct) (from : ℕ) (acts : List NcAct) (count : ℕ)
     → Stopping places left at initial from acts count → (k : ℕ) → k < 32 → bit_at left k ≡ 1
     → ((i : ℕ) → i < k → bit_at left i ≡ 0) → from + length (puts_where (is_among places at) at stops) ≤ length initial
@@ -92,7 +92,7 @@ stop_fits places left at initial from acts count s k lt is below room =
     let n = next_found places left at initial from acts count s k lt is below in
     next_fits (is_among places at) at stops initial from k acts count n.put n.short n.is room
 
--- it is written
+-- the stop at the lowest bit that is left is written
 pub stopping_next : (places left at : ℕ) (initial : List NcAct) (from : ℕ) (acts : List NcAct) (count : ℕ)
     → Stopping places left at initial from acts count → (k : ℕ) → k < 32 → bit_at left k ≡ 1
     → ((i : ℕ) → i < k → bit_at left i ≡ 0) → from + length (puts_where (is_among places at) at stops) ≤ length initial
@@ -123,7 +123,7 @@ stopping_all places left at initial from acts count e s =
 
 -- ---- one bundle after others
 
--- its stops are those of the chunk
+-- the stops of a chunk up to the next bundle are those before it and those of this bundle
 bundle_puts : (chosen : ℕ → Bool) (places base n len : ℕ) → 32 * n + 32 ≤ len
     → ((k : ℕ) → k < 32 → (bit_at places k == 1) ≡ chosen (base + (32 * n + k)))
     → puts_where chosen base (take (32 * (n + 1)) (replicate len 244))
@@ -140,7 +140,7 @@ bundle_puts chosen places base n len fits agree =
     bundle_more chosen base n (replicate len 244) (omega (arith, fits, length-replicate {A = ℕ} len 244))
     ∙ (ap (λ (z : List ℕ). before ++ puts_where chosen at z) (stops_there len n fits) ∙ ap (λ (z : List Act). before ++ z) (sym same))
 
--- there is room for them
+-- there is room for the stops of one more bundle
 pub bundle_fits : (chosen : ℕ → Bool) (places base n len : ℕ) (initial : List NcAct) (from : ℕ) (acts : List NcAct) (count : ℕ)
     → 32 * n + 32 ≤ len → ((k : ℕ) → k < 32 → (bit_at places k == 1) ≡ chosen (base + (32 * n + k)))
     → HasPutUpTo chosen base (replicate len 244) initial from (32 * n) acts count
@@ -150,7 +150,7 @@ bundle_fits chosen places base n len initial from acts count fits agree =
     part_fits chosen (is_among places (base + 32 * n)) base (base + 32 * n) n (replicate len 244) stops initial from acts count
     (bundle_puts chosen places base n len fits agree)
 
--- they follow those of the bundles before
+-- the stops of one more bundle follow those of the bundles before
 pub bundle_next : (chosen : ℕ → Bool) (places base n len : ℕ) (initial : List NcAct) (from : ℕ) (acts now : List NcAct) (count m : ℕ)
     → 32 * n + 32 ≤ len → ((k : ℕ) → k < 32 → (bit_at places k == 1) ≡ chosen (base + (32 * n + k)))
     → HasPutUpTo chosen base (replicate len 244) initial from (32 * n) acts count

@@ -45,7 +45,7 @@ first_written chosen base bytes acts now n count e h =
     let all = put_all chosen base bytes acts 0 n now count e h in
     record { len = all.len; counted = omega (arith, all.counted); written = all.written }
 
--- one entry more, and what follows it
+-- an entry is added with those that are added after it
 then_entry : (acts next last : List NcAct) (n m k : ℕ) (a : Entry) (rest : List Entry) → next ≡ set acts n (entry_of a) → m ≡ n + 1
     → n < length acts → Adds next m last k rest → Adds acts n last k (a ∷ rest)
 then_entry acts next last n m k a rest e f lt more =
@@ -81,7 +81,7 @@ stands_so marked marks text base len k h lt =
     let here : base + k - base ≡ k = omega arith in
     ap (λ (n : ℕ). mark_if marked (marks n)) here ∙ ap (λ (z : Mark). mark_if marked z) (sym (h k lt))
 
--- so the same stops are put
+-- the stops by a chunk's marks are those by the marks of the text in which they stand
 pub same_stops : (marked : Bool) (marks : ℕ → Mark) (text : List Mark) (base len : ℕ) → AreMarksAt text base len marks
     → puts_where (marks_if marked marks base) base (replicate {A = ℕ} len 244)
     ≡ puts_where (λ at. mark_if marked (mark_at text at)) base (replicate {A = ℕ} len 244)

@@ -25,7 +25,7 @@ put_none chosen at bytes initial from = record {
   written = λ start log h. subst (λ (z : List Entry). HasWritten start initial from z) (sym (append-nil log)) h;
 }
 
--- there is room for the next put
+-- there is room for the put at the next place, where it is chosen
 pub next_fits : (chosen : ℕ → Bool) (at : ℕ) (bytes : List ℕ) (initial : List NcAct) (from n : ℕ) (acts : List NcAct) (count : ℕ)
     → HasPutUpTo chosen at bytes initial from n acts count → n < length bytes → chosen (at + n) ≡ true
     → from + length (puts_where chosen at bytes) ≤ length initial → count < length acts
@@ -89,15 +89,15 @@ put_all chosen at bytes initial from n acts count e h =
           subst (λ (z : List ℕ). HasWritten start acts count (log ++ unsettled (puts_where chosen at z))) all (h.written start log w);
     }
 
--- nothing is added
+-- a buffer that stays has no entry added
 pub adds_none : (acts : List NcAct) (count : ℕ) → Adds acts count acts count []
 adds_none acts count = λ start log h. subst (λ (z : List Entry). HasWritten start acts count z) (sym (append-nil log)) h
 
--- one entry
+-- an entry written at the next place of a buffer is added
 pub adds_one : (acts : List NcAct) (count : ℕ) (a : Entry) → count < length acts → Adds acts count (set acts count (entry_of a)) (count + 1) (a ∷ [])
 adds_one acts count a lt = λ start log h. write_one start acts count log a h lt
 
--- some entries, and others after them
+-- entries that are added after others are added with them
 pub adds_both : (a b c : List NcAct) (n m k : ℕ) (xs ys : List Entry) → Adds a n b m xs → Adds b m c k ys → Adds a n c k (xs ++ ys)
 adds_both a b c n m k xs ys one two = λ start log h.
     subst (λ (z : List Entry). HasWritten start c k z) (append_assoc log xs ys) (two start (log ++ xs) (one start log h))

@@ -88,6 +88,13 @@ Feeds answers start before bytes now after held kept (Err BadSize) = ⊥
 Feeds answers start before bytes now after held kept (Err BadSeats) = ⊥
 Feeds answers start before bytes now after held kept (Err BadWorkers) = ⊥
 
+-- `Feeds` after a call that takes a piece, whatever was read before it
+abbrev pub FeedsPiece : {S T : Type 0} → (S → List ℕ → List ℕ → S → Type 0) → S → Option (List ℕ) → List ℕ → List ℕ → List ℕ → S
+    → Option (List ℕ) → List ℕ → List ℕ → Result T ReplayFault → Type 0
+FeedsPiece {S} answers old after held kept piece new later left part_left result =
+    (start : S) (before : Option (List ℕ)) (bytes : List ℕ) → KeepsUp answers start before bytes old after held kept
+    → Feeds answers start before (bytes ++ piece) new later left part_left result
+
 -- `Feeds` after a call that takes some of the bytes and returns their number.
 abbrev pub FeedsPart : {S : Type 0} → (S → List ℕ → List ℕ → S → Type 0) → S → Option (List ℕ) → List ℕ → List ℕ → S → Option (List ℕ)
     → List ℕ → List ℕ → Result ℕ ReplayFault → Type 0

@@ -19,7 +19,7 @@ alone marked base bytes marks = with_chunk (unused_text (limit_of marked.bytes))
 pub empty_bytes : (marked : MarkedText) → length (unused_text (limit_of marked.bytes)).bytes ≡ length marked.bytes
 empty_bytes marked = omega (arith, length-replicate {A = ℕ} (limit_of marked.bytes - 65536) 244)
 
--- how many marks it has
+-- the unused text has as many marks as the text has bytes
 pub empty_marks : (marked : MarkedText) → length (unused_text (limit_of marked.bytes)).marks ≡ length marked.bytes
 empty_marks marked = omega (arith, length-map-range_with_len unused_mark 65536 (limit_of marked.bytes - 65536))
 
@@ -57,7 +57,7 @@ alone_before marked base bytes marks at j inside high =
     span_before (unused_text (limit_of marked.bytes)).marks base marks at Unmarked j.placed.low
     (alone_fits_marks marked base bytes marks j) inside.0 high ∙ empty_mark marked at inside
 
--- after the span too
+-- behind the span only bundle starts are marked
 pub alone_behind : (marked : MarkedText) (base : ℕ) (bytes : List ℕ) (marks : List Mark) (at : ℕ)
     → IsClosedChunk base (limit_of marked.bytes) bytes marks → InRegion marked.bytes at → base + length bytes ≤ at
     → mark_at (alone marked base bytes marks).marks at ≡ unused_mark at
@@ -72,7 +72,7 @@ alone_bytes_long marked base bytes marks j =
     length-with_span (unused_text (limit_of marked.bytes)).bytes (base - 65536) bytes
     (omega (arith, alone_fits_bytes marked base bytes marks j, j.placed.low)) ∙ empty_bytes marked
 
--- how many marks it has
+-- the text with the chunk alone has as many marks as the text has bytes
 pub alone_marks_long : (marked : MarkedText) (base : ℕ) (bytes : List ℕ) (marks : List Mark)
     → IsClosedChunk base (limit_of marked.bytes) bytes marks → length (alone marked base bytes marks).marks ≡ length marked.bytes
 alone_marks_long marked base bytes marks j =

@@ -25,12 +25,12 @@ each_but P xs k x h =
     let r = each_split P (take k xs) (x ∷ drop k xs) h in
     (r.1.0, subst (Each P) (take-append-drop k xs) (each_append P (take k xs) (drop k xs) r.0 r.1.1))
 
--- one member inserted
+-- what holds of each member still does where an element with it is inserted
 each_insert : {X : Type 0} (P : X → Type 0) (xs : List X) (k : ℕ) (x : X) → P x → Each P (take k xs) → Each P (drop k xs)
     → Each P (insert xs k x)
 each_insert P xs k x p front back = each_append P (take k xs) (x ∷ drop k xs) front (p, back)
 
--- chunks that all begin later rise from there
+-- rising chunks that all begin at or above an address rise from it
 rising_from : (from to : ℕ) (chunks : List Chunk) → IsRising from chunks → IsBelowAll to chunks → IsRising to chunks
 rising_from from to [] rising below = tt
 rising_from from to (c ∷ rest) rising below = (below.0, rising.1)
@@ -62,7 +62,7 @@ fits_bytes : (marked : MarkedText) (chunks : List Chunk) (k : ℕ) (c : Chunk) (
     → Inserts marked chunks k c bytes marks → c.base + length bytes ≤ 65536 + length marked.bytes
 fits_bytes marked chunks k c bytes marks n = omega (arith, n.chunk.placed.high)
 
--- its marks fit
+-- the chunk's marks fit into the marks
 fits_marks : (marked : MarkedText) (chunks : List Chunk) (k : ℕ) (c : Chunk) (bytes : List ℕ) (marks : List Mark)
     → Inserts marked chunks k c bytes marks → c.base + length marks ≤ 65536 + length marked.marks
 fits_marks marked chunks k c bytes marks n = omega (arith, n.chunk.placed.high, n.chunk.as_long, n.region.whole.as_long)
@@ -89,14 +89,14 @@ other_mark marked chunks k c bytes marks at n low out =
           (omega (arith, p, n.long, n.chunk.as_long))
     ]
 
--- the limit stays
+-- the text's limit stays where a chunk is put in
 same_limit : (marked : MarkedText) (chunks : List Chunk) (k : ℕ) (c : Chunk) (bytes : List ℕ) (marks : List Mark)
     → Inserts marked chunks k c bytes marks → limit_of (with_chunk marked c.base bytes marks).bytes ≡ limit_of marked.bytes
 same_limit marked chunks k c bytes marks n =
     ap (λ (m : ℕ). 65536 + m) (length-with_span marked.bytes (c.base - 65536) bytes
     (omega (arith, n.chunk.placed.low, fits_bytes marked chunks k c bytes marks n)))
 
--- another chunk still stands
+-- a text that holds a valid chunk still holds it once another one is put beside it
 holds_still : (marked : MarkedText) (chunks : List Chunk) (k : ℕ) (c : Chunk) (bytes : List ℕ) (marks : List Mark)
     → Inserts marked chunks k c bytes marks → (d : Chunk) → (d.base + d.length ≤ c.base) ⊎ (c.base + c.length ≤ d.base)
     → HoldsValid marked d → HoldsValid (with_chunk marked c.base bytes marks) d
@@ -116,7 +116,7 @@ holds_still marked chunks k c bytes marks n d apart h =
           ∙ h.marks_are at inside;
     }
 
--- the new one stands
+-- the text holds the new chunk, which is valid, once it is put in
 holds_new : (marked : MarkedText) (chunks : List Chunk) (k : ℕ) (c : Chunk) (bytes : List ℕ) (marks : List Mark)
     → Inserts marked chunks k c bytes marks → HoldsValid (with_chunk marked c.base bytes marks) c
 holds_new marked chunks k c bytes marks n =

@@ -16,7 +16,7 @@ abbrev pub IsReading : List ℕ → List Instr → Type 0
 IsReading bytes [] = bytes ≡ []
 IsReading bytes (i ∷ rest) = (first_instruction bytes ≡ Some i) × IsReading (drop i.len bytes) rest
 
--- none crosses a bundle
+-- no instruction of a list, laid out from a place on, crosses a bundle
 abbrev pub NoneCrosses : ℕ → List Instr → Type 0
 NoneCrosses at [] = ⊤
 NoneCrosses at (i ∷ rest) = IsInOneBundle at i.len × NoneCrosses (at + i.len) rest

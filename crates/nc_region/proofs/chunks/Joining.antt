@@ -27,7 +27,7 @@ fits_bytes : (marked : MarkedText) (base : ℕ) (bytes : List ℕ) (marks : List
     → base + length bytes ≤ 65536 + length marked.bytes
 fits_bytes marked base bytes marks j = omega (arith, j.chunk.placed.high)
 
--- the chunk's marks fit
+-- the chunk's marks fit into those of the text
 fits_marks : (marked : MarkedText) (base : ℕ) (bytes : List ℕ) (marks : List Mark) → Joins marked base bytes marks
     → base + length marks ≤ 65536 + length marked.marks
 fits_marks marked base bytes marks j = omega (arith, j.chunk.placed.high, j.as_long, j.chunk.as_long)
@@ -45,7 +45,7 @@ marks_before : (marked : MarkedText) (base : ℕ) (bytes : List ℕ) (marks : Li
 marks_before marked base bytes marks at j low high =
     span_before marked.marks base marks at Unmarked j.chunk.placed.low (fits_marks marked base bytes marks j) low high
 
--- the marks after it
+-- behind the chunk that joins a text the marks stay
 marks_behind : (marked : MarkedText) (base : ℕ) (bytes : List ℕ) (marks : List Mark) (at : ℕ) → Joins marked base bytes marks
     → base + length bytes ≤ at → mark_at (with_chunk marked base bytes marks).marks at ≡ mark_at marked.marks at
 marks_behind marked base bytes marks at j past =
@@ -180,7 +180,7 @@ chunk_joins marked base bytes marks j =
           })
     ])
 
--- a mark stays what it is
+-- a mark that stays what it is stays or is plain
 stays_same : (mark : Mark) → StaysOrPlain mark mark
 stays_same Unmarked = tt
 stays_same Plain = refl

@@ -28,7 +28,7 @@ pub record Stands (good : ℕ → Type 0) (base : ℕ) (bytes : List ℕ) (marks
   pub behind : (k + i.len ≡ length bytes) ⊎ Admits (get_or marks (k + i.len) Unmarked) i.masks
   pub targets : IsDirect i.flow → good (target i (base + k))
 
--- what a mark admits may be executed there
+-- a state that an instruction's mark admits has the mask that the instruction needs
 may_from_mark : (flow : Flow) (register : ℕ) (masked : Option ℕ) → Admits (mark_by flow register) masked → IsMaskedFor flow register masked
 may_from_mark Next register masked m = tt
 may_from_mark Branch register masked m = tt
@@ -66,7 +66,7 @@ marks_inside i rest (suc k) some short =
     (omega (arith, short, length-replicate (i.len - 1) Unmarked))
     ∙ get_or-replicate (i.len - 1) k Unmarked Unmarked (omega (arith, short))
 
--- there are as many marks as bytes
+-- a chunk has as many marks as bytes
 pub marks_long : (chunk : List Instr) (bytes : List ℕ) → IsReading bytes chunk → length (marks_of chunk) ≡ length bytes
 marks_long [] bytes reading = sym (ap length reading)
 marks_long (i ∷ rest) bytes reading =

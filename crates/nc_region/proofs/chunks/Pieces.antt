@@ -32,7 +32,7 @@ spelled_at : (c : vet.MarkedChunk) (v : vet.IsValid c) (done more : List Piece) 
     → (p.instr.len ≡ length p.bytes) × (0 < p.instr.len)
 spelled_at c v done more p e = spells_some p.bytes p.instr (v.sound.spelled done more p e)
 
--- one piece further
+-- a list parted in front of a piece, parted behind it
 further : (all done more : List Piece) (p : Piece) → all ≡ done ++ p ∷ more → all ≡ (done ++ p ∷ []) ++ more
 further all done more p e = e ∙ sym (append_assoc done (p ∷ []) more)
 
@@ -49,7 +49,7 @@ reading_of c v done (p ∷ more) e =
           (reading_of c v (done ++ p ∷ []) more (further v.pieces done more p e)),
     )
 
--- none of them crosses the end of a bundle
+-- no instruction of a valid chunk crosses the end of a bundle, from any piece on
 crossing_of : (c : vet.MarkedChunk) (v : vet.IsValid c) (done rest : List Piece) → v.pieces ≡ done ++ rest
     → NoneCrosses (c.base + place done) (instrs rest)
 crossing_of c v done [] e = tt
@@ -94,7 +94,7 @@ follows_by IndirectJump reg before at h = h refl
 follows_by IndirectCall reg before at h = h refl
 follows_by Stop reg before at h = tt
 
--- so does each of them
+-- each indirect transfer of a valid chunk follows its mask, from any piece on
 pairs_of : (c : vet.MarkedChunk) (v : vet.IsValid c) (done rest : List Piece) → v.pieces ≡ done ++ rest
     → PairsHold (last_masks done) (c.base + place done) (instrs rest)
 pairs_of c v done [] e = tt
@@ -138,7 +138,7 @@ sized_of : (c : vet.MarkedChunk) (v : vet.IsValid c) (done rest : List Piece) �
 sized_of c v done [] e = tt
 sized_of c v done (p ∷ more) e = ((spelled_at c v done more p e).0, sized_of c v (done ++ p ∷ []) more (further v.pieces done more p e))
 
--- where a piece begins
+-- a piece that is not indirect begins at its place
 begins_at : (before after : List Piece) (p : Piece) (base : ℕ) → AreSized (before ++ p ∷ after) → is_indirect p.instr.flow ≡ false
     → BeginsAt (base + place before) base (instrs (before ++ p ∷ after))
 begins_at [] after p base sized first = inl (omega arith, not_indirect p.instr.flow first)
@@ -148,7 +148,7 @@ begins_at (q ∷ before) after p base sized first =
     inr (subst (λ (at : ℕ). BeginsAt at (base + q.instr.len) (instrs (before ++ p ∷ after))) e
     (begins_at before after p (base + q.instr.len) sized.1 first))
 
--- a good target is one of the reading too
+-- a good target among a valid chunk's pieces is one among their instructions
 target_of : (c : vet.MarkedChunk) (v : vet.IsValid c) (t : ℕ) → vet.IsTarget c.base c.limit v.pieces t
     → IsTarget c.base c.limit (length c.code) (instrs v.pieces) t
 target_of c v t good =

@@ -15,7 +15,7 @@ ready_part made base len at n all low high = λ k lt.
     let same : base + (at - base + k) ≡ at + k = omega (arith, low) in
     subst (λ (place : ℕ). IsReady made place) same (all (at - base + k) (omega (arith, low, high, lt)))
 
--- one place of it
+-- each place of a span that is ready is ready
 pub ready_place : (made : List Bool) (base len at : ℕ) → AreReady made base len → base ≤ at → at < base + len → IsReady made at
 ready_place made base len at all low high =
     let same : base + (at - base) ≡ at = omega (arith, low) in
@@ -61,12 +61,12 @@ kept_when : (P : Chunk → Type 0) (b : Bool) (c : Chunk) (rest : List Chunk) �
 kept_when P true c rest here others = (here, others)
 kept_when P false c rest here others = others
 
--- so of each of a list that passes a test
+-- what holds of each chunk holds of each that passes a test
 each_filter : (P : Chunk → Type 0) (p : Chunk → Bool) (chunks : List Chunk) → Each P chunks → Each P (filter p chunks)
 each_filter P p [] h = tt
 each_filter P p (c ∷ chunks) h = kept_when P (p c) c (filter p chunks) h.0 (each_filter P p chunks h.1)
 
--- the chunks that stay
+-- the chunks that stay have their pages ready
 pub ready_kept : (made : List Bool) (least : ℕ) (chunks : List Chunk) → AreChunksReady made chunks → AreChunksReady made (kept least chunks)
 ready_kept made least chunks ready =
     each_filter (λ (d : Chunk). AreReady made d.base d.length) (λ (d : Chunk). not (is_due least d.state)) chunks ready

@@ -30,18 +30,18 @@ above_all_free base len chunks above =
 
 -- ---- the chunk that has a place, or the first above it
 
--- those behind it
+-- the chunks behind the next one of a place begin at its end or above
 behind_next : (at : ℕ) (chunks : List Chunk) (c : Chunk) → IsRising 65536 chunks → (n : IsNextChunk chunks at c)
     → Each (λ (d : Chunk). c.base + c.length ≤ d.base) n.after
 behind_next at chunks c rising n =
     rises_above (c.base + c.length) n.after (rises_rest 65536 n.before (c ∷ n.after) (subst (IsRising 65536) n.parts rising)).1
 
--- it is in the list
+-- the next chunk of a place is in the list
 pub next_contained : (at : ℕ) (chunks : List Chunk) (c : Chunk) → IsNextChunk chunks at c → Contains chunks c
 next_contained at chunks c n =
     subst (λ (z : List Chunk). Contains z c) (sym n.parts) (Contains-append_right n.before (c ∷ n.after) c (0, omega arith, refl))
 
--- no other chunk has the place
+-- no chunk but the next one of a place has the place
 pub only_next : (at : ℕ) (chunks : List Chunk) (c d : Chunk) → IsRising 65536 chunks → IsNextChunk chunks at c → Contains chunks d
     → IsInChunk d at → d ≡ c
 only_next at chunks c d rising n has =
@@ -70,7 +70,7 @@ next_free base len chunks c rising n le =
           (behind_next base chunks c rising n),
     )))
 
--- a longer one isn't
+-- a span that reaches beyond the base of the next chunk overlaps a chunk of the list
 pub next_meets : (base len : ℕ) (chunks : List Chunk) (c : Chunk) → IsNextChunk chunks base c → c.base < base + len → Meets base len chunks
 next_meets base len chunks c n lt =
     subst (Meets base len) (sym n.parts) (meets_rest base len n.before (c ∷ n.after) (inl (n.above, lt)))

@@ -64,7 +64,7 @@ plain_unless_indirect IndirectJump register not = absurd (not tt)
 plain_unless_indirect IndirectCall register not = absurd (not tt)
 plain_unless_indirect Stop register not = refl
 
--- at a bundle start it is plain
+-- at a bundle start an instruction's mark is plain
 plain_at_start : (flow : Flow) (register : ℕ) (before : Option ℕ) (at : ℕ) → FollowsMask flow register before at → at % 32 ≡ 0
     → mark_by flow register ≡ Plain
 plain_at_start Next register before at m start = refl
@@ -124,7 +124,7 @@ fits_text : (base limit : ℕ) (code : List ℕ) (chunk : List Instr) → IsVali
     → base + length code ≤ 65536 + length (replicate {A = ℕ} (limit - 65536) 244)
 fits_text base limit code chunk v = omega (arith, v.placed.high, length-replicate {A = ℕ} (limit - 65536) 244)
 
--- its marks fit too
+-- the chunk's marks fit into the marks of the text
 fits_marks : (base limit : ℕ) (code : List ℕ) (chunk : List Instr) → IsValid base limit code chunk
     → base + length (marks_of chunk) ≤ 65536 + length (unused_marks 65536 (limit - 65536))
 fits_marks base limit code chunk v = omega (
@@ -147,7 +147,7 @@ text_long base limit code chunk v =
       length-replicate {A = ℕ} (limit - 65536) 244,
     )
 
--- how many marks it has
+-- the text with the chunk alone has marks up to its limit
 marks_all_long : (base limit : ℕ) (code : List ℕ) (chunk : List Instr) → IsValid base limit code chunk
     → 65536 + length (alone_marks base limit chunk) ≡ limit
 marks_all_long base limit code chunk v =
@@ -179,7 +179,7 @@ outside_mark base limit code chunk at v low high out =
           (fits_marks base limit code chunk v) (omega (arith, p, marks_long chunk code v.reading)) ∙ unused
     ]
 
--- outside stand stops
+-- outside the chunk's span stand stops
 outside_byte : (base limit : ℕ) (code : List ℕ) (chunk : List Instr) (at : ℕ) → IsValid base limit code chunk → 65536 ≤ at → at < limit
     → (at < base) ⊎ (base + length code ≤ at) → byte_at (text_of base limit code) at ≡ 244
 outside_byte base limit code chunk at v low high out =

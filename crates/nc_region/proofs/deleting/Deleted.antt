@@ -58,13 +58,13 @@ pub record Deletes (old new : MarkedText) (chunks : List Chunk) (k : ℕ) (c : C
   pub bytes_are : new.bytes ≡ with_span old.bytes (c.base - 65536) (replicate c.length 244)
   pub marks_are : new.marks ≡ old.marks
 
--- it lies in the region
+-- a chunk that is deleted lies in the region
 placed_there : (old new : MarkedText) (chunks : List Chunk) (k : ℕ) (c : Chunk) → Deletes old new chunks k c
     → HasGoodSpan c.base (limit_of old.bytes) c.length
 placed_there old new chunks k c r = subst (λ (d : Chunk). HasGoodSpan d.base (limit_of old.bytes) d.length) r.here
     (each_get (λ (d : Chunk). HasGoodSpan d.base (limit_of old.bytes) d.length) chunks k c r.inside r.region.placed)
 
--- outside it nothing is changed
+-- outside the deleted chunk's span nothing is changed
 agrees : (old new : MarkedText) (chunks : List Chunk) (k : ℕ) (c : Chunk) → Deletes old new chunks k c
     → AgreesOutside old new c.base c.length
 agrees old new chunks k c r =
@@ -82,7 +82,7 @@ agrees old new chunks k c r =
       marks = λ at low out. ap (λ (z : List Mark). mark_at z at) r.marks_are;
     }
 
--- in it stand stops
+-- in the span of a deleted chunk stand stops
 stops_there : (old new : MarkedText) (chunks : List Chunk) (k : ℕ) (c : Chunk) → Deletes old new chunks k c → (at : ℕ) → IsInChunk c at
     → byte_at new.bytes at ≡ 244
 stops_there old new chunks k c r at inside =
@@ -92,7 +92,7 @@ stops_there old new chunks k c r at inside =
     ∙ (span_within old.bytes c.base (replicate c.length 244) at 0 p.low (omega (arith, n, p.high)) inside.0 (omega (arith, inside.1, n))
     ∙ get_or-replicate c.length (at - c.base) 244 0 (omega (arith, inside.0, inside.1)))
 
--- each other chunk of the list lies beside it
+-- each other chunk of a rising list lies beside the one at an index
 others_beside : (old : MarkedText) (chunks : List Chunk) (k : ℕ) (c : Chunk) → IsRising 65536 chunks → k < length chunks
     → get_or chunks k c ≡ c → (i : ℕ) → i < length chunks → i ≢ k → LiesBeside c (get_or chunks i c)
 others_beside old chunks k c rising inside here i lt other =

@@ -36,7 +36,7 @@ marked_closed old now base len count placed le closed puts =
       | Behind p ↦ inr (λ i is fits k lt. puts.above (s.place + k) (omega arith))
     ])
 
--- and while they are put at the others
+-- while stops are put at unmarked places, with stops at all marked ones, the text is closed
 pub others_closed : (old : MarkedText) (now : List ℕ) (base len count : ℕ) → HasGoodSpan base (limit_of old.bytes) len → count ≤ len
     → IsClosed old.bytes old.marks → ((at : ℕ) → base ≤ at → at < base + len → is_marked_at old.marks at ≡ true
     → byte_at old.bytes at ≡ 244) → HasPut (is_unmarked_at old.marks) base (replicate len 244) count old.bytes now → IsClosed now old.marks
@@ -51,7 +51,7 @@ others_closed old now base len count placed le closed stopped puts =
       | Behind p ↦ inr (λ i is fits k lt. puts.above (s.place + k) (omega arith))
     ])
 
--- with all of them put it is closed
+-- the text with stops in all of a span is closed
 pub stops_closed : (old : MarkedText) (base len : ℕ) → HasGoodSpan base (limit_of old.bytes) len → IsClosed old.bytes old.marks
     → IsClosed (with_stops old base len).bytes old.marks
 stops_closed old base len placed closed =
@@ -69,14 +69,14 @@ stops_closed old base len placed closed =
           span_behind old.bytes base (replicate len 244) (s.place + k) 0 placed.low fits (omega (arith, n, p)))
     ])
 
--- by either of the two a stop stands there
+-- a place has a byte if it does where it is marked and where it is not
 within_stop : (marks : List Mark) (at : ℕ) (b : Bool) → is_marked_at marks at ≡ b → (now : List ℕ) (byte : ℕ)
     → (is_marked_at marks at ≡ true → byte_at now at ≡ byte) → (is_marked_at marks at ≡ false → byte_at now at ≡ byte)
     → byte_at now at ≡ byte
 within_stop marks at true is now byte marked other = marked is
 within_stop marks at false is now byte marked other = other is
 
--- after both every byte is a stop
+-- after the stops at marked places and those at the others, all bytes of the span are stops
 pub all_stops : (old mid now : List ℕ) (marks : List Mark) (base len : ℕ) → 65536 ≤ base → base + len ≤ 65536 + length old
     → HasPut (is_marked_at marks) base (replicate len 244) len old mid
     → HasPut (is_unmarked_at marks) base (replicate len 244) len mid now → now ≡ with_span old (base - 65536) (replicate len 244)

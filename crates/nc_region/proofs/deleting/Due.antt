@@ -21,12 +21,12 @@ pub due_dead : (least : ℕ) (s : ChunkState) → is_due least s ≡ true → Is
 due_dead least Live is live = absurd cc
 due_dead least (Retired stamp) is live = live
 
--- no byte is changed
+-- unmarking changes no byte
 pub unmarked_bytes : (marked : MarkedText) (done : List Chunk) → (unmarked marked done).bytes ≡ marked.bytes
 unmarked_bytes marked [] = refl
 unmarked_bytes marked (d ∷ done) = unmarked_bytes (without_marks marked d.base d.length) done
 
--- one more chunk is one or the other
+-- with one more chunk, due or not, the kept and the freed ones are still as many as all
 one_more : (least : ℕ) (c : Chunk) (rest : List Chunk) (b : Bool) → is_due least c.state ≡ b
     → length (kept least rest) + length (freed least rest) ≡ length rest
     → length (kept least (c ∷ rest)) + length (freed least (c ∷ rest)) ≡ suc (length rest)

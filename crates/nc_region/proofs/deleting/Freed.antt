@@ -18,7 +18,7 @@ rises_without : (from : ℕ) (before after : List Chunk) (c : Chunk) → IsRisin
 rises_without from [] after c rising = rises_lower from (c.base + c.length) after (omega (arith, rising.0)) rising.1
 rises_without from (b ∷ before) after c rising = (rising.0, rises_without (b.base + b.length) before after c rising.1)
 
--- the others lie beside it
+-- in a rising list the other chunks lie beside each one
 lie_beside : (from : ℕ) (before after : List Chunk) (c : Chunk) → IsRising from (before ++ c ∷ after)
     → Each (LiesBeside c) (before ++ after)
 lie_beside from [] after c rising = each_map (λ (d : Chunk). c.base + c.length ≤ d.base) (LiesBeside c) (λ d h. inr h) after
@@ -54,7 +54,7 @@ frees marked before after c region dead =
       shut = shut_if_quiet marked.bytes marked.marks (span_of c) (dead_is_quiet marked before after c region dead);
     }
 
--- outside it nothing is changed
+-- outside the freed chunk's span nothing is changed
 agrees : (marked : MarkedText) (c : Chunk) → MayFree marked (span_of c)
     → AgreesOutside marked (without_marks marked c.base c.length) c.base c.length
 agrees marked c f =

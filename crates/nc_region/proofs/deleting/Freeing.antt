@@ -23,25 +23,25 @@ use Rattle.nc_region.proofs.telling.Logged.{logs_none, logs_acts}
 
 -- ---- spans that are unmarked
 
--- spans unmarked after others
+-- unmarking the spans of two lists is unmarking those of the one and then those of the other
 unmarked_append : (marked : MarkedText) (xs ys : List Chunk) → unmarked marked (xs ++ ys) ≡ unmarked (unmarked marked xs) ys
 unmarked_append marked [] ys = refl
 unmarked_append marked (x ∷ xs) ys = unmarked_append (without_marks marked x.base x.length) xs ys
 
--- their acts
+-- the acts that unmark the spans of two lists are those for the one and then those for the other
 unmarkings_append : (xs ys : List Chunk) → unmarkings (xs ++ ys) ≡ unmarkings xs ++ unmarkings ys
 unmarkings_append xs ys = map-append (λ (x : Chunk). UnmarkSpan x.base x.length) xs ys
 
--- nothing is unmarked
+-- no chunk is unmarked where nothing changes
 pub unmarks_none : (marked : MarkedText) (logged : List Entry) → AreUnmarked [] marked marked logged logged
 unmarks_none marked logged = record { marked = refl; logs = logs_none logged }
 
--- one chunk
+-- one chunk is unmarked by the act on its span
 pub unmarks_one : (chunk : Chunk) (a b : MarkedText) (l m : List Entry) → b ≡ without_marks a chunk.base chunk.length
     → Logs l m (Did (UnmarkSpan chunk.base chunk.length) ∷ []) → AreUnmarked (chunk ∷ []) a b l m
 unmarks_one chunk a b l m marked logs = record { marked = marked; logs = logs }
 
--- some chunks, and then more
+-- chunks that are unmarked after others are unmarked with them
 pub unmarks_more : (xs ys : List Chunk) (a b c : MarkedText) (l m n : List Entry)
     → AreUnmarked xs a b l m → AreUnmarked ys b c m n → AreUnmarked (xs ++ ys) a c l n
 unmarks_more xs ys a b c l m n first second = record {
@@ -61,7 +61,7 @@ record FirstDue (least : ℕ) (front : List Chunk) (c : Chunk) (rest : List Chun
   stay : kept least front ≡ kept least (before ++ after)
   others : rest ≡ freed least (before ++ after)
 
--- it stands somewhere, where some are due
+-- where some chunks are due, the first of them stands somewhere in the list
 first_due : (least : ℕ) (front : List Chunk) (c : Chunk) (rest : List Chunk) → c ∷ rest ≡ freed least front → FirstDue least front c rest
 first_due least [] c rest is = absurd cc
 first_due least (d ∷ front) c rest is = go (is_due least d.state) refl is (first_due least front c rest)
@@ -115,7 +115,7 @@ next_taken least marked left c rest out =
       },
     )
 
--- so may the one at an index, once those before it are unmarked
+-- the taken chunk at an index may be freed, and its span is quiet, once those before it are unmarked
 pub taken_at : (least : ℕ) (marked : MarkedText) (left taken : List Chunk) (i : ℕ) (c : Chunk) → i < length taken → c ≡ get_or taken i c
     → AreTakenOut least marked left (drop i taken)
     → MayFree marked (span_of c) × IsQuiet marked.bytes marked.marks (span_of c)
@@ -129,7 +129,7 @@ taken_at least marked left taken i c lt is out =
       subst (λ (k : ℕ). AreTakenOut least (without_marks marked c.base c.length) left (drop k taken)) next n.2,
     )
 
--- those up to the next index
+-- the taken chunks up to the next index are those up to this one, and the one here
 pub taken_more : (taken : List Chunk) (i : ℕ) (c : Chunk) → i < length taken → c ≡ get_or taken i c
     → take (i + 1) taken ≡ take i taken ++ c ∷ []
 taken_more taken i c lt is =
@@ -164,18 +164,18 @@ kept_one : (least : ℕ) (c : Chunk) (rest : List Chunk) (b : Bool) → is_due l
 kept_one least c rest true is h = h
 kept_one least c rest false is h = rw is (ap (λ (z : List Chunk). c ∷ z) h)
 
--- what was kept is kept
+-- the chunks kept of kept ones are all of them
 kept_kept : (least : ℕ) (chunks : List Chunk) → kept least (kept least chunks) ≡ kept least chunks
 kept_kept least [] = refl
 kept_kept least (c ∷ rest) = kept_one least c rest (is_due least c.state) refl (kept_kept least rest)
 
--- and isn't due then
+-- where no kept chunk is due, none is with one more chunk, if that is kept
 freed_one : (least : ℕ) (c : Chunk) (rest : List Chunk) (b : Bool) → is_due least c.state ≡ b → freed least (kept least rest) ≡ []
     → freed least (cond (not b) (c ∷ kept least rest) (kept least rest)) ≡ []
 freed_one least c rest true is h = h
 freed_one least c rest false is h = rw is h
 
--- and isn't due
+-- no chunk that is kept is due
 freed_kept : (least : ℕ) (chunks : List Chunk) → freed least (kept least chunks) ≡ []
 freed_kept least [] = refl
 freed_kept least (c ∷ rest) = freed_one least c rest (is_due least c.state) refl (freed_kept least rest)
@@ -188,7 +188,7 @@ kept_taken least old new taken t =
     ∙ (ap (λ (z : List Chunk). z ++ kept least t.back) (kept_kept least t.front)
     ∙ (sym (kept_append least t.front t.back) ∙ ap (λ (z : List Chunk). kept least z) (sym t.was))))
 
--- those that are due are what was taken, and then the others
+-- the due chunks are those that were taken, and then those that are still due
 freed_taken : (least : ℕ) (old new taken : List Chunk) → AreTaken least old new taken → freed least old ≡ taken ++ freed least new
 freed_taken least old new taken t =
     ap (λ (z : List Chunk). freed least z) t.was
@@ -198,7 +198,7 @@ freed_taken least old new taken t =
     (sym (ap (λ (z : List Chunk). freed least z) t.now
     ∙ (freed_append least (kept least t.front) t.back ∙ ap (λ (z : List Chunk). z ++ freed least t.back) (freed_kept least t.front))))))
 
--- the list is shorter by those that were taken
+-- the list is shorter by the chunks that were taken
 pub taken_shorter : (least : ℕ) (old new taken : List Chunk) → AreTaken least old new taken → length new + length taken ≡ length old
 taken_shorter least old new taken t =
     omega (
@@ -219,13 +219,13 @@ pub record AreFreed (least : ℕ) (old new : List Chunk) (was now : MarkedText) 
   pub unmarks : AreUnmarked done was now logged logged_now
   pub region : IsRegion now new
 
--- none is freed yet
+-- at the beginning no chunk is freed
 pub freed_none : (least : ℕ) (chunks : List Chunk) (marked : MarkedText) (logged : List Entry)
     → IsRegion marked chunks → AreFreed least chunks chunks marked marked logged logged
 freed_none least chunks marked logged region =
     record { done = []; stay = refl; parted = refl; unmarks = unmarks_none marked logged; region = region }
 
--- those that were taken now are
+-- chunks that are taken out and unmarked after some were freed are freed with them
 pub freed_more : (least : ℕ) (old mid new taken : List Chunk) (a b c : MarkedText) (l m n : List Entry)
     → AreFreed least old mid a b l m → AreTaken least mid new taken → AreUnmarked taken b c m n → IsRegion c new
     → AreFreed least old new a c l n
@@ -245,7 +245,7 @@ pub record AllFreed (least : ℕ) (old new : List Chunk) (was now : MarkedText) 
   pub unmarks : AreUnmarked (freed least old) was now logged logged_now
   pub region : IsRegion now new
 
--- so it is where none is taken any more
+-- all due chunks are freed once none is taken any more
 pub freed_all : (least : ℕ) (old mid new taken : List Chunk) (a b : MarkedText) (l m : List Entry)
     → AreFreed least old mid a b l m → AreTaken least mid new taken → taken ≡ [] → AllFreed least old new a b l m
 freed_all least old mid new taken a b l m f t' none =
@@ -261,7 +261,7 @@ freed_all least old mid new taken a b l m f t' none =
       region = subst (IsRegion b) (sym same) f.region;
     }
 
--- so it is where all others are taken out and unmarked after some
+-- all due chunks are freed once, after some, all others are taken out and unmarked
 pub freed_rest : (least : ℕ) (old mid new : List Chunk) (a b c : MarkedText) (l m n : List Entry)
     → AreFreed least old mid a b l m → new ≡ kept least mid → AreUnmarked (freed least mid) b c m n → IsRegion c new
     → AllFreed least old new a c l n

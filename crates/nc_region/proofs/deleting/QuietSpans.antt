@@ -29,12 +29,12 @@ pub live_or_dead : (s : ChunkState) → IsLive s ⊎ (IsLive s → ⊥)
 live_or_dead Live = inl tt
 live_or_dead (Retired stamp) = inr (λ live. live)
 
--- one more chunk, which doesn't hold the place
+-- a chunk in front that doesn't hold a place leaves it held or free as it is
 with_head : (P : Chunk → Type 0) (c : Chunk) (rest : List Chunk) (at : ℕ) → (IsLive c.state → IsInChunk c at → ⊥) → Held P rest at
     → Held P (c ∷ rest) at
 with_head P c rest at out held = elim held [ In d live inside p ↦ In d live inside p | Free f ↦ Free (out, f) ]
 
--- which of the two it is
+-- each place lies in a live chunk, of which the property holds, or in none
 held : (P : Chunk → Type 0) (chunks : List Chunk) (at : ℕ) → Each P chunks → Held P chunks at
 held P [] at each = Free tt
 held P (c ∷ rest) at each =
@@ -151,7 +151,7 @@ quiet_one marked chunks region c placed free stamp =
           ];
     }
 
--- so is that of each chunk that isn't live
+-- the span of each chunk that isn't live is quiet
 pub quiet_chunks : (marked : MarkedText) (chunks : List Chunk) → IsRegion marked chunks
     → Each (λ (c : Chunk). (IsLive c.state → ⊥) → (stamp : ℕ)
     → IsQuiet marked.bytes marked.marks (record { base = c.base; length = c.length; stamp = stamp })) chunks
@@ -163,14 +163,14 @@ quiet_chunks marked chunks region =
     (λ c placed free dead stamp. quiet_one marked chunks region c placed (free dead) stamp) chunks region.placed
     (retired_free 65536 chunks region.rising)
 
--- one more chunk, whose span is quiet if it is retired
+-- what holds of retired spans holds with that of one more chunk in front, live or not
 with_one : (Q : RetiredSpan → Type 0) (c : Chunk) (s : ChunkState) (spans : List RetiredSpan) → c.state ≡ s
     → ((IsLive c.state → ⊥) → (stamp : ℕ) → Q (record { base = c.base; length = c.length; stamp = stamp })) → Each Q spans
     → Each Q (with_retired c s spans)
 with_one Q c Live spans is q h = h
 with_one Q c (Retired stamp) spans is q h = (q (λ live. subst IsLive is live) stamp, h)
 
--- each retired span
+-- what holds of the span of each chunk that isn't live holds of each retired span
 retired_each : (Q : RetiredSpan → Type 0) (chunks : List Chunk) → Each (λ (c : Chunk). (IsLive c.state → ⊥) → (stamp : ℕ)
     → Q (record { base = c.base; length = c.length; stamp = stamp })) chunks → Each Q (retired_spans chunks)
 retired_each Q [] h = tt

@@ -44,7 +44,7 @@ pub record Renews (marked : MarkedText) (c : Chunk) (bytes : List ℕ) (marks : 
 abbrev renewed : MarkedText → Chunk → List ℕ → List ℕ
 renewed marked c bytes = with_span marked.bytes (c.base - 65536) bytes
 
--- it is as long
+-- the text with other bytes in the chunk's span is as long as it was
 renewed_long : (marked : MarkedText) (c : Chunk) (bytes : List ℕ) (marks : List Mark) → Renews marked c bytes marks
     → length (renewed marked c bytes) ≡ length marked.bytes
 renewed_long marked c bytes marks r = length-with_span marked.bytes (c.base - 65536) bytes (omega (arith, r.lies.low, r.lies.high, r.long))
@@ -78,7 +78,7 @@ alone_marked marked c bytes marks r now m =
       | Behind p ↦ at_start (alone_behind marked c.base bytes marks now.place r.chunk inside (omega (arith, p, r.long)))
     ]
 
--- it is closed
+-- the text with other bytes in the chunk's span is closed
 pub renewed_closed : (marked : MarkedText) (c : Chunk) (bytes : List ℕ) (marks : List Mark) → Renews marked c bytes marks
     → IsClosed (renewed marked c bytes) marked.marks
 renewed_closed marked c bytes marks r =
@@ -241,13 +241,13 @@ changed_closed marked c at before after o n x =
     subst (λ (z : List ℕ). IsClosed z marked.marks) (same_text marked c at before after o n x)
     (renewed_closed marked c (code_of (before ++ n ∷ after)) x.holds.vetted.marks (renews_of marked c at before after o n x))
 
--- it is as long
+-- the text with the new instruction is as long as it was
 pub changed_long : (marked : MarkedText) (c : Chunk) (at : ℕ) (before after : List Piece) (o n : Piece)
     → Changes marked c at before after o n → length (with_span marked.bytes (at - 65536) n.bytes) ≡ length marked.bytes
 changed_long marked c at before after o n x = ap (λ (z : List ℕ). length z) (sym (same_text marked c at before after o n x))
     ∙ renewed_long marked c (code_of (before ++ n ∷ after)) x.holds.vetted.marks (renews_of marked c at before after o n x)
 
--- it is a text
+-- the text with the new instruction is still a text (`IsText`)
 pub changed_text : (marked : MarkedText) (c : Chunk) (at : ℕ) (before after : List Piece) (o n : Piece)
     → Changes marked c at before after o n → IsText (changed marked at n.bytes)
 changed_text marked c at before after o n x =
@@ -258,7 +258,7 @@ changed_text marked c at before after o n x =
       closed = changed_closed marked c at before after o n x;
     }
 
--- the bytes of the chunk in it
+-- the text with the new instruction has the bytes of the chunk with it
 pub changed_bytes : (marked : MarkedText) (c : Chunk) (at : ℕ) (before after : List Piece) (o n : Piece)
     → Changes marked c at before after o n → (k : ℕ) → IsInChunk c k
     → byte_at (changed marked at n.bytes).bytes k ≡ get_or (code_of (before ++ n ∷ after)) (k - c.base) 0
@@ -305,7 +305,7 @@ begins_there marked c at before after o n x now m low high =
     (omega (arith, marks_long, low, high)) (sym there) (is_marked (mark_at marked.marks now.place) now.masked m.1) in
     (found.before, found.piece, found.after, found.parts, found.here)
 
--- no other instruction has a byte of the span
+-- no instruction at another marked place has a byte of the new instruction's span
 changed_apart : (marked : MarkedText) (c : Chunk) (at : ℕ) (before after : List Piece) (o n : Piece) (x : Changes marked c at before after
     o n) (now : State) (i : Instr) → IsMarked marked.marks now → now.place ≢ at
     → instruction_at (with_span marked.bytes (at - 65536) n.bytes) now.place ≡ Some i → (now.place + i.len ≤ at)

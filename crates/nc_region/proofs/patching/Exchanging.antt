@@ -45,7 +45,7 @@ pub record Exchanges (c : MarkedChunk) (before after : List Piece) (o n : Piece)
   pub mask : GoesOnIndirectly after → n.instr.masks ≡ o.instr.masks
   pub good : IsTrue (is_direct n.instr.flow) → IsTarget c.base c.limit valid.pieces (target n.instr (c.base + place before))
 
--- places stay
+-- an instruction exchanged for one as long leaves the places behind it
 pub same_place : (before m : List Piece) (o n : Piece) → length o.bytes ≡ length n.bytes
     → place (before ++ o ∷ m) ≡ place (before ++ n ∷ m)
 same_place before m o n e =
@@ -55,7 +55,7 @@ same_place before m o n e =
     one : (p : Piece) → place (p ∷ []) ≡ length p.bytes
     one p = ap (λ (z : List ℕ). length z) (append-nil p.bytes)
 
--- so do the starts of instructions that are no second halves
+-- an instruction exchanged for one as long, indirect if it was, leaves the starts that are no second halves
 entry_stays : (before after : List Piece) (o n : Piece) (at : ℕ) → length o.bytes ≡ length n.bytes
     → is_indirect n.instr.flow ≡ is_indirect o.instr.flow → IsEntry (before ++ o ∷ after) at → IsEntry (before ++ n ∷ after) at
 entry_stays before after o n at len same e =
@@ -89,7 +89,7 @@ entry_stays before after o n at len same e =
       }
     ]
 
--- and good targets
+-- an instruction exchanged for one as long, indirect if it was, leaves the good targets
 pub target_stays : (base limit : ℕ) (before after : List Piece) (o n : Piece) (to : ℕ) → length o.bytes ≡ length n.bytes
     → is_indirect n.instr.flow ≡ is_indirect o.instr.flow → IsTarget base limit (before ++ o ∷ after) to
     → IsTarget base limit (before ++ n ∷ after) to
@@ -128,7 +128,7 @@ mark_same false false r s e f = refl
 mark_same true false r s e f = absurd cc
 mark_same false true r s e f = absurd cc
 
--- marks stay
+-- an instruction exchanged for one as long, with the same register if it is indirect, leaves the marks
 same_marks : (before after : List Piece) (o n : Piece) → o.instr.len ≡ n.instr.len → is_indirect n.instr.flow ≡ is_indirect o.instr.flow
     → (IsTrue (is_indirect o.instr.flow) → n.instr.reg ≡ o.instr.reg)
     → marks_of (before ++ o ∷ after) ≡ marks_of (before ++ n ∷ after)
@@ -141,7 +141,7 @@ same_marks before after o n len same reg =
         (sym (mark_same (is_indirect n.instr.flow) (is_indirect o.instr.flow) n.instr.reg o.instr.reg same reg))
         ∙ ap (λ (k : ℕ). mark_of n.instr ∷ replicate (k - 1) Unmarked) len
 
--- the chunk afterwards
+-- the chunk with a new instruction in place of one
 abbrev pub exchanged : MarkedChunk → List Piece → List Piece → Piece → MarkedChunk
 exchanged c before after n = record { base = c.base; limit = c.limit; code = code_of (before ++ n ∷ after); marks = c.marks }
 
@@ -228,7 +228,7 @@ exchanged_sound c before after o n x =
       ];
     }
 
--- they go where they may
+-- after an exchange each direct transfer goes to a good target
 pub exchanged_targets : (c : MarkedChunk) (before after : List Piece) (o n : Piece) → Exchanges c before after o n
     → AreTargets c.base c.limit (before ++ n ∷ after)
 exchanged_targets c before after o n x = λ b a p e direct. elim (where_is before after b a n p e) [
@@ -245,7 +245,7 @@ exchanged_targets c before after o n x = λ b a p e direct. elim (where_is befor
       ∙ ap place (sym f)) (x.valid.targets (before ++ o ∷ m) a p (later_parts c before after m a o n p x g) direct))
 ]
 
--- they have the same marks
+-- after an exchange the chunk's marks are those of its pieces
 pub exchanged_marks : (c : MarkedChunk) (before after : List Piece) (o n : Piece) → Exchanges c before after o n
     → c.marks ≡ marks_of (before ++ n ∷ after)
 exchanged_marks c before after o n x = x.valid.marks_are

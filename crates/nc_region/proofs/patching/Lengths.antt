@@ -65,7 +65,7 @@ pub record NextMark (marked : MarkedText) (at steps : ℕ) : Type 0 where
   pub between : (k : ℕ) → 0 < k → k < steps → mark_at marked.marks (at + k) ≡ Unmarked
   pub next : at % 32 + steps < 32 → mark_at marked.marks (at + steps) ≢ Unmarked
 
--- an instruction of the chunk ends there
+-- an instruction of a chunk ends at the next mark
 pub ends_at_next : (marked : MarkedText) (c : Chunk) (at : ℕ) (t : IsText marked) (b : Begins marked c at) (s : Standing marked c at b)
     (steps : ℕ) → NextMark marked at steps → steps ≡ s.piece.instr.len
 ends_at_next marked c at t b s steps n =

@@ -28,7 +28,7 @@ none_of_none bytes news none b = none_after news b.spelled (sym (ap (λ (z : Lis
 pub instructions_none : (bytes : List ℕ) → length bytes ≡ 0 → AreInstructions bytes
 instructions_none bytes none = ([], subst (λ (z : List ℕ). AreBytesOf z []) (sym (empty_list bytes none)) no_bytes)
 
--- all of a list
+-- the first elements of a list, as many as it has, are the list
 take_all : (xs : List ℕ) (k : ℕ) → length xs ≡ k → take k xs ≡ xs
 take_all xs zero e = sym (empty_list xs e)
 take_all [] (suc k) e = refl
@@ -91,7 +91,7 @@ parted bytes (p ∷ rest) i b is =
           ∙ (length-append p.bytes (code_of rest) ∙ ap (λ (z : List ℕ). length p.bytes + length z) (sym behind));
     }
 
--- where none is found, they are none
+-- bytes with no instruction at their front are the bytes of no pieces
 pub not_found : (bytes : List ℕ) → (0 < length bytes) → first_instruction bytes ≡ None → (news : List Piece) → AreBytesOf bytes news → ⊥
 not_found bytes some none [] b = omega (arith, some, ap (λ (z : List ℕ). length z) b.parts)
 not_found bytes some none (p ∷ rest) b = let f = found_first bytes p rest b in differ (first_instruction bytes) p.instr none f
@@ -99,12 +99,12 @@ not_found bytes some none (p ∷ rest) b = let f = found_first bytes p rest b in
     differ : (o : Option Instr) (i : Instr) → o ≡ None → o ≡ Some i → ⊥
     differ o i e f = cc
 
--- one more spelled piece
+-- a list of pieces is spelled if its first piece and the others are
 pub spelled_cons : (p : Piece) (rest : List Piece) → Spells p.bytes p.instr → AreSpelled rest → AreSpelled (p ∷ rest)
 spelled_cons p rest one others [] after q e = let h : p ≡ q = cc in subst (λ (x : Piece). Spells x.bytes x.instr) h one
 spelled_cons p rest one others (b ∷ before) after q e = others before after q (cc)
 
--- an instruction with others behind it
+-- bytes with an instruction in front are instructions if those behind it are
 pub one_more : (bytes : List ℕ) (i : Instr) → first_instruction bytes ≡ Some i
     → AreInstructions (take (length bytes - i.len) (drop i.len bytes)) → AreInstructions bytes
 one_more bytes i is others =
@@ -124,7 +124,7 @@ pub rest_are : (bytes : List ℕ) (i : Instr) → first_instruction bytes ≡ So
     → AreInstructions (take (length bytes - i.len) (drop i.len bytes))
 rest_are bytes i is all = let p = parted bytes all.0 i all.1 is in (p.rest, p.behind)
 
--- the first and the others are all
+-- the bytes of the first instruction and those behind it are all
 pub whole_again : (bytes : List ℕ) (news : List Piece) (i : Instr) (p : Parted bytes news i)
     → p.first.bytes ++ take (length bytes - i.len) (drop i.len bytes) ≡ bytes
 whole_again bytes news i p = ap (λ (z : List ℕ). z ++ take (length bytes - i.len) (drop i.len bytes)) (sym p.front)

@@ -28,7 +28,7 @@ pub record IsOne (bytes : List ℕ) (i : Instr) : Type 0 where
 abbrev pub piece_of : List ℕ → Instr → Piece
 piece_of bytes i = record { bytes = bytes; instr = i }
 
--- the bytes spell it
+-- bytes that are one instruction spell it
 one_spells : (bytes : List ℕ) (i : Instr) → IsOne bytes i → Spells bytes i
 one_spells bytes i o =
     let f = (exact bytes i).0 o.first in
@@ -38,14 +38,14 @@ one_spells bytes i o =
     let all : bytes ≡ f.front = f.parts ∙ (ap (λ (z : List ℕ). f.front ++ z) none ∙ append-nil f.front) in
     subst (λ (z : List ℕ). Spells z i) (sym all) f.spells
 
--- they are the bytes of that piece
+-- bytes that are one instruction are the bytes of its piece
 pub one_is : (bytes : List ℕ) (i : Instr) → IsOne bytes i → AreBytesOf bytes (piece_of bytes i ∷ [])
 one_is bytes i o = record {
   spelled = spelled_cons (piece_of bytes i) [] (one_spells bytes i o) (λ before after p e. absurd (split_none before after p e));
   parts = sym (append-nil bytes);
 }
 
--- and of no other pieces
+-- bytes that are one instruction are the bytes of no other pieces
 pub only_one : (bytes : List ℕ) (news : List Piece) (i : Instr) → IsOne bytes i → AreBytesOf bytes news → news ≡ piece_of bytes i ∷ []
 only_one bytes news i o b =
     let p = parted bytes news i b o.first in
@@ -63,7 +63,7 @@ pub record OneRun (marked : MarkedText) (c : Chunk) (at : ℕ) (bytes : List ℕ
   pub news : r.run.news ≡ piece_of bytes i ∷ []
   pub long : length old.bytes ≡ length bytes
 
--- it replaces one
+-- a run of one new instruction replaces one instruction
 pub one_run : (marked : MarkedText) (c : Chunk) (at : ℕ) (bytes : List ℕ) (i : Instr) → IsOne bytes i → (r : IsRun marked c at bytes)
     → OneRun marked c at bytes i r
 one_run marked c at bytes i o r = go (r.run.old ++ r.run.after) refl
@@ -84,7 +84,7 @@ one_run marked c at bytes i o r = go (r.run.old ++ r.run.after) refl
       long = (subst (λ (z : List Piece). RunsAlong z (piece_of bytes i ∷ [])) e along).0;
     }
 
--- it leaves pairs alone where the one instruction does
+-- a run of one new instruction leaves pairs alone exactly where that instruction does
 pub one_leaves : (marked : MarkedText) (c : Chunk) (at : ℕ) (bytes : List ℕ) (i : Instr) (r : IsRun marked c at bytes)
     (x : OneRun marked c at bytes i r) → SparesPair x.old x.rest (piece_of bytes i) ↔ LeavesPairs r.run
 one_leaves marked c at bytes i r x = (
@@ -92,7 +92,7 @@ one_leaves marked c at bytes i r x = (
   λ all. (spares_to (r.run.old ++ r.run.after) r.run.news x.old (piece_of bytes i) x.rest [] x.is x.news all).0,
 )
 
--- its target is good where that of the one instruction is
+-- a run of one new instruction keeps targets exactly where that instruction's target is good
 pub one_keeps : (marked : MarkedText) (c : Chunk) (at : ℕ) (bytes : List ℕ) (i : Instr) (r : IsRun marked c at bytes)
     (x : OneRun marked c at bytes i r)
     → (IsTrue (is_direct i.flow) → IsTarget c.base (limit_of marked.bytes) r.holds.valid.pieces (target i at))

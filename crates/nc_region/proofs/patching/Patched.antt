@@ -49,7 +49,7 @@ outside old new chunks c at bytes p k low out =
           (omega (arith, b, p.ends))
     ]
 
--- another chunk still stands
+-- a text that holds a valid chunk still holds it once another one is patched
 other_holds : (old new : MarkedText) (chunks : List Chunk) (c : Chunk) (at : ℕ) (bytes : List ℕ) → Patches old new chunks c at bytes
     → (d : Chunk) → (d.base + d.length ≤ c.base) ⊎ (c.base + c.length ≤ d.base) → HoldsValid old d → HoldsValid new d
 other_holds old new chunks c at bytes p d apart h =

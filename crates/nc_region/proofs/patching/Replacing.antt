@@ -69,7 +69,7 @@ patching_over marked at new now len is patch p =
       behind = λ k past. p.behind k (omega (arith, is, past)) ∙ s.behind k past;
     }
 
--- with all bytes put it is the final text
+-- with the stop, the bytes behind the first, and the first put, the new instruction stands
 pub patch_final : (marked : MarkedText) (at first : ℕ) (rest now : List ℕ) → IsReplacing marked at (first ∷ rest)
     → HasPut any_place (at + 1) rest (length rest) (set marked.bytes (at - 65536) 244) now
     → set now (at - 65536) first ≡ with_span marked.bytes (at - 65536) (first ∷ rest)

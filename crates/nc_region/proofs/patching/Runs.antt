@@ -1,7 +1,6 @@
 -- A run of instructions of a chunk, by what stands from its first one on.
 use Rattle.std.proofs.Common.{◌≡◌, ℕ, ◌+◌, ◌-◌, ◌<◌, ◌≤◌, zero, suc, Bool, true, false, cond, List, [], ◌∷◌, ◌++◌, length, get_or, refl}
-use Rattle.std.proofs.Common.{sym, ◌∙◌, ap, arith, ⊎_elim}
-use Rattle.std.proofs.lemmas.Bool.{cases_lt}
+use Rattle.std.proofs.Common.{sym, ◌∙◌, ap, arith}
 use Rattle.std.proofs.lemmas.List.{get_or_default}
 use Rattle.nc_decode.specs.declared.instruction.Mark.{Mark}
 use Rattle.nc_decode.specs.declared.instruction.Mark.TheVariants.{Unmarked, Plain, After}
@@ -87,7 +86,7 @@ run_of marked c at new b news bytes runs =
       };
     }
 
--- and a run runs along
+-- where the instructions that a run replaces begin in their chunk
 abbrev pub run_begins : (marked : MarkedText) (c : Chunk) (at : ℕ) (new : List ℕ) → IsRun marked c at new → Begins marked c at
 run_begins marked c at new r = record {
   holds = r.holds;
@@ -131,36 +130,28 @@ apart_by_index from (c ∷ rest) d rising zero (suc j) le lt = rises_get (c.base
 apart_by_index from (c ∷ rest) d rising (suc i) (suc j) le lt =
     apart_by_index (c.base + c.length) rest d rising.1 i j (omega arith) (omega arith)
 
--- two live chunks that hold a place are one
-pub held_same : (chunks : List Chunk) (at : ℕ) (c d : Chunk) → IsRising 65536 chunks → IsHeldBy chunks at c → IsHeldBy chunks at d → d ≡ c
-held_same chunks at c d rising a b =
-    let i : ℕ = a.0.0 in
-    let j : ℕ = b.0.0 in
+-- of two live chunks that hold a place none is before the other
+none_before : (chunks : List Chunk) (at : ℕ) (c d : Chunk) → IsRising 65536 chunks → (a : IsHeldBy chunks at c) (b : IsHeldBy chunks at d)
+    → a.0.0 < b.0.0 → ⊥
+none_before chunks at c d rising a b lt =
     let is_c : get_or chunks a.0.0 c ≡ c = a.0.2 in
     let is_d : get_or chunks b.0.0 c ≡ d = get_or_default chunks b.0.0 c d b.0.1 ∙ b.0.2 in
-    ⊎_elim
-    (λ (lt : a.0.0 < b.0.0). absurd (omega (
+    omega (
       arith,
       apart_by_index 65536 chunks c rising a.0.0 b.0.0 lt b.0.1,
       ap (λ (x : Chunk). x.base + x.length) is_c,
       ap (λ (x : Chunk). x.base) is_d,
       a.2.1,
       b.2.0,
-    )))
-    (λ (le : b.0.0 ≤ a.0.0).
-    ⊎_elim
-    (λ (lt : b.0.0 < a.0.0). absurd (omega (
-      arith,
-      apart_by_index 65536 chunks c rising b.0.0 a.0.0 lt a.0.1,
-      ap (λ (x : Chunk). x.base + x.length) is_d,
-      ap (λ (x : Chunk). x.base) is_c,
-      b.2.1,
-      a.2.0,
-    )))
-    (λ (ge : a.0.0 ≤ b.0.0). (let same : b.0.0 ≡ a.0.0 = omega (arith, le, ge) in sym is_d
-    ∙ (ap (λ (k : ℕ). get_or chunks k c) same ∙ is_c)))
-    (cases_lt b.0.0 a.0.0))
-    (cases_lt a.0.0 b.0.0)
+    )
+
+-- two live chunks that hold a place are one
+pub held_same : (chunks : List Chunk) (at : ℕ) (c d : Chunk) → IsRising 65536 chunks → IsHeldBy chunks at c → IsHeldBy chunks at d → d ≡ c
+held_same chunks at c d rising a b =
+    let is_c : get_or chunks a.0.0 c ≡ c = a.0.2 in
+    let is_d : get_or chunks b.0.0 c ≡ d = get_or_default chunks b.0.0 c d b.0.1 ∙ b.0.2 in
+    let same : b.0.0 ≡ a.0.0 = omega (arith, none_before chunks at c d rising a b, none_before chunks at d c rising b a) in
+    sym is_d ∙ (ap (λ (k : ℕ). get_or chunks k c) same ∙ is_c)
 
 -- a live chunk holds its base
 abbrev pub live_is_held : (chunks : List Chunk) (base : ℕ) → Each (λ (d : Chunk). 0 < d.length) chunks → HasLive chunks base

@@ -24,7 +24,7 @@ pub record StandsAs (marked : MarkedText) (at : ℕ) (old : Piece) (rest : List 
 same_first : (p q : Piece) (xs ys : List Piece) → p ∷ xs ≡ q ∷ ys → (p ≡ q) × (xs ≡ ys)
 same_first p q xs ys e = (cc, cc)
 
--- this instruction of the chunk stands there
+-- an instruction of a chunk that begins at a place stands there in the text
 pub stands_as : (marked : MarkedText) (c : Chunk) (at : ℕ) → IsText marked → (b : Begins marked c at) (old : Piece) (rest : List Piece)
     → b.rest ≡ old ∷ rest → StandsAs marked at old rest
 stands_as marked c at t b old rest is =
@@ -46,7 +46,7 @@ bytes_stay text at new old long there stands =
     ext_get_or 0 new old (sym long)
     (λ k lt. sym (stands_bytes text at new stands k lt) ∙ there k (omega (arith, lt, long)))
 
--- and the other way round
+-- bytes that the text has at a place pass the test that they stand there
 pub stands_if : (text : List ℕ) (at : ℕ) (bytes : List ℕ) → ((k : ℕ) → k < length bytes → byte_at text (at + k) ≡ get_or bytes k 0)
     → stands_there text at bytes ≡ true
 stands_if text at [] there = refl
@@ -65,12 +65,12 @@ spares_none rest news e = rw e tt
 pub same_piece : (p : Piece) (bytes : List ℕ) (i : Instr) → p.bytes ≡ bytes → p.instr ≡ i → p ≡ record { bytes = bytes; instr = i }
 same_piece p bytes i e f = rw (← e, ← f) refl
 
--- from the first one on
+-- new instructions spare pairs if the first one and the others do
 pub spares_from : (rest news : List Piece) (p n : Piece) (others more : List Piece) → rest ≡ p ∷ others → news ≡ n ∷ more
     → SparesPair p others n → SparesPairs others more → SparesPairs rest news
 spares_from rest news p n others more e f one each = rw (e, f) (one, each)
 
--- so is the first
+-- where new instructions spare pairs, the first one and the others do
 pub spares_to : (rest news : List Piece) (p n : Piece) (others more : List Piece) → rest ≡ p ∷ others → news ≡ n ∷ more
     → SparesPairs rest news → SparesPair p others n × SparesPairs others more
 spares_to rest news p n others more e f each =

@@ -29,7 +29,7 @@ pub record Lies (marked : MarkedText) (c : Chunk) : Type 0 where
   pub whole : c.length % 32 ≡ 0
   pub small : limit_of marked.bytes < 0x80000000
 
--- a live chunk lies there
+-- a valid chunk that a text holds lies in it
 pub lies : (marked : MarkedText) (c : Chunk) → IsText marked → HoldsValid marked c → Lies marked c
 lies marked c t h =
     record {
@@ -141,7 +141,7 @@ standing marked c at t b lt = go b.rest refl
     ))
     go (p ∷ rest) e = stands_with marked c at t b p rest e
 
--- the next instruction
+-- where the instruction behind the one that stands at a place begins
 abbrev pub next_begins : (marked : MarkedText) (c : Chunk) (at : ℕ) (b : Begins marked c at) → (s : Standing marked c at b) → (len : ℕ)
     → len ≡ s.piece.instr.len → Begins marked c (at + len)
 next_begins marked c at b s len e = record {
@@ -153,12 +153,12 @@ next_begins marked c at b s len e = record {
       omega (arith, s.behind, e);
 }
 
--- some instruction stands there, wholly inside its bundle
+-- where a chunk's instruction begins, some instruction stands, wholly inside its bundle
 pub stands_some : (marked : MarkedText) (c : Chunk) (at : ℕ) (b : Begins marked c at) (s : Standing marked c at b)
     → IsSomeAnd (instruction_at marked.bytes at) (λ i. IsInOneBundle at i.len)
 stands_some marked c at b s = subst (λ (o : Option Instr). IsSomeAnd o (λ i. IsInOneBundle at i.len)) (sym s.instr) s.inside
 
--- the first of both lists, and the others
+-- lists run along each other if their first members and the others do
 pub runs_from : (rest news : List Piece) (p n : Piece) (others more : List Piece) → rest ≡ p ∷ others → news ≡ n ∷ more
     → length p.bytes ≡ length n.bytes → RunsAlong others more → RunsAlong rest news
 runs_from rest news p n others more e f len runs = rw (e, f) (len, runs)

@@ -13,26 +13,25 @@ use Rattle.nc_text.specs.Places.{limit_of, byte_at}
 use Rattle.nc_text.specs.MarkedText.{MarkedText, IsText, with_span}
 use Rattle.nc_text.proofs.Offered.{length-with_span}
 use Rattle.nc_list.specs.declared.chunk.Chunk.{Chunk}
-use Rattle.nc_region.specs.declared.acts.Act.{Act}
 use Rattle.nc_region.specs.declared.acts.Entry.{Entry}
-use Rattle.nc_region.specs.Patch.{AreBytesOf, lengths, SparesPairs, GoWell, stands_there, acts_of_instruction}
-use Rattle.nc_region.specs.Patch.{acts_of_modify, log_of_instruction, log_of_modify}
+use Rattle.nc_region.specs.Patch.{AreBytesOf, lengths, SparesPairs, GoWell, stands_there}
+use Rattle.nc_region.specs.Patch.{log_of_instruction, log_of_modify}
 use Rattle.nc_region.specs.machinery.PatchSteps.{CanPatch}
 use Rattle.nc_region.proofs.SpanPlaces.{place_of, Before, Within, Behind, span_within, span_before, span_behind}
 use Rattle.nc_region.proofs.patching.NewInstructions.{some_same}
 use Rattle.nc_region.proofs.patching.Exchanging.{target_stays}
 use Rattle.nc_region.proofs.patching.Exchanged.{Changes, changed, changed_holds, changed_long}
 
--- the first lengths agree
+-- lists of pieces with the same lengths have them first and behind
 lengths_first : (o n : Piece) (os ns : List Piece) → lengths (o ∷ os) ≡ lengths (n ∷ ns)
     → (length o.bytes ≡ length n.bytes) × (lengths os ≡ lengths ns)
 lengths_first o n os ns e = (cc, cc)
 
--- no list is as long as none
+-- the empty list of pieces hasn't the lengths of one with a first piece
 lengths_none : (n : Piece) (ns : List Piece) → lengths [] ≡ lengths (n ∷ ns) → ⊥
 lengths_none n ns e = cc
 
--- the same bytes are the same instruction
+-- pieces with the same bytes are the same instruction
 same_instr : (o n : Piece) → Spells o.bytes o.instr → Spells n.bytes n.instr → n.bytes ≡ o.bytes → n.instr ≡ o.instr
 same_instr o n old new is =
     some_same (first_instruction (o.bytes ++ [])) n.instr o.instr
@@ -183,7 +182,7 @@ spans_join text at xs ys low fits =
           ∙ sym (span_behind text at (xs ++ ys) (65536 + j) 0 low fits3 (omega (arith, f, both))))
     ]))
 
--- both tests are true
+-- where the conjunction of two tests is true, each of them is
 both_true : (a b : Bool) → (a && b) ≡ true → (a ≡ true) × (b ≡ true)
 both_true true b e = (refl, e)
 both_true false b e = absurd cc
@@ -224,17 +223,7 @@ same_stands a b at [] h = refl
 same_stands a b at (x ∷ rest) h = ap (λ (z : ℕ). (z == x) && stands_there a (at + 1) rest) (h at (omega arith))
     ∙ ap (λ (z : Bool). (byte_at b at == x) && z) (same_stands a b (at + 1) rest (λ k le. h k (omega (arith, le))))
 
--- the acts of what is left are the same over a text that agrees from there on
-pub same_acts : (a b : List ℕ) (at : ℕ) (ns : List Piece) → ((k : ℕ) → at ≤ k → byte_at a k ≡ byte_at b k)
-    → acts_of_modify a at ns ≡ acts_of_modify b at ns
-same_acts a b at [] h = refl
-same_acts a b at (n ∷ ns) h =
-    ap (λ (z : Bool). cond z [] (acts_of_instruction at n.bytes) ++ acts_of_modify a (at + length n.bytes) ns)
-    (same_stands a b at n.bytes h)
-    ∙ ap (λ (z : List Act). cond (stands_there b at n.bytes) [] (acts_of_instruction at n.bytes) ++ z)
-    (same_acts a b (at + length n.bytes) ns (λ k le. h k (omega (arith, le))))
-
--- and the same log
+-- the log of what is left is the same over a text that agrees from there on
 pub same_log : (a b : List ℕ) (at : ℕ) (ns : List Piece) → ((k : ℕ) → at ≤ k → byte_at a k ≡ byte_at b k)
     → log_of_modify a at ns ≡ log_of_modify b at ns
 same_log a b at [] h = refl

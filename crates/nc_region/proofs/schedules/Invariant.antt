@@ -33,7 +33,7 @@ abbrev pub OthersApart : List RetiredSpan → Type 0
 OthersApart retired =
     All (λ (one : RetiredSpan). All (λ (other : RetiredSpan). is_same_span one other ≡ false → AreApart one other) retired) retired
 
--- of each seat
+-- what is kept of a seat is kept of each (`SeatKeeps`)
 abbrev pub SeatsKeep : World → List Mark → List RetiredSpan → ℕ → Type 0
 SeatsKeep w marks retired generation =
     (k : ℕ) → k < length w.seats → SeatKeeps marks retired generation (slice_index w.keeper.bounds k) (seat_at w k)
@@ -48,16 +48,16 @@ pub record Keeps (w : World) : Type 0 where
   pub bounds : length w.keeper.bounds ≡ length w.seats
   pub seats : SeatsKeep w w.marked.marks w.retired w.keeper.generation
 
--- what follows from P holds of what is there
+-- what follows from P for each holds of what is there where P does
 pub if_map : {X : Type 0} (o : Option X) (P Q : X → Type 0) → ((x : X) → P x → Q x) → IfSome o P → IfSome o Q
 if_map None P Q f h = tt
 if_map (Some x) P Q f h = f x h
 
--- nothing is there
+-- where there is nothing, any property holds of what is there
 pub if_none : {X : Type 0} (o : Option X) (P : X → Type 0) → o ≡ None → IfSome o P
 if_none {X} o P is = subst (λ (z : Option X). IfSome z P) (sym is) tt
 
--- this is there
+-- what holds of what is there holds of a value that is there
 pub some_at : {X : Type 0} (o : Option X) (P : X → Type 0) (x : X) → o ≡ Some x → IfSome o P → P x
 some_at {X} o P x is h = subst (λ (z : Option X). IfSome z P) is h
 

@@ -36,7 +36,7 @@ comes_in : (w : World) (inside : Option State) (next : State) → inside ≡ Non
     → IsMove w inside (Some next)
 comes_in w inside next is move = subst (λ (z : Option State). IsMove w z (Some next)) (sym is) move
 
--- each event
+-- at an allowed event all threads move as they may (`AllMove`)
 pub moves_event : (w : World) (event : Event) → IsAllowed w event → AllMove w (after w event)
 moves_event w (Steps k next) allowed =
     set_moves w w.seats k (record (seat_at w k) { inside = Some next })
@@ -65,7 +65,7 @@ put_changes text at byte inside = (
       (λ same. other (omega (arith, inside.0, within.0, same))),
 )
 
--- each event
+-- an allowed event changes the bytes as it may (`ChangesBytes`)
 pub bytes_event : (w : World) (event : Event) → IsAllowed w event → ChangesBytes w.marked.bytes event (after w event).marked.bytes
 bytes_event w (Steps k next) allowed = refl
 bytes_event w (Enters k at) allowed = refl
@@ -82,7 +82,7 @@ bytes_event w (Retires base len) allowed = refl
 bytes_event w (Frees span) allowed = refl
 bytes_event w (Looks k) allowed = refl
 
--- so wherever a schedule stands
+-- at each event of an allowed schedule all threads move as they may (`AllMove`)
 pub moves_at : (limit seats : ℕ) (events later : List Event) (event : Event) → IsLawfulLimit limit
     → AreAllowed (first_world limit seats) (events ++ event ∷ later)
     → AllMove (world_after (first_world limit seats) events) (after (world_after (first_world limit seats) events) event)
@@ -90,7 +90,7 @@ moves_at limit seats events later event lawful allowed =
     moves_event (world_after (first_world limit seats) events) event
     (allowed_back (first_world limit seats) events (event ∷ later) allowed).0
 
--- and of the bytes
+-- at each event of an allowed schedule the bytes change as they may (`ChangesBytes`)
 pub bytes_at : (limit seats : ℕ) (events later : List Event) (event : Event) → IsLawfulLimit limit
     → AreAllowed (first_world limit seats) (events ++ event ∷ later)
     → ChangesBytes (world_after (first_world limit seats) events).marked.bytes event

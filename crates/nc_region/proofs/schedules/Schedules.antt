@@ -20,7 +20,7 @@ use Rattle.nc_region.proofs.schedules.ThreadEvents.{keeps_steps, keeps_enters, k
 use Rattle.nc_region.proofs.schedules.WriterEvents.{keeps_puts, keeps_settles, keeps_marks, keeps_bumps, keeps_retires, keeps_frees, keeps_looks}
 use Rattle.nc_region.proofs.schedules.WriterEvents.{none_is_within, freed_is_usable}
 
--- each event
+-- the world's invariant (`Keeps`) stays at each allowed event
 pub keeps_event : (w : World) (event : Event) → Keeps w → IsAllowed w event → Keeps (after w event)
 keeps_event w (Steps k next) keeps allowed = keeps_steps w k next keeps allowed
 keeps_event w (Enters k at) keeps allowed = keeps_enters w k at keeps allowed
@@ -37,12 +37,12 @@ keeps_event w (Retires base len) keeps allowed = keeps_retires w base len keeps 
 keeps_event w (Frees span) keeps allowed = keeps_frees w span keeps allowed
 keeps_event w (Looks k) keeps allowed = keeps_looks w k keeps
 
--- all of them
+-- the world's invariant stays over allowed events
 pub keeps_all : (w : World) (events : List Event) → Keeps w → AreAllowed w events → Keeps (world_after w events)
 keeps_all w [] keeps allowed = keeps
 keeps_all w (event ∷ events) keeps allowed = keeps_all (after w event) events (keeps_event w event keeps allowed.0) allowed.1
 
--- the first world
+-- the first world has the world's invariant
 pub keeps_first : (limit seats : ℕ) → IsLawfulLimit limit → Keeps (first_world limit seats)
 keeps_first limit seats lawful =
     let whole = new_is_text limit lawful in
@@ -69,28 +69,28 @@ keeps_first limit seats lawful =
           });
     }
 
--- events after events
+-- events allowed after allowed ones are allowed with them
 pub allowed_append : (w : World) (events later : List Event) → AreAllowed w events → AreAllowed (world_after w events) later
     → AreAllowed w (events ++ later)
 allowed_append w [] later a b = b
 allowed_append w (event ∷ events) later a b = (a.0, allowed_append (after w event) events later a.1 b)
 
--- the first of them are allowed
+-- the first events of an allowed schedule are allowed
 pub allowed_front : (w : World) (events later : List Event) → AreAllowed w (events ++ later) → AreAllowed w events
 allowed_front w [] later a = tt
 allowed_front w (event ∷ events) later a = (a.0, allowed_front (after w event) events later a.1)
 
--- and the later ones, where they stand
+-- the later events of an allowed schedule are allowed where they stand
 pub allowed_back : (w : World) (events later : List Event) → AreAllowed w (events ++ later) → AreAllowed (world_after w events) later
 allowed_back w [] later a = a
 allowed_back w (event ∷ events) later a = allowed_back (after w event) events later a.1
 
--- the world after both
+-- the world after two lists of events is that after the one and then the other
 pub after_append : (w : World) (events later : List Event) → world_after w (events ++ later) ≡ world_after (world_after w events) later
 after_append w [] later = refl
 after_append w (event ∷ events) later = after_append (after w event) events later
 
--- what holds of every world that a schedule reaches
+-- every world that a schedule reaches has the world's invariant
 pub keeps_reached : (limit seats : ℕ) (events : List Event) → IsLawfulLimit limit → AreAllowed (first_world limit seats) events
     → Keeps (world_after (first_world limit seats) events)
 keeps_reached limit seats events lawful allowed = keeps_all (first_world limit seats) events (keeps_first limit seats lawful) allowed
@@ -102,14 +102,14 @@ stand_safe w keeps =
     (λ k lt. if_map (seat_at w k).inside (IsKnown w.marked.marks) (λ now. (view : List ℕ) → IsViewOf w view → IsSafe view now)
     (λ now known view v. safe_if_known view w.marked.marks (keeps.closed view v) now known) (keeps.seats k lt).stands)
 
--- so after every event
+-- after every event of an allowed schedule each thread stands on a safe state
 pub safe_after : (limit seats : ℕ) (events later : List Event) → IsLawfulLimit limit
     → AreAllowed (first_world limit seats) (events ++ later) → AllStandSafe (world_after (first_world limit seats) events)
 safe_after limit seats events later lawful allowed =
     stand_safe (world_after (first_world limit seats) events)
     (keeps_reached limit seats events lawful (allowed_front (first_world limit seats) events later allowed))
 
--- and nobody stands within a span when it is freed
+-- no thread stands within a span when it is freed in an allowed schedule
 pub none_is_within_freed : (limit seats : ℕ) (events later : List Event) (span : RetiredSpan) → IsLawfulLimit limit
     → AreAllowed (first_world limit seats) (events ++ Frees span ∷ later)
     → NoneIsWithin (world_after (first_world limit seats) events) span
@@ -118,7 +118,7 @@ none_is_within_freed limit seats events later span lawful allowed =
     (keeps_reached limit seats events lawful (allowed_front (first_world limit seats) events (Frees span ∷ later) allowed))
     (allowed_back (first_world limit seats) events (Frees span ∷ later) allowed).0
 
--- and a span that is freed may be used again
+-- a span that was freed in an allowed schedule may be used again
 pub usable_after_freed : (limit seats : ℕ) (events later : List Event) (span : RetiredSpan) → IsLawfulLimit limit
     → AreAllowed (first_world limit seats) (events ++ Frees span ∷ later)
     → IsUsable (world_after (first_world limit seats) (events ++ Frees span ∷ [])) span

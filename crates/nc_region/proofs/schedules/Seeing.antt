@@ -140,7 +140,7 @@ put_lasts text earlier at byte view v =
       seen = λ place inside. inr (v.seen place (inside.0, omega (arith, inside.1, long)));
     }
 
--- and through every other event but a settling
+-- a view stays one through every event but a settling
 pub lasts : (w : World) (event : Event) (view : List ℕ) → event ≢ Settles → IsViewOf w view → IsViewOf (after w event) view
 lasts w (Steps k next) view ne v = v
 lasts w (Enters k at) view ne v = v

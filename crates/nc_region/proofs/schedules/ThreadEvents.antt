@@ -13,7 +13,7 @@ use Rattle.nc_region.proofs.schedules.Invariant.{Keeps, CameBefore, if_none, som
 use Rattle.nc_region.proofs.schedules.Seeing.{as_it_stands}
 use Rattle.nc_region.proofs.schedules.Unmarking.{none_steps_in}
 
--- a thread takes a step
+-- the world's invariant stays when a thread takes a step
 pub keeps_steps : (w : World) (k : ℕ) (next : State) → Keeps w → IsAllowed w (Steps k next) → Keeps (after w (Steps k next))
 keeps_steps w k next keeps allowed =
     with_seat_keeps w k (record (seat_at w k) { inside = Some next }) keeps
@@ -38,7 +38,7 @@ keeps_steps w k next keeps allowed =
       bound_is = s.bound_is;
     })
 
--- a thread enters
+-- the world's invariant stays when a thread enters
 pub keeps_enters : (w : World) (k at : ℕ) → Keeps w → IsAllowed w (Enters k at) → Keeps (after w (Enters k at))
 keeps_enters w k at keeps allowed =
     with_seat_keeps w k (record (seat_at w k) { inside = Some (state at None) }) keeps
@@ -58,7 +58,7 @@ keeps_enters w k at keeps allowed =
       bound_is = s.bound_is;
     })
 
--- a thread goes outside
+-- the world's invariant stays when a thread goes outside
 pub keeps_exits : (w : World) (k : ℕ) → Keeps w → Keeps (after w (Exits k))
 keeps_exits w k keeps =
     with_seat_keeps w k (record (seat_at w k) { inside = None }) keeps
@@ -66,7 +66,7 @@ keeps_exits w k keeps =
     let s = keeps.seats k lt in
     record { stands = tt; early = tt; since = s.since; word = s.word; out = λ is. refl; found = s.found; bound_is = s.bound_is })
 
--- a pass takes the generation
+-- the world's invariant stays when a pass takes the generation
 pub keeps_takes : (w : World) (k : ℕ) → Keeps w → IsAllowed w (Takes k) → Keeps (after w (Takes k))
 keeps_takes w k keeps allowed =
     with_seat_keeps w k (record (seat_at w k) { pass = generation_taken w.keeper.generation (seat_at w k).pass }) keeps
@@ -82,7 +82,7 @@ keeps_takes w k keeps allowed =
       bound_is = λ is. omega (arith, s.bound_is is, s.since);
     })
 
--- a pass sees the generation
+-- the world's invariant stays when a pass sees the generation
 pub keeps_sees : (w : World) (k : ℕ) → Keeps w → Keeps (after w (Sees k))
 keeps_sees w k keeps =
     with_seat_keeps w k (record (seat_at w k) { pass = generation_seen w.keeper.generation (seat_at w k).pass }) keeps
@@ -98,7 +98,7 @@ keeps_sees w k keeps =
       bound_is = s.bound_is;
     })
 
--- a pass that hasn't left stores what it took
+-- the world's invariant stays when a pass that hasn't left stores what it took
 pub keeps_stores : (w : World) (k : ℕ) → Keeps w → IsAllowed w (Stores k) → Keeps (after w (Stores k))
 keeps_stores w k keeps allowed =
     with_seat_keeps w k (record (seat_at w k) { pass = since_stored (seat_at w k).pass; has_left = false }) keeps
@@ -114,7 +114,7 @@ keeps_stores w k keeps allowed =
       bound_is = s.bound_is;
     })
 
--- a pass leaves
+-- the world's invariant stays when a pass leaves
 pub keeps_leaves : (w : World) (k : ℕ) → Keeps w → IsAllowed w (Leaves k) → Keeps (after w (Leaves k))
 keeps_leaves w k keeps allowed =
     with_seat_keeps w k (record (seat_at w k) { pass = left_stored (seat_at w k).pass; has_left = true }) keeps

@@ -34,7 +34,7 @@ pub record MayFree (marked : MarkedText) (span : RetiredSpan) : Type 0 where
   pub whole : IsWhole marked.bytes span
   pub shut : IsShut marked.bytes marked.marks span
 
--- the marks afterwards
+-- the marks with a span freed
 abbrev pub freed_marks : MarkedText → RetiredSpan → List Mark
 freed_marks marked span = (without_marks marked span.base span.length).marks
 
@@ -42,7 +42,7 @@ freed_marks marked span = (without_marks marked span.base span.length).marks
 unused_long : (span : RetiredSpan) → length (unused_marks span.base span.length) ≡ span.length
 unused_long span = length-map-range_with_len unused_mark span.base span.length
 
--- they fit into the marks
+-- the unused marks of a span fit into the text's marks
 fits : (marked : MarkedText) (span : RetiredSpan) → MayFree marked span
     → span.base + length (unused_marks span.base span.length) ≤ 65536 + length marked.marks
 fits marked span f = omega (arith, unused_long span, f.whole.high, f.as_long)
@@ -55,20 +55,20 @@ freed_within marked span at f a b =
     (omega (arith, unused_long span))
     ∙ get_or-map-range_with_len unused_mark span.base span.length (at - span.base) at Unmarked (omega arith) (omega arith)
 
--- before it the marks stay
+-- before a span that is freed the marks stay
 pub freed_before : (marked : MarkedText) (span : RetiredSpan) (at : ℕ) → MayFree marked span → 65536 ≤ at → at < span.base
     → mark_at (freed_marks marked span) at ≡ mark_at marked.marks at
 freed_before marked span at f low l =
     span_before marked.marks span.base (unused_marks span.base span.length) at Unmarked f.whole.low (fits marked span f) low l
 
--- after it too
+-- behind a span that is freed the marks stay
 pub freed_behind : (marked : MarkedText) (span : RetiredSpan) (at : ℕ) → MayFree marked span → span.base + span.length ≤ at
     → mark_at (freed_marks marked span) at ≡ mark_at marked.marks at
 freed_behind marked span at f p =
     span_behind marked.marks span.base (unused_marks span.base span.length) at Unmarked f.whole.low (fits marked span f)
     (omega (arith, unused_long span))
 
--- there are as many marks
+-- with a span freed there are as many marks as before
 pub freed_long : (marked : MarkedText) (span : RetiredSpan) → MayFree marked span → length (freed_marks marked span) ≡ length marked.marks
 freed_long marked span f =
     length-with_span marked.marks (span.base - 65536) (unused_marks span.base span.length) (omega (arith, fits marked span f, f.whole.low))
@@ -103,7 +103,7 @@ freed_stays marked span f now m out =
       | Behind p ↦ (m.0, subst (λ (mark : Mark). Admits mark now.masked) (sym (freed_behind marked span now.place f p)) m.1)
     ]
 
--- the text is closed under these marks
+-- the text is closed under the marks with a span freed
 pub freed_closed : (marked : MarkedText) (span : RetiredSpan) → MayFree marked span → IsClosed marked.bytes (freed_marks marked span)
 freed_closed marked span f =
     record {
@@ -123,7 +123,7 @@ freed_closed marked span f =
           ];
     }
 
--- another shut span stays shut
+-- a shut span stays shut when another one is freed
 pub freed_shut : (marked : MarkedText) (span other : RetiredSpan) → MayFree marked span → IsShut marked.bytes marked.marks other
     → IsShut marked.bytes (freed_marks marked span) other
 freed_shut marked span other f shut =

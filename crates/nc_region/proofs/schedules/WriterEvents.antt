@@ -19,7 +19,7 @@ use Rattle.nc_region.proofs.schedules.Invariant.{Keeps, SeatKeeps, OthersApart, 
 use Rattle.nc_region.proofs.schedules.Unmarking.{MayFree, freed_marks, freed_long, freed_stays, freed_closed, freed_shut}
 use Rattle.nc_region.proofs.schedules.Seeing.{as_it_stands, settled_view}
 
--- a byte is put
+-- the world's invariant stays when a byte is put
 pub keeps_puts : (w : World) (at byte : ℕ) → Keeps w → IsAllowed w (Puts at byte) → Keeps (after w (Puts at byte))
 keeps_puts w at byte keeps allowed =
     let long = length-set w.marked.bytes (at - 65536) byte in
@@ -40,7 +40,7 @@ keeps_puts w at byte keeps allowed =
       seats = keeps.seats;
     }
 
--- what was read before may not be read any more
+-- the world's invariant stays at a settling: what was read before may not be read any more
 pub keeps_settles : (w : World) → Keeps w → Keeps (after w Settles)
 keeps_settles w keeps =
     record {
@@ -87,7 +87,7 @@ seat_moves old marks before retired from to bound seat le stands early s =
       bound_is = s.bound_is;
     }
 
--- marks are added
+-- the world's invariant stays when marks are added
 pub keeps_marks : (w : World) (at : ℕ) (marks : List Mark) → Keeps w → IsAllowed w (Marks at marks) → Keeps (after w (Marks at marks))
 keeps_marks w at marks keeps allowed =
     let new = (with_marks w.marked at marks).marks in
@@ -118,7 +118,7 @@ keeps_marks w at marks keeps allowed =
           (if_map (seat_at w k).inside (IsKnown w.marked.marks) (IsKnown (with_marks w.marked at marks).marks) still s.stands) s.early s;
     }
 
--- the generation grows
+-- the world's invariant stays when the generation grows
 pub keeps_bumps : (w : World) → Keeps w → Keeps (after w Bumps)
 keeps_bumps w keeps =
     record {
@@ -166,7 +166,7 @@ one_more_apart span retired new apart =
     (λ one each is. All-cons (λ (other : RetiredSpan). is_same_span one other ≡ false → AreApart one other) span retired
     (λ not_same. apart_sym span one is) each) apart new)
 
--- those that stay are apart from one another
+-- retired spans that stay are apart from one another
 fewer_apart : (keep : RetiredSpan → Bool) (retired : List RetiredSpan) → OthersApart retired → OthersApart (filter keep retired)
 fewer_apart keep retired apart =
     All-filter keep (λ (one : RetiredSpan). All (λ (other : RetiredSpan). is_same_span one other ≡ false → AreApart one other) (filter keep retired))
@@ -175,7 +175,7 @@ fewer_apart keep retired apart =
     (λ (one : RetiredSpan). All (λ (other : RetiredSpan). is_same_span one other ≡ false → AreApart one other) (filter keep retired))
     (λ one each. All-filter keep (λ (other : RetiredSpan). is_same_span one other ≡ false → AreApart one other) retired each) retired apart)
 
--- a span is retired
+-- the world's invariant stays when a span is retired
 pub keeps_retires : (w : World) (base len : ℕ) → Keeps w → IsAllowed w (Retires base len) → Keeps (after w (Retires base len))
 keeps_retires w base len keeps allowed =
     record {
@@ -215,7 +215,7 @@ seat_is_out marks retired generation bound span seat has s false is passed now i
       | inr left ↦ none_is_some now (sym (s.out (s.found left)) ∙ inside)
     ]
 
--- so for every seat
+-- no seat has its thread within a span that may be freed
 seats_are_out : (w : World) (span : RetiredSpan) → Keeps w → IsAllowed w (Frees span) → (k : ℕ) → k < length w.seats
     → IfSome (seat_at w k).inside (λ now. IsWithin span now.place → ⊥)
 seats_are_out w span keeps allowed k lt =
@@ -233,7 +233,7 @@ known_after w span f (Some now) known out = elim known [ inl m ↦ inl (freed_st
 abbrev pub seen_text : World → List ℕ → MarkedText
 seen_text w view = record { bytes = view; marks = w.marked.marks }
 
--- what a span in the list keeps, in each view
+-- a retired span may be freed in each view
 may_free : (w : World) (view : List ℕ) (span : RetiredSpan) → Keeps w → IsViewOf w view → Contains w.retired span
     → MayFree (seen_text w view) span
 may_free w view span keeps v has =
@@ -245,11 +245,11 @@ may_free w view span keeps v has =
       shut = All-contains (IsShut view w.marked.marks) w.retired span (keeps.shut view v) has;
     }
 
--- and in the text as it stands
+-- a retired span may be freed in the text as it stands
 pub may_free_now : (w : World) (span : RetiredSpan) → Keeps w → Contains w.retired span → MayFree w.marked span
 may_free_now w span keeps has = may_free w w.marked.bytes span keeps (as_it_stands w.marked.bytes w.earlier) has
 
--- a span is freed
+-- the world's invariant stays when a span is freed
 pub keeps_frees : (w : World) (span : RetiredSpan) → Keeps w → IsAllowed w (Frees span) → Keeps (after w (Frees span))
 keeps_frees w span keeps allowed =
     let f = may_free_now w span keeps allowed.0 in
@@ -282,7 +282,7 @@ keeps_frees w span keeps allowed =
 abbrev looked : Seat → Seat
 looked seat = record seat { found_left = seat.has_left }
 
--- the keeper looks at a seat's word
+-- the world's invariant stays when the keeper looks at a seat's word
 pub keeps_looks : (w : World) (k : ℕ) → Keeps w → Keeps (after w (Looks k))
 keeps_looks w k keeps =
     record {
@@ -357,6 +357,6 @@ pub none_is_within : (w : World) (span : RetiredSpan) → Keeps w → IsAllowed 
 none_is_within w span keeps allowed =
     All_from w.seats (λ (seat : Seat). IfSome seat.inside (λ now. IsWithin span now.place → ⊥)) (seats_are_out w span keeps allowed)
   where
-    -- by the index
+    -- what holds of the seat at each index holds of all seats
     All_from : (seats : List Seat) (P : Seat → Type 0) → ((k : ℕ) → k < length seats → P (get_or seats k first_seat)) → All P seats
     All_from seats P f = All-from_get_or P seats first_seat f

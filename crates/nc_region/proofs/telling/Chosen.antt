@@ -32,7 +32,7 @@ next_put chosen base bytes i lt is =
     ∙ ap (λ (n : ℕ). puts_where chosen base (take i bytes) ++ cond (chosen n) (Put n (get_or bytes i 0) ∷ []) []) here
     ∙ ap (λ (z : Bool). puts_where chosen base (take i bytes) ++ cond z (Put (base + i) (get_or bytes i 0) ∷ []) []) is)
 
--- and where it isn't
+-- the puts up to the next place, where it isn't chosen
 pub next_passed : (chosen : ℕ → Bool) (base : ℕ) (bytes : List ℕ) (i : ℕ) → i < length bytes → chosen (base + i) ≡ false
     → puts_where chosen base (take (i + 1) bytes) ≡ puts_where chosen base (take i bytes)
 next_passed chosen base bytes i lt not =

@@ -13,11 +13,11 @@ use Rattle.nc_region.specs.Log.{Logs, unsettled, acts_in, log_of_create, log_of_
 use Rattle.nc_region.specs.Patch.{stands_there, any_place, acts_of_instruction, acts_of_modify, log_of_instruction, log_of_modify}
 use Rattle.nc_region.proofs.telling.Chosen.{next_put, next_passed}
 
--- no entry is logged
+-- a log that stays has no entry logged
 pub logs_none : (logged : List Entry) → Logs logged logged []
 logs_none logged = sym (append-nil logged)
 
--- entries after entries
+-- entries that are logged after others are logged with them
 pub logs_more : (a b c : List Entry) (xs ys : List Entry) → Logs a b xs → Logs b c ys → Logs a c (xs ++ ys)
 logs_more a b c xs ys first second = second ∙ (ap (λ (z : List Entry). z ++ ys) first ∙ append_assoc a xs ys)
 
@@ -27,7 +27,7 @@ pub logs_after : (a b c : List Entry) (xs ys : List Entry) → Logs a b (xs ++ S
 logs_after a b c xs ys first second =
     subst (λ (z : List Entry). Logs a c z) (append_assoc xs (Settled ∷ []) ys) (logs_more a b c (xs ++ Settled ∷ []) ys first second)
 
--- one more settling
+-- entries that are logged before a settling are logged with it behind them
 pub ends_settled : (a b : List Entry) (xs : List Entry) → Logs a b xs → (c : List Entry) → Logs b c (Settled ∷ [])
     → Logs a c (xs ++ Settled ∷ [])
 ends_settled a b xs first c last = logs_more a b c xs (Settled ∷ []) first last
@@ -69,7 +69,7 @@ pub acts_back : (acts : List Act) → acts_in (unsettled acts) ≡ acts
 acts_back [] = refl
 acts_back (act ∷ rest) = ap (λ (z : List Act). act ∷ z) (acts_back rest)
 
--- and so they are before others
+-- the acts of a log that begins with some acts are these and those of the rest
 acts_before : (acts : List Act) (ys : List Entry) → acts_in (unsettled acts ++ ys) ≡ acts ++ acts_in ys
 acts_before acts ys = acts_join (unsettled acts) ys ∙ ap (λ (z : List Act). z ++ acts_in ys) (acts_back acts)
 
@@ -101,7 +101,7 @@ instruction_acts at (byte ∷ next ∷ rest) =
     ap (λ (z : List Act). Put at 244 ∷ z)
     (acts_before (puts_where any_place (at + 1) (next ∷ rest)) (Settled ∷ Did (Put at byte) ∷ []))
 
--- of one that may stand there already
+-- the acts in the log of an instruction that may stand already are its acts
 chosen_acts : (b : Bool) (at : ℕ) (bytes : List ℕ)
     → acts_in (cond b [] (log_of_instruction at bytes)) ≡ cond b [] (acts_of_instruction at bytes)
 chosen_acts true at bytes = refl

@@ -20,11 +20,11 @@ pub record SoFar (chosen : ℕ → Bool) (base : ℕ) (bytes : List ℕ) (count 
   pub put : HasPut chosen base bytes count old now
   pub log : Logs begun ended (unsettled (puts_where chosen base (take count bytes)))
 
--- none has
+-- at the beginning no byte has been put and logged
 pub none_yet : (chosen : ℕ → Bool) (base : ℕ) (bytes old : List ℕ) (logged : List Entry) → SoFar chosen base bytes 0 old old logged logged
 none_yet chosen base bytes old logged = record { put = put_none chosen base bytes old; log = logs_none logged }
 
--- one more is put
+-- the byte at the next place, where it is chosen, is put and logged
 pub one_put : (chosen : ℕ → Bool) (base : ℕ) (bytes : List ℕ) (i byte : ℕ) (old now : List ℕ) (a b c : List Entry)
     → SoFar chosen base bytes i old now a b → 65536 ≤ base → base + i < 65536 + length old → i < length bytes
     → chosen (base + i) ≡ true → get_or bytes i 0 ≡ byte → Logs b c (Did (Put (base + i) byte) ∷ [])
@@ -37,7 +37,7 @@ one_put chosen base bytes i byte old now a b c so low fits lt is same logs =
       log = log_put [] chosen base bytes i a b c lt is so.log log;
     })
 
--- a place that isn't chosen is passed
+-- the next place, where it isn't chosen, is passed
 pub one_passed : (chosen : ℕ → Bool) (base : ℕ) (bytes : List ℕ) (i : ℕ) (old now : List ℕ) (a b : List Entry)
     → SoFar chosen base bytes i old now a b → i < length bytes → chosen (base + i) ≡ false
     → SoFar chosen base bytes (i + 1) old now a b
@@ -46,7 +46,7 @@ one_passed chosen base bytes i old now a b so lt not = record {
   log = log_passed chosen base bytes i a b lt not so.log;
 }
 
--- all are put and logged
+-- once all bytes are passed, the puts at the chosen places are logged
 pub all_logged : (chosen : ℕ → Bool) (base : ℕ) (bytes : List ℕ) (count : ℕ) (old now : List ℕ) (a b : List Entry)
     → SoFar chosen base bytes count old now a b → length bytes ≤ count → Logs a b (unsettled (puts_where chosen base bytes))
 all_logged chosen base bytes count old now a b so all =
@@ -54,7 +54,7 @@ all_logged chosen base bytes count old now a b so all =
 
 -- ---- which places are chosen
 
--- a test asked for
+-- a test found to be true is true
 is_true : (x : Bool) → beq x true ≡ true → x ≡ true
 is_true true e = refl
 is_true false e = e
@@ -63,7 +63,7 @@ is_false : (x : Bool) → beq x false ≡ true → not x ≡ true
 is_false true e = e
 is_false false e = refl
 
--- a test not asked for
+-- a test found not to be true is false
 not_true : (x : Bool) → beq x true ≡ false → x ≡ false
 not_true true e = e
 not_true false e = refl

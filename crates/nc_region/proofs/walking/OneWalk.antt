@@ -28,7 +28,7 @@ one_step IndirectJump limit i now choice a b la lb pa pb = pa ∙ sym pb
 one_step IndirectCall limit i now choice a b la lb pa pb = pa ∙ sym pb
 one_step flow.Stop limit i now choice a b la lb pa pb = absurd la
 
--- so a choice picks one step at a place
+-- by a choice a state moves to one state only
 one_move : (text : List ℕ) (now : State) (choice : ℕ) (a b : State) → Moves text now choice a → Moves text now choice b → a ≡ b
 one_move text now choice a b ma mb =
     let same = some_same (instruction_at text now.place) mb.instr ma.instr mb.is ma.is in
@@ -73,7 +73,7 @@ ends_or_moves text now next choice rest Stop safe ends goes moves = goes.1 ends
 ends_or_moves text now next choice rest More safe ends goes moves = cc (ends.1)
 ends_or_moves text now next choice rest Beyond safe ends goes moves = leaves_or_moves text now next choice safe goes ends.1 moves
 
--- it ends in one way
+-- by its choices a state ends a walk in one way only
 one_end : (text : List ℕ) (now : State) (choices : List ℕ) (a b : End) → EndsBy text now choices a → EndsBy text now choices b → a ≡ b
 one_end text now choices Trampoline Trampoline ea eb = refl
 one_end text now choices Trampoline Stop ea eb = absurd (omega (arith, ea, eb.0.0))

@@ -17,7 +17,7 @@ LeadsOver text from (choice ∷ choices) [] now = ⊥
 LeadsOver text from (choice ∷ choices) (next ∷ rest) now = GoesOn text from × Moves text from choice next
     × LeadsOver text next choices rest now
 
--- one state more
+-- a walk over some states goes on by one state more
 over_more : (text : List ℕ) (from : State) (choices : List ℕ) (states : List State) (now next : State) (choice : ℕ)
     → LeadsOver text from choices states now → GoesOn text now → Moves text now choice next
     → LeadsOver text from (choices ++ choice ∷ []) (states ++ next ∷ []) next
@@ -28,7 +28,7 @@ over_more text from (c ∷ choices) [] now next choice over goes moves = absurd 
 over_more text from (c ∷ choices) (s ∷ states) now next choice over goes moves =
     (over.0, over.1, over_more text s choices states now next choice over.2 goes moves)
 
--- an end there is the end of the walk
+-- states that choices lead over, with an end at the last of them, are a walk
 over_ends : (text : List ℕ) (from : State) (used left : List ℕ) (states : List State) (now : State) (end : End)
     → LeadsOver text from used states now → EndsBy text now left end → Walks text from (used ++ left) states end
 over_ends text from [] left [] now end over ends = subst (λ (s : State). EndsBy text s left end) (sym over) ends
@@ -56,12 +56,12 @@ map-append : (xs ys : List State) → map (λ (s : State). s.place) (xs ++ ys) �
 map-append [] ys = refl
 map-append (x ∷ xs) ys = ap (λ (l : List ℕ). x.place ∷ l) (map-append xs ys)
 
--- it stands on a safe state
+-- a walk under way stands on a safe state
 pub way_is_safe : (text : List ℕ) (marks : List Mark) (start : ℕ) (used places : List ℕ) (now : State) → IsClosed text marks
     → IsUnderWay text marks start used places now → IsSafe text now
 way_is_safe text marks start used places now closed way = safe_if_known text marks closed now way.known
 
--- a choice takes it one state further
+-- a choice takes a walk under way one state further
 pub way_goes_on : (text : List ℕ) (marks : List Mark) (start : ℕ) (used places : List ℕ) (now next : State) (choice : ℕ)
     → IsClosed text marks → IsUnderWay text marks start used places now → GoesOn text now → Moves text now choice next
     → IsUnderWay text marks start (used ++ choice ∷ []) (places ++ next.place ∷ []) next
@@ -74,7 +74,7 @@ way_goes_on text marks start used places now next choice closed way goes moves =
       known = known_next text marks closed now next way.known moves.step;
     }
 
--- where it ends, its places are a trace
+-- a walk under way that ends is a trace
 pub way_ends : (text : List ℕ) (marks : List Mark) (start : ℕ) (used left places : List ℕ) (now : State) (end : End)
     → IsUnderWay text marks start used places now → EndsBy text now left end → IsTrace text start (used ++ left) places end
 way_ends text marks start used left places now end way ends =
@@ -84,7 +84,7 @@ way_ends text marks start used left places now end way ends =
       places_are = way.places_are;
     }
 
--- the next choice ends it
+-- a walk under way that the next choice ends is a trace
 pub way_ends_at : (text : List ℕ) (marks : List Mark) (start : ℕ) (choices places : List ℕ) (k : ℕ) (now : State) (end : End)
     → k < length choices → IsUnderWay text marks start (take k choices) places now
     → ((rest : List ℕ) → EndsBy text now (get_or choices k 0 ∷ rest) end) → IsTrace text start choices places end
@@ -93,7 +93,7 @@ way_ends_at text marks start choices places k now end short way ends =
     subst (λ (l : List ℕ). IsTrace text start l places end) (take-append-drop k choices)
     (way_ends text marks start (take k choices) (drop k choices) places now end way left)
 
--- it ends with no choice left
+-- a walk under way that ends with no choice left is a trace
 pub way_ends_last : (text : List ℕ) (marks : List Mark) (start : ℕ) (choices places : List ℕ) (k : ℕ) (now : State) (end : End)
     → length choices ≤ k → IsUnderWay text marks start (take k choices) places now → EndsBy text now [] end
     → IsTrace text start choices places end
@@ -109,7 +109,7 @@ walk_is_joined text now choices [] end walks = tt
 walk_is_joined text now [] (next ∷ rest) end walks = absurd walks
 walk_is_joined text now (choice ∷ choices) (next ∷ rest) end walks = (walks.1.step, walk_is_joined text next choices rest end walks.2)
 
--- so on each walk from a bundle start of the region all states are safe
+-- in a closed text all states of each walk from a bundle start of the region are safe
 pub walk_is_safe : (text : List ℕ) (marks : List Mark) (start : ℕ) (choices : List ℕ) (end : End) → IsClosed text marks
     → IsWalkStart text start → IsSafeWalk text start choices end
 walk_is_safe text marks start choices end closed begins states walks =

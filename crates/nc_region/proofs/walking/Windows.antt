@@ -13,7 +13,7 @@ use Rattle.nc_text.proofs.Offered.{length_at}
 abbrev pub Shows : List ℕ → List ℕ → ℕ → ℕ → Type 0
 Shows window text at n = (k : ℕ) → k < n → get_or window k 0 ≡ byte_at text (at + k)
 
--- an instruction as long as the front of the window, or shorter, is at its front too
+-- an instruction of the text no longer than the window's front is found there
 pub found_in_window : (text window : List ℕ) (at n : ℕ) (i : Instr) → InRegion text at → instruction_at text at ≡ Some i → i.len ≤ n
     → n ≤ length window → Shows window text at n → first_instruction (take n window) ≡ Some i
 found_in_window text window at n i inside is short long shows =
@@ -74,6 +74,6 @@ pub standing : (text : List ℕ) (at : ℕ) → IsSomeAnd (instruction_at text a
     → (i : Instr) × (instruction_at text at ≡ Some i) × IsInOneBundle at i.len
 standing text at stands = from_some (instruction_at text at) at stands
 
--- there is one or there is none
+-- where there is an instruction, there isn't none
 pub not_none : (o : Option Instr) (i : Instr) → o ≡ Some i → o ≡ None → ⊥
 not_none o i some none = cc

@@ -1,11 +1,10 @@
 -- Texts between two acts.
-use Rattle.std.specs.Prelude.{◌≡◌, ◌≢◌, ℕ, ◌+◌, ◌%◌, ◌<◌, ◌≤◌, Bool, List, length}
+use Rattle.std.specs.Prelude.{◌≡◌, ◌≢◌, ℕ, ◌%◌, ◌<◌, ◌≤◌, Bool, List, length}
 use Rattle.nc_decode.specs.Bundles.{IsBundleStart}
 use Rattle.nc_text.specs.Places.{byte_at, limit_of}
-use Rattle.nc_text.specs.Marks.{mark_at}
 pub use Rattle.nc_region.specs.Puts.{HasPut}
 use Rattle.nc_text.specs.Ready.{AreReady}
-use Rattle.nc_text.specs.MarkedText.{MarkedText, unused_mark}
+use Rattle.nc_text.specs.MarkedText.{MarkedText}
 use Rattle.nc_vet.specs.Chunk.{MarkedChunk, IsValid}
 use Rattle.nc_list.specs.declared.chunk.Chunk.{Chunk}
 use Rattle.nc_region.specs.Region.{Meets, IsInserted, live_chunk}

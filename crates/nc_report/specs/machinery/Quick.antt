@@ -1,6 +1,6 @@
 -- Machinery of the proofs, cited by no public contract: the spots of a bundle by the states of the automaton.
-use Rattle.std.specs.Prelude.{◌≡◌, ℕ, ◌+◌, ◌<◌, List, [], ◌∷◌, ◌++◌, length, take, drop, get_or, ◌==◌, nat_lt, slice_index, if◌then◌else◌}
-use Rattle.nc_decode.specs.declared.automaton.TheConstants.{STATES, END, AFTER_PAIR}
+use Rattle.std.specs.Prelude.{◌≡◌, ℕ, ◌+◌, List, [], ◌∷◌, ◌++◌, length, take, drop, get_or, ◌==◌, nat_lt, slice_index, if◌then◌else◌}
+use Rattle.nc_decode.specs.declared.automaton.TheConstants.{END, AFTER_PAIR}
 use Rattle.nc_decode.specs.Automaton.{next_state}
 use Rattle.nc_report.specs.declared.spot.Spot.{Spot}
 use Rattle.nc_report.specs.declared.spot.Spot.TheVariants.{Inside, Entry, Second}
@@ -25,4 +25,3 @@ pub record HasRead (bytes : List ℕ) (i state : ℕ) (states : List ℕ) : Type
   pub so_far : take (i + 1) states ++ states_after state (drop i bytes) ≡ END ∷ states_after END bytes
   pub long : length states ≡ 34
   pub end : get_or states 33 0 ≡ 0
-  pub small : state < STATES

@@ -1,10 +1,10 @@
 -- Machinery of the proofs, cited by no public contract: how the transfers out of a chunk are collected and counted.
-use Rattle.std.specs.Prelude.{◌≡◌, ◌≢◌, ℕ, ◌<◌, ◌≤◌, List, ◌++◌, length, take, replicate, slice_index, map}
+use Rattle.std.specs.Prelude.{◌≡◌, ◌≢◌, ℕ, ◌<◌, ◌≤◌, List, ◌++◌, length, take, replicate, slice_index}
 use Rattle.std.specs.List.{flat_map}
 use Rattle.std.specs.List.Sorted.{IsNonDecreasing}
 use Rattle.nc_vet.specs.Chunk.{Piece, code_of, place, AreSpelled}
-use Rattle.nc_report.specs.Outside.{OutsideRow, AscendFrom, all_sent, row_words}
-use Rattle.nc_report.specs.Shown.{detail_line}
+use Rattle.nc_output.specs.declared.detail.Format.{Format}
+use Rattle.nc_report.specs.Outside.{OutsideRow, AscendFrom, all_sent, row_text}
 
 -- the instructions before a place have been read, and their targets outside are known
 pub record KnowsSent (base len : ℕ) (pieces : List Piece) (at : ℕ) (sent : List ℕ) : Type 0 where
@@ -36,18 +36,18 @@ abbrev pub numbers_of : List OutsideRow → List ℕ
 numbers_of rows = flat_map (λ row. replicate row.times row.to) rows
 
 -- a prefix of ascending numbers was written as rows, and the rest is left
-pub record HasCounted (numbers : List ℕ) (old new rest : List ℕ) : Type 0 where
+pub record HasCounted (format : Format) (numbers : List ℕ) (old new rest : List ℕ) : Type 0 where
   pub rows : List OutsideRow
   pub least : ℕ
   pub split : numbers ≡ numbers_of rows ++ rest
   pub ascend : (more : List OutsideRow) → AscendFrom least more → AscendFrom 0 (rows ++ more)
   pub above : (k : ℕ) → k < length rest → least ≤ slice_index rest k
   pub sorted : IsNonDecreasing rest
-  pub added : new ≡ old ++ flat_map detail_line (map row_words rows)
+  pub added : new ≡ old ++ flat_map (row_text format) rows
 
 -- ascending numbers were written as rows
-pub record AddsCounts (numbers old new : List ℕ) : Type 0 where
+pub record AddsCounts (format : Format) (numbers old new : List ℕ) : Type 0 where
   pub rows : List OutsideRow
   pub ascend : AscendFrom 0 rows
   pub all : numbers ≡ numbers_of rows
-  pub added : new ≡ old ++ flat_map detail_line (map row_words rows)
+  pub added : new ≡ old ++ flat_map (row_text format) rows

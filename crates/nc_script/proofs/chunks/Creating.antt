@@ -73,7 +73,7 @@ state_in-apart bytes code base from len Live low high from_low from_high apart =
     ap script.Live (bytes_at-apart bytes code base from len low high from_low from_high apart)
 state_in-apart bytes code base from len (Retired stamp) low high from_low from_high apart = refl
 
--- so do the chunks that lie apart from it
+-- the script's chunks stay where new code lies apart from them
 pub chunks_apart : (bytes code : List ℕ) (base : ℕ) (chunks : List Chunk) → 0x10000 ≤ base → base + length code ≤ limit_of bytes
     → Each (λ (c : Chunk). HasGoodSpan c.base (limit_of bytes) c.length) chunks
     → Each (λ (c : Chunk). (c.base + c.length ≤ base) ⊎ (base + length code ≤ c.base)) chunks
@@ -96,7 +96,7 @@ occupied_meets bytes base len (c ∷ rest) placed (inr m) =
     let (k, d, l, is, h) = occupied_meets bytes base len rest placed.1 m in
     (suc k, d, omega (arith, l), is, h)
 
--- and the other way round
+-- a chunk of the region meets the span where one of the script does
 pub meets_occupied : (bytes : List ℕ) (base len : ℕ) (chunks : List Chunk)
     → Each (λ (c : Chunk). HasGoodSpan c.base (limit_of bytes) c.length) chunks
     → IsOccupied base len (map (script_chunk bytes) chunks) → Meets base len chunks

@@ -37,7 +37,7 @@ pub follows_same : (request : Request) (region : Region) (reply : List ℕ)
     → FollowsIn request region reply region
 follows_same request region reply serves = follows_kept request region region reply refl (λ generation h. h) serves
 
--- seats fit a higher generation too
+-- seats that fit a generation fit a higher one
 pub seats_up : (low high freed : ℕ) (passes : List (Option PassState)) (before after : List ℕ) (seats : List ScriptSeat) → low ≤ high
     → after ≡ before → SeatsFit low freed passes before seats → SeatsFit high freed passes after seats
 seats_up low high freed passes before after seats le same fits =

@@ -22,7 +22,7 @@ same_test stamp least generation le =
     (λ (below : stamp ≤ least). le-leb stamp (min least generation) (omega (arith, below, le)) ∙ sym (le-leb stamp least below))
     (cases_lt least stamp)
 
--- so it is of a chunk of the script and of the region's
+-- a chunk's state in the script is due where the region's is
 same_due : (bytes : List ℕ) (base len least generation : ℕ) (s : ChunkState) → IsStamped generation s
     → is_freed_by (min least generation) (state_in bytes base len s) ≡ region.is_due least s
 same_due bytes base len least generation Live h = refl
@@ -40,14 +40,14 @@ kept_both f p q (c ∷ rest) h =
     either tail true = ap (λ (cs : List script.ScriptChunk). f c ∷ cs) tail
     either tail false = tail
 
--- each chunk is due in both or in neither
+-- each chunk is due in the script and in the region, or in neither
 due_both : (bytes : List ℕ) (least generation : ℕ) (chunks : List Chunk) → AreStamped generation chunks
     → Each (λ (c : Chunk). is_freed_by (min least generation) (script_chunk bytes c).state ≡ region.is_due least c.state) chunks
 due_both bytes least generation [] h = tt
 due_both bytes least generation (c ∷ rest) h =
     (same_due bytes c.base c.length least generation c.state h.0, due_both bytes least generation rest h.1)
 
--- and kept in both or in neither
+-- each chunk is kept in the script and in the region, or in neither
 stay_both : (bytes : List ℕ) (least generation : ℕ) (chunks : List Chunk) → AreStamped generation chunks
     → Each (λ (c : Chunk). not (is_freed_by (min least generation) (script_chunk bytes c).state) ≡ not (region.is_due least c.state)) chunks
 stay_both bytes least generation [] h = tt
@@ -63,7 +63,7 @@ kept_chunks bytes least generation chunks h =
     kept_both (script_chunk bytes) (λ (c : Chunk). not (region.is_due least c.state)) (λ c. not (is_freed_by (min least generation) c.state)) chunks
     (stay_both bytes least generation chunks h)
 
--- as many are freed
+-- as many chunks are freed in the script as in the region
 pub freed_count : (bytes : List ℕ) (least generation : ℕ) (chunks : List Chunk) → AreStamped generation chunks
     → length (freed_by (min least generation) (map (script_chunk bytes) chunks)) ≡ length (region.freed least chunks)
 freed_count bytes least generation chunks h =

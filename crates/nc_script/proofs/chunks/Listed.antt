@@ -13,7 +13,7 @@ listed_map f (y ∷ ys) x (zero, l, e) = (0, omega arith, ap f e)
 listed_map f (y ∷ ys) x (suc k, l, e) =
     let rest = listed_map f ys x (k, omega (arith, l), e) in (suc rest.0, omega (arith, rest.1), rest.2)
 
--- it is made of a member
+-- a member of a list made by a function is made of a member
 pub listed_unmap : {X Y : Type 0} (f : X → Y) (xs : List X) (z : Y) → Contains (map f xs) z → (x : X) × Contains xs x × (f x ≡ z)
 listed_unmap f [] z (k, l, e) = absurd (omega (arith, l))
 listed_unmap f (y ∷ ys) z (zero, l, e) = (y, (0, omega arith, refl), e)
@@ -34,7 +34,7 @@ rising_listed from (d ∷ rest) c rising (zero, l, e) = subst (λ (x : Chunk). f
 rising_listed from (d ∷ rest) c rising (suc k, l, e) =
     omega (arith, rising.0, rising_listed (d.base + d.length) rest c rising.1 (k, omega (arith, l), e))
 
--- and so does each of them
+-- each of the chunks that rise from a place lies above it, and above lower ones
 pub rising_each : (from to : ℕ) (chunks : List Chunk) → to ≤ from → IsRising from chunks → Each (λ (c : Chunk). to ≤ c.base) chunks
 rising_each from to [] le rising = tt
 rising_each from to (d ∷ rest) le rising =

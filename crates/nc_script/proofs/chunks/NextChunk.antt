@@ -26,7 +26,7 @@ ends_above bytes at c rest placed above =
     ap (λ (t : Bool). cond t (script_chunk bytes c ∷ ending_above at rest) (ending_above at rest))
     (lt-ltb at (c.base + length (standing_bytes (script_chunk bytes c).state)) (omega (arith, above, long)))
 
--- and one that ends at or below it isn't among them
+-- a chunk that ends at or below the address isn't among those that end above it
 ends_below : (bytes : List ℕ) (at : ℕ) (c : Chunk) (rest : List script.ScriptChunk) → HasGoodSpan c.base (limit_of bytes) c.length
     → c.base + c.length ≤ at → ending_above at (script_chunk bytes c ∷ rest) ≡ ending_above at rest
 ends_below bytes at c rest placed below =
@@ -45,7 +45,7 @@ first_above bytes at (d ∷ before) after c placed below above =
     (ends_below bytes at d (map (script_chunk bytes) (before ++ c ∷ after)) placed.0 below.0)
     ∙ first_above bytes at before after c placed.1 below.1 above
 
--- what the region finds
+-- the script finds the next chunk that the region finds
 pub next_found : (bytes : List ℕ) (at : ℕ) (chunks : List Chunk) (c : Chunk)
     → Each (λ (d : Chunk). HasGoodSpan d.base (limit_of bytes) d.length) chunks → IsNextChunk chunks at c
     → next_chunk at (map (script_chunk bytes) chunks) ≡ Some (script_chunk bytes c)

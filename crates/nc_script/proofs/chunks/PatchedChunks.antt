@@ -28,7 +28,7 @@ abbrev pub IsApartOrAround : ℕ → ℕ → Chunk → Type 0
 IsApartOrAround at len d =
     ((d.base + d.length ≤ at) ⊎ (at + len ≤ d.base)) ⊎ (IsLive d.state × (d.base ≤ at) × (at + len ≤ d.base + d.length))
 
--- so it is of each, where one of them has the span
+-- where a live chunk has a span, each chunk lies apart from it or has the whole of it
 pub apart_or_around : (from at len : ℕ) (chunks : List Chunk) (c : Chunk) → IsRising from chunks → Contains chunks c → IsLive c.state
     → c.base ≤ at → at + len ≤ c.base + c.length → Each (IsApartOrAround at len) chunks
 apart_or_around from at len [] c rising (k, l, e) live low high = tt
@@ -127,7 +127,7 @@ patched_one bytes code at d some low high placed (inr around) =
     ∙ sym (both (leb d.base at) (ltb at (d.base + length (standing_bytes (state_in bytes d.base d.length d.state)))) _ _
     (le-leb _ _ around.1) (lt-ltb _ _ (omega (arith, around.2, some, long))))
 
--- all of them
+-- a patch of the text patches each chunk of the script
 patched_each : (bytes code : List ℕ) (at : ℕ) (chunks : List Chunk) → 0 < length code → 0x10000 ≤ at → at + length code ≤ limit_of bytes
     → Each (λ (d : Chunk). HasGoodSpan d.base (limit_of bytes) d.length) chunks → Each (IsApartOrAround at (length code)) chunks
     → map (script_chunk (with_span bytes (at - 0x10000) code)) chunks ≡ map (patched_at at code) (map (script_chunk bytes) chunks)

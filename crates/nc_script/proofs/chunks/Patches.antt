@@ -85,7 +85,7 @@ module _ (r : Region) (is : IsRegion r.marked r.chunks) (seats : List ScriptSeat
         to = omega (arith, held.2.1, length-bytes_at bytes c.base c.length placed.low (omega (arith, placed.high)));
       }
 
-  -- and the other way round
+  -- a place that the script's chunk has, a live chunk of the region has
   held_of : (at base : ℕ) (code : List ℕ) → HoldsPlace state.chunks at base code
       → (c : Chunk) × IsHeldBy r.chunks at c × (c.base ≡ base) × (bytes_at bytes c.base c.length ≡ code)
   held_of at base code h =
@@ -115,13 +115,13 @@ module _ (r : Region) (is : IsRegion r.marked r.chunks) (seats : List ScriptSeat
       × (bytes_at bytes c.base c.length ≡ s.bytes)
   chunk_of at new s = held_of at s.base s.bytes s.holds
 
-  -- it holds a valid chunk
+  -- the region's text holds a valid chunk where the script's run is
   abbrev valid_of : (at : ℕ) (new : List ℕ) (s : Replaces state at new) → HoldsValid r.marked (chunk_of at new s).0
   valid_of at new s =
       let found = chunk_of at new s in
       each_contains (λ (c : Chunk). IsLive c.state → HoldsValid r.marked c) r.chunks found.0 is.live found.1.0 found.1.1
 
-  -- of the same instructions
+  -- the chunk that the script's run is of has the same instructions in the region
   same_of : (at : ℕ) (new : List ℕ) (s : Replaces state at new) → (valid_of at new s).valid.pieces ≡ s.valid.pieces
   same_of at new s =
       let found = chunk_of at new s in
@@ -129,7 +129,7 @@ module _ (r : Region) (is : IsRegion r.marked r.chunks) (seats : List ScriptSeat
       same_pieces h.valid.pieces s.valid.pieces h.valid.sound.spelled s.valid.sound.spelled
       (sym h.valid.parts ∙ (code_is found.0 found.1.0 h ∙ (found.3 ∙ s.valid.parts)))
 
-  -- so a run of the script's chunk is one of the region's
+  -- a run of the script's chunk is one of the region's
   abbrev run_of : (at : ℕ) (new : List ℕ) (s : Replaces state at new) → IsRun r.marked (chunk_of at new s).0 at new
   run_of at new s = record {
     holds = valid_of at new s;
@@ -156,7 +156,7 @@ module _ (r : Region) (is : IsRegion r.marked r.chunks) (seats : List ScriptSeat
   pub lawful_of : (at : ℕ) (new : List ℕ) → region.IsPatch r at new → IsLawfulPatch state at new
   lawful_of at new p = (p.0, (replaces_of at new p.1.0 p.1.1 p.1.2.0, p.1.2.1, p.1.2.2))
 
-  -- so is the refusal
+  -- a refused patch of the region is one of the script
   pub refused_of : (at : ℕ) (new : List ℕ) (fault : ModifyFault) → region.MayRefusePatch r at new fault → IsRefusedPatch state at new fault
   refused_of at new BadSpan h = h
   refused_of at new NotLive h = (h.0, λ held. let found = held_of at held.0 held.1 held.2 in h.1 (found.0, found.1))

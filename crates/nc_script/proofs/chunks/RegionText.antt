@@ -42,7 +42,7 @@ byte_here : (bytes : List ℕ) (base len at : ℕ) (s : ChunkState) → 0x10000 
 byte_here bytes base len at Live low from to stop = get_or-bytes_at bytes base len at low from to
 byte_here bytes base len at (Retired stamp) low from to stop = get_or-replicate len (at - base) 0xF4 0 (omega arith) ∙ sym (stop (λ h. h))
 
--- either branch has this value
+-- a choice by two tests has the value that both of its branches have
 choose : (p q : Bool) (x y v : ℕ) → (p ≡ true → q ≡ true → x ≡ v) → ((p ≡ false) ⊎ (q ≡ false) → y ≡ v) → cond (p && q) x y ≡ v
 choose true true x y v within beyond = within refl refl
 choose true false x y v within beyond = beyond (inr refl)
@@ -80,7 +80,7 @@ byte_in-chunks bytes at from (c ∷ rest) rising placed stops =
     (λ out. byte_in-chunks bytes at (c.base + c.length) rest rising.1 placed.1
     (λ others. stops (λ live inside. out inside.0 (omega (arith, long, inside.1)), others)))
 
--- so the text of the script's state is the region's
+-- the text of the script's state is the region's
 pub script_text-script_of : (region : Region) (seats : List script.ScriptSeat) (freed : ℕ) → IsRegion region.marked region.chunks
     → script_text (script_of region seats freed) ≡ region.marked.bytes
 script_text-script_of region seats freed is =

@@ -110,7 +110,7 @@ live_state : (bytes : List ℕ) (base len : ℕ) (s : ChunkState) → IsLive s �
 live_state bytes base len Live live = tt
 live_state bytes base len (Retired stamp) live = absurd live
 
--- and the other way round
+-- a chunk that is live in the script is live in the region
 state_live : (bytes : List ℕ) (base len : ℕ) (s : ChunkState) → reuse.IsLiveState (state_in bytes base len s) → IsLive s
 state_live bytes base len Live live = tt
 state_live bytes base len (Retired stamp) live = absurd live
@@ -130,7 +130,7 @@ has_live bytes base (d ∷ rest) (c, (suc k, l, e), live, is) =
     let (j, x, m, g, h) = has_live bytes base rest (c, (k, omega (arith, l), e), live, is) in
     (suc j, x, omega (arith, m), g, h)
 
--- and the other way round
+-- a live chunk of this base stands in the region's list if one does in the script's
 pub live_has : (bytes : List ℕ) (base : ℕ) (chunks : List Chunk) → reuse.ListsLive (map (script_chunk bytes) chunks) base
     → region.HasLive chunks base
 live_has bytes base [] (k, x, l, is, h) = absurd (omega (arith, l))

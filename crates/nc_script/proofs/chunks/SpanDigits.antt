@@ -34,7 +34,7 @@ digits_more bytes start now new base at low from high e f =
     ∙ ap encode_lower (ap (λ (k : ℕ). bytes_at bytes base n ++ byte_at bytes k ∷ []) (sym back)
     ∙ sym (bytes_at-more bytes base n low (omega arith)) ∙ ap (bytes_at bytes base) (omega arith)))
 
--- before the first byte there are none
+-- before the first byte of a span no digit is written
 pub digits_none : (bytes start : List ℕ) (base : ℕ) → start ≡ start ++ encode_lower (bytes_at bytes base (base - base))
 unfolding encode_with
 digits_none bytes start base =

@@ -39,7 +39,7 @@ first_state marked made table n = record {
   seats = record { table = table; passes = map (λ (p : PassState). Some p) (new_passes table n) };
 }
 
--- its seats are all there, with the number 0
+-- the seats of a session over a new region are all there, with the number 0
 pub first_fits : (marked : MarkedText) (made : List Bool) (table : TableId) (n : ℕ) → 1 ≤ n
     → FitsSession (first_state marked made table n) (replicate n (Staying 0)) 0
 first_fits marked made table n some =

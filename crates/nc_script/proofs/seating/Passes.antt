@@ -42,7 +42,7 @@ seated_set table passes k q seated t s i p h =
     ))
     (λ g. seated i p g) (get_set passes k i (Some q) (Some p) h)
 
--- a pass taken away
+-- passes are still seated with one taken away
 pub seated_clear : (table : TableId) (passes : List (Option PassState)) (k : ℕ) → AreSeated table passes
     → AreSeated table (set passes k None)
 seated_clear table passes k seated i p h = ⊎_elim (λ e. absurd cc) (λ g. seated i p g) (get_set passes k i None (Some p) h)
@@ -61,7 +61,7 @@ seated_first table (suc n) i p h =
     (subst (λ (xs : List (Option PassState)). slice_get xs i ≡ Some (Some p)) (map-append (λ (q : PassState). Some q) first
     (first_pass table n ∷ [])) h))
 
--- none has met the keeper yet
+-- at the beginning no pass has met the keeper
 pub met_none : (passes : List (Option PassState)) (bounds : List ℕ) → HaveMetBelow 0 passes bounds passes bounds
 met_none passes bounds = record {
   passes_long = refl;
@@ -71,7 +71,7 @@ met_none passes bounds = record {
   bounds = λ i l. refl;
 }
 
--- one more has
+-- once one more pass has met the keeper, all below the next seat have
 pub met_more : (seat : ℕ) (old : List (Option PassState)) (before : List ℕ) (mid : List (Option PassState)) (between : List ℕ)
     (new : List (Option PassState)) (after : List ℕ)
     → HaveMetBelow seat old before mid between → HasMetOne seat mid between new after → HaveMetBelow (seat + 1) old before new after
@@ -96,7 +96,7 @@ met_more seat old before mid between new after below one = record {
   bounds = λ i l. one.bounds i (λ e. omega (arith, e, l)) ∙ below.bounds i (omega (arith, l));
 }
 
--- all have
+-- once the pass of each seat has met the keeper, all have
 pub met_all : (seat : ℕ) (old : List (Option PassState)) (before : List ℕ) (new : List (Option PassState)) (after : List ℕ)
     → seat ≡ length old → HaveMetBelow seat old before new after → HaveMet old before new after
 met_all seat old before new after all below =

@@ -55,7 +55,7 @@ met_allows generation freed a (Some p) None b found after (Staying n) small h m 
 met_allows generation freed a None q b found after (Staying n) small h m low = absurd h
 met_allows generation freed a p q b found after (Left n) small h m low = tt
 
--- it fits the number freed by
+-- a seat that met the keeper fits the number freed by
 met_fits : (generation freed a now : ℕ) (p q : Option PassState) (b found after : ℕ) (s : ScriptSeat) → now ≡ generation
     → SeatFits generation freed p b s → b ≤ found → HasMetAt p found q after → LetsFree a s → a ≤ found → SeatFits now a q after s
 met_fits generation freed a now (Some p) (Some q) b found after (Staying n) same h up m allowed low =

@@ -41,7 +41,7 @@ fold_first : (a : ℕ) (bs : List ℕ) → fold min a bs ≤ a
 fold_first a [] = omega arith
 fold_first a (b ∷ bs) = omega (arith, fold_first (min a b) bs)
 
--- nor above any other
+-- the least of some numbers isn't above any of those behind the first
 fold_below : (a : ℕ) (bs : List ℕ) (k : ℕ) → k < length bs → fold min a bs ≤ get_or bs k 0
 fold_below a [] k l = absurd (omega (arith, l))
 fold_below a (b ∷ bs) zero l = omega (arith, fold_first (min a b) bs)

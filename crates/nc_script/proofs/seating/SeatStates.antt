@@ -11,7 +11,7 @@ use Rattle.nc_script.specs.Reuse.{IsThere}
 use Rattle.nc_script.specs.machinery.Session.{SeatFits, SeatsFit}
 use Rattle.nc_script.specs.machinery.Seats.{HasPass, HasNoPass}
 
--- a member that was set, and those that weren't
+-- a list with a member set has what holds of that member, and of the others as they were
 set_or_kept : {X : Type 0} (P : X → Type 0) (xs : List X) (k i : ℕ) (y d : X) → k < length xs → (i ≡ k → P y) → (i ≢ k → P (get_or xs i d))
     → P (get_or (set xs k y) i d)
 set_or_kept P xs k i y d inside here other =

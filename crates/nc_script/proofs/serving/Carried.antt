@@ -5,7 +5,7 @@ use Rattle.nc_script.specs.Answers.{AnswersOnly}
 use Rattle.nc_script.specs.Script.{Script, ScriptSeat}
 use Rattle.nc_script.specs.machinery.Session.{SessionState, script_of, FitsSession, FollowsLine}
 
--- line by line
+-- a session's answers to lines are the script's, line by line
 carried : (old : SessionState) (lines : List (List ℕ)) (reply : List ℕ) (new : SessionState) (seats : List ScriptSeat) (freed : ℕ)
     → FitsSession old seats freed → AnswersLines FollowsLine old lines reply new
     → (next : List ScriptSeat) × (number : ℕ) × AnswersLines AnswersOnly (script_of old.region seats freed) lines reply
@@ -19,7 +19,7 @@ carried old (line ∷ lines) reply new seats freed fits h =
 
 module _ (old : SessionState) (seats : List ScriptSeat) (freed : ℕ) (start : Script) (fits : FitsSession old seats freed)
     (begins : script_of old.region seats freed ≡ start) where
-  -- exactly the answers were written
+  -- where exactly the session's answers were written, exactly the script's were
   pub answered_script : (new : SessionState) (before after : Option (List ℕ)) (lines : List (List ℕ))
       → IsAnswered FollowsLine old new before after lines
       → (last : Script) × IsAnswered AnswersOnly start last before after lines
@@ -33,7 +33,7 @@ module _ (old : SessionState) (seats : List ScriptSeat) (freed : ℕ) (start : S
         },
       )
 
-  -- a beginning of them was
+  -- where a beginning of the session's answers was written, one of the script's was
   pub begun_script : (before after : Option (List ℕ)) (lines : List (List ℕ)) → IsBegun FollowsLine old before after lines
       → IsBegun AnswersOnly start before after lines
   begun_script before after lines b =
@@ -50,7 +50,7 @@ module _ (old : SessionState) (seats : List ScriptSeat) (freed : ℕ) (start : S
         written = b.written;
       }
 
-  -- those before the line that failed were
+  -- where the session's answers before the line that failed were written, the script's were
   pub cut_script : (before after : Option (List ℕ)) (lines : List (List ℕ)) → IsCutShort FollowsLine old before after lines
       → IsCutShort AnswersOnly start before after lines
   cut_script before after lines c =

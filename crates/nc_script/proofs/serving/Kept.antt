@@ -4,6 +4,6 @@ use Rattle.nc_lines.specs.Lines.{kept_of, words_in}
 use Rattle.nc_lines.proofs.Offered.{read_of_kept}
 use Rattle.nc_script.specs.Requests.{request_in, request_of}
 
--- it is read of what is kept, or the line is too long
+-- a line's request is read of what is kept of the line, or the line is too long
 pub request_of_kept : (kept line : List ℕ) → kept ≡ kept_of line → request_in kept ≡ request_in line
 request_of_kept kept line e = read_of_kept (λ (l : List ℕ). request_of (words_in l)) kept line e

@@ -119,7 +119,7 @@ module _ (old : Script) (at : ℕ) (bytes : List ℕ) where
   replaced_held : Replaces old at bytes → LiesInLive old.chunks at
   replaced_held r = (r.base, r.bytes, r.holds)
 
-  -- and the new bytes are instructions
+  -- the new bytes of a replacement are instructions
   replaced_new : Replaces old at bytes → AreInstructions bytes
   replaced_new r = (r.run.news, r.run.bytes)
 

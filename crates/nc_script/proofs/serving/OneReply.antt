@@ -41,7 +41,7 @@ stay_on (Walk start choices) old reply new not_leave stay (inl a) = subst AllSta
 stay_on (Walk start choices) old reply new not_leave stay (inr a) = subst AllStay (sym a.same) stay
 stay_on (Ask query) old reply new not_leave stay a = subst AllStay (sym a.1) stay
 
--- nor does a line
+-- a line that asks for no leave lets no seat leave
 stay_on_line : (asked : Option Request) (old : Script) (reply : List ℕ) (new : Script) → ((seat : ℕ) → asked ≢ Some (Leave seat))
     → AllStay old → MatchOption asked ((reply ≡ bad_line) × (new ≡ old)) (λ request. Serves request old reply new) → AllStay new
 stay_on_line None old reply new not_leave stay h = subst AllStay (sym h.1) stay
@@ -116,12 +116,12 @@ allows_both a le zero d l = le
 allows_both a le (suc zero) d l = tt
 allows_both a le (suc (suc k)) d l = absurd (omega (arith, l))
 
--- so it frees by 0 or by 1
+-- where one of two seats has left, a reclaim may free by 0 or by 1
 frees_both : (a : ℕ) → a ≤ 1 → IsFreeingNumber one_left a
 frees_both a le =
     record { rises = omega arith; least = (1, Left 0, omega arith, refl, omega arith); current = le; allowed = allows_both a le }
 
--- and both answers are right
+-- where one of two seats has left, a reclaim can free the chunk or not
 pub leaves_open : LeavesOpen
 leaves_open = (
   (record one_left { freed = 0 }, record { a = 0; number = frees_both 0 (omega arith); reply_is = refl; new_is = refl }),

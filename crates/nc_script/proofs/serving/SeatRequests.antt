@@ -5,15 +5,16 @@ use Rattle.std.specs.Prelude.{codes}
 use Rattle.std.proofs.lemmas.List.{set-get_or}
 use Rattle.nc_gens.specs.Seen.{PassState}
 use Rattle.nc_region.specs.Region.{Region}
-use Rattle.nc_script.specs.Requests.{CheckIn, Leave}
-use Rattle.nc_script.specs.Script.{Staying, Left}
+use Rattle.nc_script.specs.Answers.{IsNoSeat}
+use Rattle.nc_script.specs.Requests.{Request, CheckIn, Leave}
+use Rattle.nc_script.specs.Script.{ScriptSeat, Staying, Left}
 use Rattle.nc_output.specs.Verdicts.{with_line_end, refused_words}
-use Rattle.nc_script.specs.machinery.Session.{SeatsState, SessionState, script_of, SeatsFit, Follows}
+use Rattle.nc_script.specs.machinery.Session.{SeatsState, SessionState, script_of, SeatsFit, FitsSession, Follows}
 use Rattle.nc_script.specs.machinery.Seats.{HasPass, HasNoPass, HasCheckedAt}
 use Rattle.nc_script.proofs.chunks.Fitting.{AreStamped}
 use Rattle.nc_script.proofs.seating.SeatStates.{seats_set, seat_there, seat_gone}
 
--- a check-in
+-- a check-in of a seat that is there is answered with `ok`
 pub checked_follows : (seat : ℕ) (old : SeatsState) (before : Region) (new : SeatsState) (after : Region)
     → HasCheckedAt seat old.passes before new.passes after
     → Follows (CheckIn seat) (record { region = before; seats = old }) (with_line_end (codes "ok")) (record { region = after; seats = new })
@@ -49,7 +50,7 @@ checked_follows seat old before new after h seats freed fits =
       },
     )
 
--- a leave
+-- a leave of a seat that is there is answered with `ok`
 pub left_follows : (seat : ℕ) (old : SeatsState) (region : Region) (new : SeatsState) (p : PassState) → HasPass old.passes seat p
     → new.passes ≡ set old.passes seat None
     → Follows (Leave seat) (record { region = region; seats = old }) (with_line_end (codes "ok")) (record { region = region; seats = new })
@@ -72,44 +73,43 @@ left_follows seat old region new p has gone seats freed fits =
       },
     )
 
--- there is no such seat, or it has left
+-- a seat without a pass is one that the script doesn't have, or that has left
+no_seat : (seat : ℕ) (state : SessionState) → HasNoPass state.seats.passes seat → (seats : List ScriptSeat) (freed : ℕ)
+    → FitsSession state seats freed → IsNoSeat seat (script_of state.region seats freed) (with_line_end (refused_words (codes "NoSeat")))
+    (script_of state.region seats freed)
+no_seat seat state none seats freed fits = record {
+  none = seat_gone state.region.keeper.numbers.generation freed state.seats.passes state.region.keeper.numbers.bounds seats seat
+      fits.seats_fit none;
+  reply_is = refl;
+  same = refl;
+}
+
+-- a seat without a pass can't check in
 pub no_seat_checks_in : (seat : ℕ) (state : SessionState) → HasNoPass state.seats.passes seat
     → Follows (CheckIn seat) state (with_line_end (refused_words (codes "NoSeat"))) state
-no_seat_checks_in seat state none seats freed fits = (
-  seats,
-  freed,
-  inr (record {
-    none = seat_gone state.region.keeper.numbers.generation freed state.seats.passes state.region.keeper.numbers.bounds seats seat
-        fits.seats_fit none;
-    reply_is = refl;
-    same = refl;
-  }),
-  fits,
-)
+no_seat_checks_in seat state none seats freed fits = (seats, freed, inr (no_seat seat state none seats freed fits), fits)
 
--- so it can't leave
+-- a seat without a pass can't leave
 pub no_seat_leaves : (seat : ℕ) (state : SessionState) → HasNoPass state.seats.passes seat
     → Follows (Leave seat) state (with_line_end (refused_words (codes "NoSeat"))) state
-no_seat_leaves seat state none seats freed fits = (
-  seats,
-  freed,
-  inr (record {
-    none = seat_gone state.region.keeper.numbers.generation freed state.seats.passes state.region.keeper.numbers.bounds seats seat
-        fits.seats_fit none;
-    reply_is = refl;
-    same = refl;
-  }),
-  fits,
-)
+no_seat_leaves seat state none seats freed fits = (seats, freed, inr (no_seat seat state none seats freed fits), fits)
 
 -- two states of sessions are one
 abbrev pub IsSame : SessionState → SessionState → Type 0
 IsSame a b = a ≡ b
 
 -- a session with the same parts
-pub same_state : (before after : Region) (old new : SeatsState) → after ≡ before → new.table ≡ old.table → new.passes ≡ old.passes
+same_state : (before after : Region) (old new : SeatsState) → after ≡ before → new.table ≡ old.table → new.passes ≡ old.passes
     → IsSame (record { region = before; seats = old }) (record { region = after; seats = new })
 same_state before after old new region table passes = λ j. record {
   region = sym region j;
   seats = record { table = sym table j; passes = sym passes j };
 }
+
+-- an answer that leaves a state as it is leads to each state with the same parts
+pub follows_same : (request : Request) (before after : Region) (old new : SeatsState) (reply : List ℕ) → after ≡ before
+    → new.table ≡ old.table → new.passes ≡ old.passes
+    → Follows request (record { region = before; seats = old }) reply (record { region = before; seats = old })
+    → Follows request (record { region = before; seats = old }) reply (record { region = after; seats = new })
+follows_same request before after old new reply region table passes =
+    subst (Follows request (record { region = before; seats = old }) reply) (same_state before after old new region table passes)

@@ -1,5 +1,5 @@
 -- The targets of direct transfers, by the bits of bundles; machinery of the proofs, cited by no public contract.
-use Rattle.std.specs.Prelude.{◌≡◌, ℕ, ◌+◌, ◌-◌, ◌*◌, ◌%◌, ◌^◌, ◌<◌, ◌≤◌, List, length, drop, get_or, slice_index}
+use Rattle.std.specs.Prelude.{◌≡◌, ℕ, ◌+◌, ◌-◌, ◌*◌, ◌/◌, ◌%◌, ◌^◌, ◌<◌, ◌≤◌, List, length, drop, get_or, slice_index}
 use Rattle.std.specs.Int.{bit_at, w8, w32, cast_signed, cast_unsigned, from_le_bytes}
 use Rattle.nc_decode.specs.declared.instruction.Mark.TheVariants.{Plain}
 use Rattle.nc_decode.specs.declared.bundle.Bundle.{Bundle}
@@ -27,6 +27,11 @@ AreGoodShorts base limit code bundles start ends = (k : ℕ) → k < 64 → bit_
 abbrev pub AreGoodNears : ℕ → ℕ → List ℕ → List Bundle → ℕ → ℕ → Type 0
 AreGoodNears base limit code bundles start ends = (k : ℕ) → k < 64 → bit_at ends k ≡ 1
     → IsGood base limit code bundles (near_to base code (start + k))
+
+-- the transfer that ends at place `at` has a permitted target, with a displacement of four bytes if the bits say so, or else of one
+pub record IsGoodEnd (base limit : ℕ) (code : List ℕ) (bundles : List Bundle) (at : ℕ) : Type 0 where
+  pub short : bit_at (get_or bundles (at / 32) no_bits).nears (at % 32) ≡ 0 → IsGood base limit code bundles (short_to base code at)
+  pub near : bit_at (get_or bundles (at / 32) no_bits).nears (at % 32) ≡ 1 → IsGood base limit code bundles (near_to base code at)
 
 -- all direct transfers of bundle n have permitted targets
 pub record IsJudged (base limit : ℕ) (code : List ℕ) (bundles : List Bundle) (n : ℕ) : Type 0 where

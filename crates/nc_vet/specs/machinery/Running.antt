@@ -2,7 +2,7 @@
 use Rattle.std.specs.Prelude.{◌≡◌, ◌≢◌, ℕ, ◌+◌, ◌-◌, ◌*◌, ◌%◌, ◌^◌, ◌<◌, ◌≤◌, List, [], ◌∷◌, length, take, drop, get_or, slice_index}
 use Rattle.std.specs.Prelude.{◌==◌, nat_le, if◌then◌else◌, ⊤}
 use Rattle.std.specs.Int.{bit_at}
-use Rattle.nc_decode.specs.declared.automaton.TheConstants.{STATES, END, AFTER_SHORT, AFTER_NEAR, AFTER_PAIR}
+use Rattle.nc_decode.specs.declared.automaton.TheConstants.{END, AFTER_SHORT, AFTER_NEAR, AFTER_PAIR}
 use Rattle.nc_decode.specs.Automaton.{next_state}
 use Rattle.nc_decode.specs.declared.bundle.Bundle.{Bundle}
 use Rattle.nc_vet.specs.declared.marks.Marks.{Marks}
@@ -39,7 +39,6 @@ pub record HasRun (code : List ℕ) (at i state : ℕ) (states : List ℕ) : Typ
   pub now : state ≡ entered code at i
   pub each : (k : ℕ) → k < i → get_or states k 0 ≡ state_after code (at + k)
   pub long : length states ≡ 32
-  pub small : state < STATES
 
 -- `last` are the states of eight bundles, the first of which begins at place `at`, after the first i bytes of each, and `states`
 -- those after each of these bytes, 32 for each bundle

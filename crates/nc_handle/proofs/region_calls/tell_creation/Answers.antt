@@ -1,6 +1,6 @@
-use Rattle.std.proofs.Common.{◌+◌, ◌%◌, ℕ, length, ap, arith, sym, ◌∙◌}
+use Rattle.std.proofs.Common.{length, arith, sym, ◌∙◌}
 use Rattle.std.proofs.lemmas.Bool.{eqb-false}
-use Rattle.nc_handle.proofs.SpanReads.{span_long, span_high, has_room}
+use Rattle.nc_handle.proofs.SpanReads.{span_long, span_high, span_whole, span_room}
 use Rattle.nc_handle.proofs.region_calls.tell_creation.Goals as goal
 
 pub returns : goal.returns
@@ -14,21 +14,11 @@ returns c =
     }
 
 pub write_creation-requires-clause-high : goal.write_creation-requires-clause-high
-write_creation-requires-clause-high c =
-    let span = c.args.span.now in
-    span_high span.region.now.marked.bytes span.base span.length span.placed
+write_creation-requires-clause-high c = span_high c.args.span.now.region.now.marked.bytes _ _ c.args.span.now.placed
 
 pub write_creation-requires-clause-whole : goal.write_creation-requires-clause-whole
-write_creation-requires-clause-whole c =
-    let span = c.args.span.now in
-    ap (λ (m : ℕ). m % 32) (span_long span.region.now.marked.bytes span.base span.length span.placed) ∙ span.placed.whole
+write_creation-requires-clause-whole c = span_whole c.args.span.now.region.now.marked.bytes _ _ c.args.span.now.placed
 
 pub write_creation-requires-clause-room : goal.write_creation-requires-clause-room
 write_creation-requires-clause-room c =
-    let some = eqb-false (length c.args.acts.now) 0 (sym c.is_empty.ensures ∙ c.if-is_empty.false) in
-    let span = c.args.span.now in
-    omega (
-      arith,
-      span_long span.region.now.marked.bytes span.base span.length span.placed,
-      has_room (length c.args.acts.now) (span.length + 2) c.requires.room some,
-    )
+    span_room c.args.span.now.region.now.marked.bytes _ _ _ _ c.args.span.now.placed c.requires.room c.is_empty.ensures c.if-is_empty.false

@@ -1,25 +1,18 @@
-use Rattle.std.proofs.Common.{◌+◌, ◌*◌, ◌/◌, ◌%◌, ◌≤◌, ℕ, length, ap, sym, subst, ◌∙◌}
+use Rattle.std.proofs.Common.{◌+◌, ◌*◌, ◌/◌, ◌≤◌, ℕ, length, sym, subst}
 use Rattle.nc_region.specs.Log.{log_of_create}
 use Rattle.nc_handle.specs.acts.Runs.{HasRuns, runs_of_create}
 use Rattle.nc_handle.specs.Shown.{bytes_of_span}
-use Rattle.nc_handle.proofs.SpanReads.{span_long, span_high}
+use Rattle.nc_handle.proofs.SpanReads.{span_long, span_high, span_whole, span_runs}
 use Rattle.nc_handle.proofs.runs.tell_creation_runs.Goals as goal
 
 pub write_creation_runs-requires-clause-high : goal.write_creation_runs-requires-clause-high
-write_creation_runs-requires-clause-high c =
-    let span = c.args.span.now in
-    span_high span.region.now.marked.bytes span.base span.length span.placed
+write_creation_runs-requires-clause-high c = span_high c.args.span.now.region.now.marked.bytes _ _ c.args.span.now.placed
 
 pub write_creation_runs-requires-clause-whole : goal.write_creation_runs-requires-clause-whole
-write_creation_runs-requires-clause-whole c =
-    let span = c.args.span.now in
-    ap (λ (n : ℕ). n % 32) (span_long span.region.now.marked.bytes span.base span.length span.placed) ∙ span.placed.whole
+write_creation_runs-requires-clause-whole c = span_whole c.args.span.now.region.now.marked.bytes _ _ c.args.span.now.placed
 
 pub write_creation_runs-requires-clause-room : goal.write_creation_runs-requires-clause-room
-write_creation_runs-requires-clause-room c =
-    let span = c.args.span.now in
-    subst (λ (n : ℕ). 2 * (n / 32) + 2 ≤ length c.args.acts.now)
-    (sym (span_long span.region.now.marked.bytes span.base span.length span.placed)) c.requires
+write_creation_runs-requires-clause-room c = span_runs c.args.span.now.region.now.marked.bytes _ _ _ c.args.span.now.placed c.requires
 
 pub returns : goal.returns
 returns c =

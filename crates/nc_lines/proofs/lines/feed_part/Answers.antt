@@ -3,16 +3,18 @@ use Rattle.std.proofs.Common.{append_assoc, take-append-drop, arith}
 use Rattle.std.proofs.lemmas.List.{take_all, take_more}
 use Rattle.nc_lines.specs.machinery.Progress.{AnswersKept, KeepsUp, Feeds, IsOpen}
 use Rattle.nc_lines.proofs.Steps.{stands_part, part_goes_on, early_failed, stands_line, line_failed, feeds_failed}
+use Rattle.nc_lines.proofs.lines.feed_part.Given.{Over}
+use Rattle.nc_lines.proofs.lines.feed_part.Goals.{After-answer_last}
 use Rattle.nc_lines.proofs.lines.feed_part.Goals as goal
 
--- bytes with the end after them
+-- bytes up to a line end and that end are the bytes up to behind it
 one_end : (bytes rest : List ℕ) (end : ℕ) → end < length rest → get_or rest end 0 ≡ 10
     → (bytes ++ take end rest) ++ 10 ∷ [] ≡ bytes ++ take (end + 1) rest
 one_end bytes rest end below is =
     append_assoc bytes (take end rest) (10 ∷ [])
     ∙ ap (λ (b : ℕ). bytes ++ (take end rest ++ b ∷ [])) (sym is) ∙ ap (λ (xs : List ℕ). bytes ++ xs) (sym (take_more rest end 0 below))
 
--- and the bytes after the end
+-- bytes with some of a rest after them, and then the others, are those with the whole rest
 whole_rest : (bytes rest : List ℕ) (n : ℕ) → (bytes ++ take n rest) ++ drop n rest ≡ bytes ++ rest
 whole_rest bytes rest n = append_assoc bytes (take n rest) (drop n rest) ∙ ap (λ (xs : List ℕ). bytes ++ xs) (take-append-drop n rest)
 
@@ -34,29 +36,34 @@ returns-in-Err-clause-feeds g c = λ start before bytes s.
     c.args.replies.now.held.items c.args.line.now.items c.args.rest.now c.args.responder.now (g.W.Write.contents c.end_early.new.writer)
     c.end_early.new.self.items c.keep.new.line.items s c.requires c.end_early.result c.end_early.ensures.ends
 
+-- the bytes with the end after them, once the line that ends is answered
+taken : (g : Over) (c : After-answer_last g) (bytes : List ℕ)
+    → (bytes ++ take c.first_end-end.result c.args.rest.now) ++ 10 ∷ [] ≡ bytes ++ take (c.first_end-end.result + 1) c.args.rest.now
+taken g c bytes =
+    let below : c.first_end-end.result < length c.args.rest.now = omega (arith, c.first_end-end.ensures.within) in
+    one_end bytes c.args.rest.now c.first_end-end.result below (c.first_end-end.ensures.end below)
+
 pub returns-in-Ok-answer_last-clause-feeds : goal.returns-in-Ok-answer_last-clause-feeds
 returns-in-Ok-answer_last-clause-feeds g c = λ start before bytes s.
-    let answers = g.S.Responder.answers in
-    let after = g.W.Write.contents c.args.writer.now in
-    let later = g.W.Write.contents c.answer_last.new.writer in
+    let at = (goal.at.returns-in-Ok-answer_last-clause-feeds g c).After-answer_last in
     let now = c.args.responder.now in
-    let new = c.answer_last.new.responder in
+    let after = g.W.Write.contents c.args.writer.now in
     let held = c.args.replies.now.held.items in
-    let left = c.answer_last.new.replies.held.items in
-    let rest = c.args.rest.now in
-    let end = c.first_end-end.result in
-    let below : end < length rest = omega (arith, c.first_end-end.ensures.within) in
-    let next = part_goes_on answers start before bytes now after held c.args.line.now.items (take end rest) s
+    let part = take c.first_end-end.result c.args.rest.now in
+    let (next, is) = part_goes_on g.S.Responder.answers start before bytes now after held c.args.line.now.items part s
     c.first_end-end.ensures.«open» in
-    let h = c.in-Ok-answer_last.ensures.answers s.part s.is_kept in
-    subst (λ (xs : List ℕ). KeepsUp answers start before xs new later left c.answer_last.new.line.items)
-    (one_end bytes rest end below (c.first_end-end.ensures.end below))
-    (stands_line answers start before (bytes ++ take end rest) now after held _ h.0 new later left c.answer_last.new.line.items next.0
-    c.in-Ok-answer_last.ensures.none (subst (λ (line : List ℕ). answers now line h.0 new) (sym next.1) h.1) h.2)
+    let (reply, runs, rest) = c.in-Ok-answer_last.ensures.answers s.part s.is_kept in
+    subst (λ (xs : List ℕ). KeepsUp g.S.Responder.answers start before xs c.answer_last.new.responder
+    (g.W.Write.contents c.answer_last.new.writer) c.answer_last.new.replies.held.items c.answer_last.new.line.items) (taken g at bytes)
+    (stands_line g.S.Responder.answers start before (bytes ++ part) now after held _ reply c.answer_last.new.responder
+    (g.W.Write.contents c.answer_last.new.writer) c.answer_last.new.replies.held.items c.answer_last.new.line.items next
+    c.in-Ok-answer_last.ensures.none
+    (subst (λ (line : List ℕ). g.S.Responder.answers now line reply c.answer_last.new.responder) (sym is) runs) rest)
 
 pub returns-in-Err-answer_last-clause-feeds : goal.returns-in-Err-answer_last-clause-feeds
 returns-in-Err-answer_last-clause-feeds g c = λ start before bytes s.
     let answers = g.S.Responder.answers in
+    let at = (goal.at.returns-in-Err-answer_last-clause-feeds g c).After-answer_last in
     let after = g.W.Write.contents c.args.writer.now in
     let later = g.W.Write.contents c.answer_last.new.writer in
     let now = c.args.responder.now in
@@ -66,13 +73,11 @@ returns-in-Err-answer_last-clause-feeds g c = λ start before bytes s.
     let part_left = c.answer_last.new.line.items in
     let rest = c.args.rest.now in
     let end = c.first_end-end.result in
-    let below : end < length rest = omega (arith, c.first_end-end.ensures.within) in
     let fault = c.in-Err-answer_last.fault in
     let next = part_goes_on answers start before bytes now after held c.args.line.now.items (take end rest) s
     c.first_end-end.ensures.«open» in
     subst (λ (xs : List ℕ). Feeds {T = Unit {0}} answers start before xs new later left part_left (Err fault))
-    (ap (λ (xs : List ℕ). xs ++ drop (end + 1) rest) (one_end bytes rest end below (c.first_end-end.ensures.end below))
-    ∙ whole_rest bytes rest (end + 1))
+    (ap (λ (xs : List ℕ). xs ++ drop (end + 1) rest) (taken g at bytes) ∙ whole_rest bytes rest (end + 1))
     (feeds_failed (Unit {0}) answers start before ((bytes ++ take end rest) ++ 10 ∷ []) new later left part_left (drop (end + 1) rest) fault
     (line_failed (Unit {0}) answers start before (bytes ++ take end rest) now after held _ new later left part_left next.0 fault
     (subst (λ (line : List ℕ). AnswersKept {T = Unit {0}} answers now new after later held left line (Err fault)) (sym next.1)

@@ -7,6 +7,7 @@ use Rattle.nc_list.proofs.Pieces.{some_at}
 use Rattle.nc_list.proofs.Parting.{starts_many, join_all, join_starts_are, join_have}
 use Rattle.nc_list.proofs.Pairs.{joined_pair, unjoined_pair, joined_are, pair_first}
 use Rattle.nc_list.proofs.parts.join_next.Given.{Over}
+use Rattle.nc_list.proofs.parts.join_next.Goals.{Else-join}
 use Rattle.nc_list.proofs.parts.join_next.Goals as goal
 
 pub join-requires : goal.join-requires
@@ -36,7 +37,7 @@ remove-requires-then-join g c =
       c.args.starts.now.ok.0,
     )
 
--- the parts afterwards
+-- the chunks of the parts once two are joined
 joined_form : (g : Over) (c : goal.After-remove-then-join g)
     → map g.T.Part.items c.remove.new.self.items
     ≡ remove (set (map g.T.Part.items c.args.parts.now.items) c.args.k (g.T.Part.items c.join.new.self)) (c.args.k + 1)
@@ -84,41 +85,32 @@ returns-then-join-clause-have g c =
     subst HaveSome (sym (joined_form g c))
     (join_have (map g.T.Part.items c.args.parts.now.items) c.args.k _ (within g c) c.requires.have (joined_is g c))
 
-pub returns-else-join-clause-all : goal.returns-else-join-clause-all
-returns-else-join-clause-all g c =
+-- the parts once both neighbours are back in their list
+abbrev both : (g : Over) (c : Else-join g) → List g.row.T.Denot
+both g c = set c.split_at_mut-here.result.0.now c.args.k c.join.new.self ++ set c.split_at_mut-here.result.1.now 0 c.join.new.upper
+
+-- the chunks of the parts stay once both neighbours are back in their list
+same : (g : Over) (c : Else-join g)
+    → map g.T.Part.items (take c.args.parts.now.len (both g c ++ drop (length (both g c)) c.args.parts.now.items))
+    ≡ map g.T.Part.items c.args.parts.now.items
+same g c =
     let inside : c.args.k + 1 < length c.args.parts.now.items =
     omega (arith, c.if-len-k.false, c.requires.some, c.len.ensures, c.args.parts.now.ok.0) in
-    let xs = c.args.parts.now.items in
     let is = c.split_at_mut-here.ensures.front ∙ ap (take (c.args.k + 1)) c.deref_mut.ensures.value in
     let also = c.split_at_mut-here.ensures.back ∙ ap (drop (c.args.k + 1)) c.deref_mut.ensures.value in
     let stay = c.if-join.ensures.not refl in
-    let same = unjoined_pair g.T.Part.items xs c.split_at_mut-here.result.0.now c.split_at_mut-here.result.1.now c.args.k
+    unjoined_pair g.T.Part.items c.args.parts.now.items c.split_at_mut-here.result.0.now c.split_at_mut-here.result.1.now c.args.k
     c.args.parts.now.len c.index-here-k.result c.index-behind-0.result c.join.new.self c.join.new.upper inside
-    (sym c.args.parts.now.ok.0) is also c.index-here-k.is c.index-behind-0.is stay.0 stay.1 in
-    ap all_of same
+    (sym c.args.parts.now.ok.0) is also c.index-here-k.is c.index-behind-0.is stay.0 stay.1
+
+pub returns-else-join-clause-all : goal.returns-else-join-clause-all
+returns-else-join-clause-all g c =
+    ap all_of (same g (goal.at.returns-else-join-clause-all g c).Else-join)
 
 pub returns-else-join-clause-starts : goal.returns-else-join-clause-starts
 returns-else-join-clause-starts g c =
-    let inside : c.args.k + 1 < length c.args.parts.now.items =
-    omega (arith, c.if-len-k.false, c.requires.some, c.len.ensures, c.args.parts.now.ok.0) in
-    let xs = c.args.parts.now.items in
-    let is = c.split_at_mut-here.ensures.front ∙ ap (take (c.args.k + 1)) c.deref_mut.ensures.value in
-    let also = c.split_at_mut-here.ensures.back ∙ ap (drop (c.args.k + 1)) c.deref_mut.ensures.value in
-    let stay = c.if-join.ensures.not refl in
-    let same = unjoined_pair g.T.Part.items xs c.split_at_mut-here.result.0.now c.split_at_mut-here.result.1.now c.args.k
-    c.args.parts.now.len c.index-here-k.result c.index-behind-0.result c.join.new.self c.join.new.upper inside
-    (sym c.args.parts.now.ok.0) is also c.index-here-k.is c.index-behind-0.is stay.0 stay.1 in
-    c.requires.starts ∙ ap (starts_of 0) (sym same)
+    c.requires.starts ∙ ap (starts_of 0) (sym (same g (goal.at.returns-else-join-clause-starts g c).Else-join))
 
 pub returns-else-join-clause-have : goal.returns-else-join-clause-have
 returns-else-join-clause-have g c =
-    let inside : c.args.k + 1 < length c.args.parts.now.items =
-    omega (arith, c.if-len-k.false, c.requires.some, c.len.ensures, c.args.parts.now.ok.0) in
-    let xs = c.args.parts.now.items in
-    let is = c.split_at_mut-here.ensures.front ∙ ap (take (c.args.k + 1)) c.deref_mut.ensures.value in
-    let also = c.split_at_mut-here.ensures.back ∙ ap (drop (c.args.k + 1)) c.deref_mut.ensures.value in
-    let stay = c.if-join.ensures.not refl in
-    let same = unjoined_pair g.T.Part.items xs c.split_at_mut-here.result.0.now c.split_at_mut-here.result.1.now c.args.k
-    c.args.parts.now.len c.index-here-k.result c.index-behind-0.result c.join.new.self c.join.new.upper inside
-    (sym c.args.parts.now.ok.0) is also c.index-here-k.is c.index-behind-0.is stay.0 stay.1 in
-    subst HaveSome (sym same) c.requires.have
+    subst HaveSome (sym (same g (goal.at.returns-else-join-clause-have g c).Else-join)) c.requires.have

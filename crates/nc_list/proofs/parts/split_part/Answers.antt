@@ -26,7 +26,7 @@ returns-in_err-upper-clause-starts g c = c.reserve-2.ensures.items ∙ (c.requir
 pub returns-in_err-upper-clause-have : goal.returns-in_err-upper-clause-have
 returns-in_err-upper-clause-have g c = subst HaveSome (sym (same_in_err g c)) c.requires.have
 
--- and where it isn't full
+-- the part keeps its chunks where it isn't full
 same_in_default : (g : Over) (c : goal.In_default g)
     → map g.T.Part.items (set c.reserve.new.self.items c.args.k c.split.new.self) ≡ map g.T.Part.items c.args.parts.now.items
 same_in_default g c =
@@ -94,7 +94,7 @@ insert-requires-2 g c =
       c.reserve-2.new.self.ok.0,
     )
 
--- the parts afterwards
+-- the chunks of the parts once one is split
 new_parts : (g : Over) (c : goal.After-insert-2 g)
     → map g.T.Part.items c.insert.new.self.items
     ≡ insert (set (map g.T.Part.items c.args.parts.now.items) c.args.k (g.T.Part.items c.split.new.self)) (c.args.k + 1)

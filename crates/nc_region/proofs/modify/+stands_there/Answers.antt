@@ -6,12 +6,12 @@ use Rattle.nc_text.specs.Places.{byte_at}
 use Rattle.nc_region.specs.Patch.{stands_there}
 use Rattle.nc_region.proofs.modify.+stands_there.Goals as goal
 
--- no bytes stand anywhere
+-- an empty list of bytes stands anywhere
 stands_none : (text : List ℕ) (at : ℕ) (bytes : List ℕ) → length bytes ≡ 0 → true ≡ stands_there text at bytes
 stands_none text at [] none = refl
 stands_none text at (byte ∷ rest) none = absurd (omega arith)
 
--- where the first byte stands, those behind it decide
+-- where the first byte stands in the text, bytes do if those behind it do
 stands_behind : (text : List ℕ) (at : ℕ) (bytes : List ℕ) → 0 < length bytes → byte_at text at ≡ get_or bytes 0 0
     → stands_there text (at + 1) (take (length bytes - 1) (drop 1 bytes)) ≡ stands_there text at bytes
 stands_behind text at [] some first = absurd (omega arith)
@@ -19,7 +19,7 @@ stands_behind text at (byte ∷ rest) some first =
     ap (λ (z : List ℕ). stands_there text (at + 1) z) (take_all (length (byte ∷ rest) - 1) rest (omega arith))
     ∙ ap (λ (z : Bool). z && stands_there text (at + 1) rest) (sym (eq-eqb (byte_at text at) byte first))
 
--- where it doesn't, nothing else matters
+-- where the first byte doesn't stand in the text, bytes don't
 stands_not : (text : List ℕ) (at : ℕ) (bytes : List ℕ) → 0 < length bytes → byte_at text at ≢ get_or bytes 0 0
     → false ≡ stands_there text at bytes
 stands_not text at [] some first = absurd (omega arith)

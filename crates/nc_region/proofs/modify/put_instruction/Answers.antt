@@ -29,7 +29,7 @@ log_of_one at [] one = absurd (omega arith)
 log_of_one at (byte ∷ []) one = refl
 log_of_one at (byte ∷ next ∷ rest) one = absurd (omega arith)
 
--- what several take
+-- the acts on an instruction of several bytes: a stop, the bytes behind the first, the first
 acts_of_more : (at first : ℕ) (rest : List ℕ) → 0 < length rest
     → Put at 244 ∷ (puts_where any_place (at + 1) rest ++ (Put at first ∷ [])) ≡ acts_of_instruction at (first ∷ rest)
 acts_of_more at first [] some = absurd (omega arith)

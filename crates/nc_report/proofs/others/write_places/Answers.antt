@@ -8,20 +8,20 @@ use Rattle.nc_report.specs.machinery.Added.{WritesOn}
 use Rattle.nc_report.specs.machinery.Seen.{counted}
 use Rattle.nc_report.proofs.Additions.{writes_none, writes_more, cut_here, cut_in}
 use Rattle.nc_report.proofs.CountedFaults.{counts_more, counts_small}
-use Rattle.nc_report.proofs.FurtherTexts.{completed, told_more}
+use Rattle.nc_report.proofs.FurtherTexts.{completed, told_more, told_there}
 use Rattle.nc_report.proofs.QuietPlaces.{AreFaultless, quiet_none, others_over, counts_over}
 use Rattle.nc_report.proofs.others.write_places.Goals as goal
 
 pub loop-k-init : goal.loop-k-init
-loop-k-init g c = record { within = omega arith; text = writes_none _ _ (TellsEach []) refl; counts = refl }
+loop-k-init g c = record { within = omega arith; text = writes_none _ _ (TellsEach c.args.format []) refl; counts = refl }
 
 pub returns-in-Err-clause-cut : goal.returns-in-Err-clause-cut
 returns-in-Err-clause-cut g c =
     let judged = c.args.judged.now in
     let code = judged.code.now in
     let faults = others_to judged.base judged.limit code c.args.spots.now c.args.own in
-    cut_here _ _ _ _ (TellsEach (faults c.loop-k.k)) (TellsEach (faults (length code)))
-    (completed judged.base judged.limit code c.args.spots.now c.args.own c.loop-k.k (length code) c.loop-k.invariant.within)
+    cut_here _ _ _ _ (TellsEach c.args.format (faults c.loop-k.k)) (TellsEach c.args.format (faults (length code)))
+    (completed c.args.format judged.base judged.limit code c.args.spots.now c.args.own c.loop-k.k (length code) c.loop-k.invariant.within)
     c.loop-k.invariant.text
 
 pub returns-in-Err-write_much-clause-cut : goal.returns-in-Err-write_much-clause-cut
@@ -31,11 +31,13 @@ returns-in-Err-write_much-clause-cut g c =
     let spots = c.args.spots.now in
     let k = c.loop-k.k in
     let faults = others_to judged.base judged.limit code spots c.args.own in
-    cut_in _ _ _ _ _ _ c.in-Err-write_much.ensures.cut.0 (TellsEach (faults k))
-    (TellsEach (others_at judged.base judged.limit code spots c.args.own k)) (TellsEach (faults (length code)))
-    (λ a b h i. completed judged.base judged.limit code spots c.args.own (k + 1) (length code) (omega (arith, c.loop-k-test.true)) (a ++ b)
-    (told_more judged.base judged.limit code spots c.args.own k a b h i))
-    c.loop-k.invariant.text c.in-Ok.ensures c.in-Err-write_much.ensures.cut.1
+    cut_in _ _ _ _ _ _ c.in-Err-write_much.ensures.cut.0 (TellsEach c.args.format (faults k))
+    (TellsEach c.args.format (others_at judged.base judged.limit code spots c.args.own k)) (TellsEach c.args.format (faults (length code)))
+    (λ a b h i. completed c.args.format judged.base judged.limit code spots c.args.own (k + 1) (length code) (omega (arith, c.loop-k-test.true)) (a ++ b)
+    (told_more c.args.format judged.base judged.limit code spots c.args.own k a b h i))
+    c.loop-k.invariant.text
+    (told_there c.args.format judged.base judged.limit code spots c.args.own k c.fault_at-found.result c.other_than.result _ _ c.fault_at-found.ensures c.other_than.ensures c.in-Ok.ensures)
+    c.in-Err-write_much.ensures.cut.1
 
 pub loop-k-preserved : goal.loop-k-preserved
 loop-k-preserved g c =
@@ -54,10 +56,12 @@ loop-k-preserved g c =
     let (part, appended, kept) = c.in-Ok-write_much.ensures.ok in
     record {
       within = c.next_suspect-k.ensures.within;
-      text = writes_more _ _ _ _ _ _ _ part (TellsEach (faults k)) (TellsEach (others_at base limit code spots own k)) (TellsEach (faults next))
-          (λ a b h i. subst (λ (fs : List VetFault). TellsEach fs (a ++ b)) (sym (others_over base limit code spots own (k + 1) next low quiet))
-          (told_more base limit code spots own k a b h i))
-          c.loop-k.invariant.text c.in-Ok.ensures appended kept;
+      text = writes_more _ _ _ _ _ _ _ part (TellsEach c.args.format (faults k)) (TellsEach c.args.format (others_at base limit code spots own k)) (TellsEach c.args.format (faults next))
+          (λ a b h i. subst (λ (fs : List VetFault). TellsEach c.args.format fs (a ++ b)) (sym (others_over base limit code spots own (k + 1) next low quiet))
+          (told_more c.args.format base limit code spots own k a b h i))
+          c.loop-k.invariant.text
+          (told_there c.args.format base limit code spots own k c.fault_at-found.result c.other_than.result _ _ c.fault_at-found.ensures c.other_than.ensures c.in-Ok.ensures)
+          appended kept;
       counts = c.counted-counts.ensures ∙ ap (λ (x : Counts). counted x c.fault_at-found.result) c.loop-k.invariant.counts
           ∙ ap (counted (counts_to base limit code spots k)) c.fault_at-found.ensures ∙ counts_more base limit code spots k
           ∙ sym (counts_over base limit code spots (k + 1) next low quiet);
@@ -67,7 +71,7 @@ pub returns-clause-ok : goal.returns-clause-ok
 returns-clause-ok g c =
     let judged = c.args.judged.now in
     subst (λ (n : ℕ). WritesOn (g.W.Write.contents c.args.writer.now) (g.W.Write.contents c.loop-k.writer) c.args.out.now.items c.loop-k.out.items
-    (TellsEach (others_to judged.base judged.limit judged.code.now c.args.spots.now c.args.own n))) (omega arith) c.loop-k.invariant.text
+    (TellsEach c.args.format (others_to judged.base judged.limit judged.code.now c.args.spots.now c.args.own n))) (omega arith) c.loop-k.invariant.text
 
 pub returns-clause-counts : goal.returns-clause-counts
 returns-clause-counts g c =

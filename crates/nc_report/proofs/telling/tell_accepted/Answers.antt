@@ -10,7 +10,7 @@ returns-in-Ok-write_out-clause-ok g c =
     let out = c.push_accepted.new.out.items in
     record {
       text = out;
-      says = accepted c.args.chunk.now c.args.detail c.args.name.now _ out c.in-Ok.ensures c.new-out.ensures.items;
+      says = accepted c.args.chunk.now c.args.style c.args.name.now _ out c.in-Ok.ensures c.new-out.ensures.items;
       written = subst (λ (xs : List ℕ). Appends (g.W.Write.contents c.args.writer.now) (g.W.Write.contents c.write_out.new.writer) xs)
           c.deref.ensures.value c.in-Ok-write_out.ensures.all;
     }
@@ -20,7 +20,7 @@ returns-clause-cut g c =
     let chunk = c.args.chunk.now in
     let out = c.push_accepted.new.out.items in
     let (n, front) = c.in-Err-write_out.ensures.front in
-    begun_written (TellsAccepted chunk.limit chunk.base c.args.detail c.args.name.now chunk.code) _ _ out n
-    (accepted chunk c.args.detail c.args.name.now _ out c.in-Ok.ensures c.new-out.ensures.items)
+    begun_written (TellsAccepted chunk.limit chunk.base c.args.style c.args.name.now chunk.code) _ _ out n
+    (accepted chunk c.args.style c.args.name.now _ out c.in-Ok.ensures c.new-out.ensures.items)
     (subst (λ (xs : List ℕ). Appends (g.W.Write.contents c.args.writer.now) (g.W.Write.contents c.write_out.new.writer) (take n xs))
     c.deref.ensures.value front)

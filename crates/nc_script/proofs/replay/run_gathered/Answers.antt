@@ -13,11 +13,28 @@ refuses_size bundles answered = (λ _. λ size. no (answered.1 size), λ _. refl
     no : IsTrue false → ⊥
     no e = cc
 
-pub returns-then-not-is_region_size-clause-bad_size : goal.returns-then-not-is_region_size-clause-bad_size
-returns-then-not-is_region_size-clause-bad_size g c = refuses_size c.args.bundles c.if-not-is_region_size.ensures
+pub returns-then-not-is_region_size : goal.returns-then-not-is_region_size
+returns-then-not-is_region_size g c = record {
+  bad_size = refuses_size c.args.bundles c.if-not-is_region_size.ensures;
+  bad_seats = (λ e. absurd cc, λ due. absurd ((refuses_size c.args.bundles c.if-not-is_region_size.ensures).0 refl due.0));
+  no_workers = λ e. cc;
+  untouched = λ _. (refl, refl);
+  ok = tt;
+  read = tt;
+  write_failed = λ e. absurd cc;
+  read_failed = λ e. absurd cc;
+  out_of_memory = λ e. absurd cc;
+}
 
-pub returns-then-seats-eq0-clause-bad_size : goal.returns-then-seats-eq0-clause-bad_size
-returns-then-seats-eq0-clause-bad_size g c = search rules
-
-pub returns-then-seats-eq0-clause-bad_seats : goal.returns-then-seats-eq0-clause-bad_seats
-returns-then-seats-eq0-clause-bad_seats g c = search rules
+pub returns-then-seats-eq0 : goal.returns-then-seats-eq0
+returns-then-seats-eq0 g c = record {
+  bad_size = search rules;
+  bad_seats = search rules;
+  no_workers = λ e. cc;
+  untouched = λ _. (refl, refl);
+  ok = tt;
+  read = tt;
+  write_failed = λ e. absurd cc;
+  read_failed = λ e. absurd cc;
+  out_of_memory = λ e. absurd cc;
+}

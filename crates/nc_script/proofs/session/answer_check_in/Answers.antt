@@ -1,10 +1,9 @@
-use Rattle.std.proofs.Common.{subst}
 use Rattle.std.specs.Prelude.{codes}
 use Rattle.nc_script.specs.Requests.{CheckIn}
 use Rattle.nc_output.specs.Verdicts.{with_line_end, refused_words}
 use Rattle.nc_script.specs.machinery.Session.{SessionState, Follows}
 use Rattle.nc_output.proofs.Offered.{added}
-use Rattle.nc_script.proofs.serving.SeatRequests.{checked_follows, no_seat_checks_in, same_state}
+use Rattle.nc_script.proofs.serving.SeatRequests.{checked_follows, no_seat_checks_in, follows_same}
 use Rattle.nc_script.proofs.session.answer_check_in.Goals as goal
 
 pub returns-then-check_in-clause-follows : goal.returns-then-check_in-clause-follows
@@ -18,10 +17,8 @@ returns-then-check_in-clause-follows c =
 pub returns-else-check_in-clause-follows : goal.returns-else-check_in-clause-follows
 returns-else-check_in-clause-follows c =
     let old : SessionState = record { region = c.args.region.now; seats = c.args.seats.now } in
-    let none = c.if-check_in.ensures.checks in
     added c.extend_from_slice-else-check_in.result _ _ (with_line_end (refused_words (codes "NoSeat")))
     (λ reply. Follows (CheckIn c.args.seat) old reply (record { region = c.check_in.new.region; seats = c.check_in.new.self }))
     c.extend_from_slice-else-check_in.ensures.items
-    (subst (λ (now : SessionState). Follows (CheckIn c.args.seat) old (with_line_end (refused_words (codes "NoSeat"))) now)
-    (same_state c.args.region.now c.check_in.new.region c.args.seats.now c.check_in.new.self none.2 c.if-check_in.ensures.table none.1)
-    (no_seat_checks_in c.args.seat old none.0))
+    (follows_same (CheckIn c.args.seat) c.args.region.now c.check_in.new.region c.args.seats.now c.check_in.new.self
+    (with_line_end (refused_words (codes "NoSeat"))) c.if-check_in.ensures.checks.2 c.if-check_in.ensures.table c.if-check_in.ensures.checks.1 (no_seat_checks_in c.args.seat old c.if-check_in.ensures.checks.0))

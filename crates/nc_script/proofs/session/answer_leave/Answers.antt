@@ -1,10 +1,10 @@
-use Rattle.std.proofs.Common.{refl, subst}
+use Rattle.std.proofs.Common.{refl}
 use Rattle.std.specs.Prelude.{codes}
 use Rattle.nc_script.specs.Requests.{Leave}
 use Rattle.nc_output.specs.Verdicts.{with_line_end, refused_words}
 use Rattle.nc_script.specs.machinery.Session.{SessionState, Follows}
 use Rattle.nc_output.proofs.Offered.{added}
-use Rattle.nc_script.proofs.serving.SeatRequests.{left_follows, no_seat_leaves, same_state}
+use Rattle.nc_script.proofs.serving.SeatRequests.{left_follows, no_seat_leaves, follows_same}
 use Rattle.nc_script.proofs.session.answer_leave.Goals as goal
 
 pub returns-then-leave-clause-follows : goal.returns-then-leave-clause-follows
@@ -19,10 +19,8 @@ returns-then-leave-clause-follows c =
 pub returns-else-leave-clause-follows : goal.returns-else-leave-clause-follows
 returns-else-leave-clause-follows c =
     let old : SessionState = record { region = c.args.region.now; seats = c.args.seats.now } in
-    let none = c.if-leave.ensures.leaves in
     added c.extend_from_slice-else-leave.result _ _ (with_line_end (refused_words (codes "NoSeat")))
     (λ reply. Follows (Leave c.args.seat) old reply (record { region = c.args.region.now; seats = c.leave.new.self }))
     c.extend_from_slice-else-leave.ensures.items
-    (subst (λ (now : SessionState). Follows (Leave c.args.seat) old (with_line_end (refused_words (codes "NoSeat"))) now)
-    (same_state c.args.region.now c.args.region.now c.args.seats.now c.leave.new.self refl c.if-leave.ensures.table none.1)
-    (no_seat_leaves c.args.seat old none.0))
+    (follows_same (Leave c.args.seat) c.args.region.now c.args.region.now c.args.seats.now c.leave.new.self
+    (with_line_end (refused_words (codes "NoSeat"))) refl c.if-leave.ensures.table c.if-leave.ensures.leaves.1 (no_seat_leaves c.args.seat old c.if-leave.ensures.leaves.0))

@@ -7,7 +7,7 @@ use Rattle.nc_text.specs.machinery.Masks.{plain_bit, second_bit}
 use Rattle.nc_text.proofs.BitPlaces.{doubled_low, doubled_high}
 use Rattle.nc_text.proofs.masks.starts_and_seconds.Goals as goal
 
--- each is one bit
+-- what a mark says of being plain is one bit
 small_plain : (mark : Mark) → plain_bit mark < 2
 small_plain Unmarked = omega arith
 small_plain Plain = omega arith
@@ -21,7 +21,7 @@ small_second (After register) = omega arith
 pow_more : (m : ℕ) → 2 ^ (m + 1) ≡ 2 * 2 ^ m
 pow_more m = ap (λ (j : ℕ). 2 ^ j) {x = m + 1} {y = suc m} (omega arith) ∙ pow-succ' 2 m
 
--- one more bit below those of some marks
+-- a word with one more bit below has the bits of the marks from one place before
 more_bits : (bit_of : Mark → ℕ) (marks : ℕ → Mark) (n word bit : ℕ) → n < 32 → bit < 2 → bit ≡ bit_of (marks (31 - n))
     → ((k : ℕ) → k < n → bit_at word k ≡ bit_of (marks (32 - n + k)))
     → (k : ℕ) → k < n + 1 → bit_at (2 * word + bit) k ≡ bit_of (marks (32 - (n + 1) + k))

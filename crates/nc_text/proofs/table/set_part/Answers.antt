@@ -2,9 +2,8 @@ use Rattle.std.proofs.Common.{◌/◌, ◌%◌, Some, None, arith, ap, sym, ◌�
 use Rattle.std.specs.Box.{with_value}
 use Rattle.std.specs.Option.{is_some}
 use Rattle.std.proofs.lemmas.List.{get_or_default}
-use Rattle.nc_text.specs.declared.page.Page.{Page}
-use Rattle.nc_text.specs.machinery.Pages.{Slot, byte_on, mark_on, byte_if_made, mark_if_made}
-use Rattle.nc_text.proofs.Tables.{made_within, one_page, on_page, same_made}
+use Rattle.nc_text.specs.machinery.Pages.{mark_if_made}
+use Rattle.nc_text.proofs.Tables.{made_within, byte_kept, mark_kept, on_page, same_made}
 use Rattle.nc_text.proofs.table.set_part.Goals as goal
 
 pub returns-in-Some-clause-within : goal.returns-in-Some-clause-within
@@ -17,19 +16,15 @@ pub returns-in-Some-clause-others : goal.returns-in-Some-clause-others
 returns-in-Some-clause-others c =
     let inside = made_within c.args.pages.now (c.args.at / 4096) c.requires.ready in
     let e = get_or_default c.args.pages.now (c.args.at / 4096) None c.index-pages-at.result inside ∙ c.in-Some.is in
-    λ k out. one_page mark_if_made c.args.pages.now (c.args.at / 4096) (Some (with_value c.in-Some.page c.set_marks.new.self)) k inside
-    (λ same. c.set_marks.ensures.others (k % 4096)
-    (elim out [ inl low ↦ inl (omega (arith, same)) | inr high ↦ inr (omega (arith, same)) ])
-    ∙ (ap (λ (p : Page). mark_on p (k % 4096)) c.deref_mut.ensures.value
-    ∙ ap (λ (o : Slot). mark_if_made o (k % 4096)) (sym e)))
+    λ k out. mark_kept c.args.pages.now (c.args.at / 4096) k c.in-Some.page c.deref_mut.result.now c.set_marks.new.self e c.deref_mut.ensures.value inside
+    (λ same. c.set_marks.ensures.others (k % 4096) (elim out [ inl low ↦ inl (omega (arith, same)) | inr high ↦ inr (omega (arith, same)) ]))
 
 pub returns-in-Some-clause-bytes : goal.returns-in-Some-clause-bytes
 returns-in-Some-clause-bytes c =
     let inside = made_within c.args.pages.now (c.args.at / 4096) c.requires.ready in
     let e = get_or_default c.args.pages.now (c.args.at / 4096) None c.index-pages-at.result inside ∙ c.in-Some.is in
-    λ k. one_page byte_if_made c.args.pages.now (c.args.at / 4096) (Some (with_value c.in-Some.page c.set_marks.new.self)) k inside
-    (λ same. c.set_marks.ensures.bytes (k % 4096) ∙ (ap (λ (p : Page). byte_on p (k % 4096)) c.deref_mut.ensures.value
-    ∙ ap (λ (o : Slot). byte_if_made o (k % 4096)) (sym e)))
+    λ k. byte_kept c.args.pages.now (c.args.at / 4096) k c.in-Some.page c.deref_mut.result.now c.set_marks.new.self e c.deref_mut.ensures.value inside
+    (λ _. c.set_marks.ensures.bytes (k % 4096))
 
 pub returns-in-Some-clause-made : goal.returns-in-Some-clause-made
 returns-in-Some-clause-made c =

@@ -1,4 +1,5 @@
 use Rattle.std.proofs.Common.{◌≡◌, ◌+◌, ◌*◌, [], ◌∷◌, get_or, arith, refl}
+use Rattle.nc_decode.specs.declared.automaton.TheConstants.{END}
 use Rattle.nc_decode.specs.Automaton.{next_state}
 use Rattle.nc_vet.proofs.EightRuns.{eight_each, put_at, next_by, have_stepped}
 use Rattle.nc_vet.proofs.lanes.run_eight.Goals as goal
@@ -7,18 +8,11 @@ pub loop-i-init : goal.loop-i-init
 loop-i-init c = record {
   place = refl;
   run = record {
-    now = eight_each (λ n s. s ≡ 65) 65 65 65 65 65 65 65 65 refl refl refl refl refl refl refl refl;
+    now = eight_each (λ n s. s ≡ END) _ _ _ _ _ _ _ _ c.start-a.ensures c.start-b.ensures c.start-c.ensures c.start-d.ensures c.start-e.ensures
+        c.start-f.ensures c.start-g.ensures c.start-h.ensures;
     each = λ n k lt k-lt. absurd (omega (arith, k-lt));
     long = c.told-states;
   };
-  a = omega arith;
-  b = omega arith;
-  c = omega arith;
-  d = omega arith;
-  e = omega arith;
-  f = omega arith;
-  g = omega arith;
-  h = omega arith;
 }
 
 pub loop-i-preserved : goal.loop-i-preserved
@@ -67,14 +61,6 @@ loop-i-preserved c = record {
           ),
         ),
       );
-  a = c.step_at-a.ensures.small;
-  b = c.step_at-b.ensures.small;
-  c = c.step_at-c.ensures.small;
-  d = c.step_at-d.ensures.small;
-  e = c.step_at-e.ensures.small;
-  f = c.step_at-f.ensures.small;
-  g = c.step_at-g.ensures.small;
-  h = c.step_at-h.ensures.small;
 }
 
 pub returns : goal.returns

@@ -6,10 +6,9 @@ pub loop-i-preserved : goal.loop-i-preserved
 loop-i-preserved c =
     record {
       a = run_stepped _ c.args.at _ _ _ _ _ _ (omega (arith, c.requires.start)) (omega arith)
-          (omega (arith, c.requires.room)) c.loop-i.invariant.a refl c.step.ensures.state c.step.ensures.states c.step.ensures.small;
+          (omega (arith, c.requires.room)) c.loop-i.invariant.a refl c.step.ensures.state c.step.ensures.states;
       b = run_stepped _ (c.args.at + 32) _ _ _ _ _ _ (omega (arith, c.requires.start)) (omega arith)
-          (omega (arith, c.requires.room)) c.loop-i.invariant.b refl c.step-in-loop-i.ensures.state c.step-in-loop-i.ensures.states
-          c.step-in-loop-i.ensures.small;
+          (omega (arith, c.requires.room)) c.loop-i.invariant.b refl c.step-in-loop-i.ensures.state c.step-in-loop-i.ensures.states;
     }
 
 pub returns : goal.returns

@@ -1,10 +1,11 @@
-use Rattle.std.proofs.Common.{List, get_or, arith, sym, subst}
+use Rattle.std.proofs.Common.{◌+◌, ◌≤◌, List, length, get_or, arith, sym, subst}
 use Rattle.nc_region.specs.declared.acts.Act.TheVariants.{Put}
 use Rattle.nc_region.specs.declared.acts.Entry.{Entry}
 use Rattle.nc_region.specs.declared.acts.Entry.TheVariants.{Did, Settled}
 use Rattle.nc_handle.specs.machinery.Written.{Adds}
 use Rattle.nc_handle.proofs.writing.WriteSteps.{adds_put}
 use Rattle.nc_handle.proofs.writing.Replacements.{of_one, longer_added, rest_counted}
+use Rattle.nc_handle.proofs.acts.replacing.write_instruction.Goals.{After-write_all-count}
 use Rattle.nc_handle.proofs.acts.replacing.write_instruction.Goals as goal
 
 pub returns-then-bytes-eq1-clause-written : goal.returns-then-bytes-eq1-clause-written
@@ -14,12 +15,14 @@ returns-then-bytes-eq1-clause-written c =
     (adds_put c.args.acts.now c.write.new.acts c.args.from c.write.result (Did (Put c.args.at (get_or c.args.bytes.now 0 0))) c.put.result
     c.write.ensures.acts c.write.ensures.count c.put.ensures (omega (arith, c.requires.room, c.requires.some)))
 
-pub write-settled-requires : goal.write-settled-requires
-write-settled-requires c =
+-- behind the bytes but the first there is room for two more acts
+two_left : (c : After-write_all-count) → c.write_all-count.result + 2 ≤ length c.write_all-count.new.acts
+two_left c =
     omega (
       arith,
       c.requires.room,
       c.requires.some,
+      c.if-bytes-eq1.false,
       c.write_all-count.ensures.len,
       c.write-count.auto.acts,
       c.write-count.ensures.count,
@@ -29,22 +32,12 @@ write-settled-requires c =
           c.write_all-count.result c.write_all-count.ensures,
     )
 
+pub write-settled-requires : goal.write-settled-requires
+write-settled-requires c = omega (arith, two_left (goal.at.write-settled-requires c).After-write_all-count)
+
 pub write-requires-2 : goal.write-requires-2
 write-requires-2 c =
-    omega (
-      arith,
-      c.requires.room,
-      c.requires.some,
-      c.write_all-count.ensures.len,
-      c.write-count.auto.acts,
-      c.write-count.ensures.count,
-      c.write-stopped.auto.acts,
-      c.write-stopped.ensures.count,
-      c.write-settled.auto.acts,
-      c.write-settled.ensures.count,
-      rest_counted c.args.at c.args.bytes.now c.write-stopped.new.acts c.write_all-count.new.acts c.write-stopped.result
-          c.write_all-count.result c.write_all-count.ensures,
-    )
+    omega (arith, two_left (goal.at.write-requires-2 c).After-write_all-count, c.write-settled.auto.acts, c.write-settled.ensures.count)
 
 pub returns-clause-within : goal.returns-clause-within
 returns-clause-within c =
@@ -62,8 +55,7 @@ returns-clause-within c =
 
 pub returns-clause-written : goal.returns-clause-written
 returns-clause-written c =
-    let counted = rest_counted c.args.at c.args.bytes.now c.write-stopped.new.acts c.write_all-count.new.acts c.write-stopped.result
-    c.write_all-count.result c.write_all-count.ensures in
+    let left = two_left (goal.at.returns-clause-written c).After-write_all-count in
     longer_added c.args.at c.args.bytes.now c.args.acts.now c.write-count.new.acts c.write-stopped.new.acts c.write_all-count.new.acts
     c.write-settled.new.acts c.write-2.new.acts c.args.from c.write-count.result c.write-stopped.result c.write_all-count.result
     c.write-settled.result c.write-2.result (omega (arith, c.requires.some, c.if-bytes-eq1.false))
@@ -75,31 +67,7 @@ returns-clause-written c =
     c.write_all-count.ensures
     (adds_put c.write_all-count.new.acts c.write-settled.new.acts c.write_all-count.result c.write-settled.result Settled c.settle-2.result
     c.write-settled.ensures.acts c.write-settled.ensures.count c.settle-2.ensures
-    (omega (
-      arith,
-      c.requires.room,
-      c.requires.some,
-      c.if-bytes-eq1.false,
-      c.write_all-count.ensures.len,
-      c.write-count.auto.acts,
-      c.write-count.ensures.count,
-      c.write-stopped.auto.acts,
-      c.write-stopped.ensures.count,
-      counted,
-    )))
+    (omega (arith, left)))
     (adds_put c.write-settled.new.acts c.write-2.new.acts c.write-settled.result c.write-2.result
     (Did (Put c.args.at (get_or c.args.bytes.now 0 0))) c.put-3.result c.write-2.ensures.acts c.write-2.ensures.count c.put-3.ensures
-    (omega (
-      arith,
-      c.requires.room,
-      c.requires.some,
-      c.if-bytes-eq1.false,
-      c.write_all-count.ensures.len,
-      c.write-count.auto.acts,
-      c.write-count.ensures.count,
-      c.write-stopped.auto.acts,
-      c.write-stopped.ensures.count,
-      c.write-settled.auto.acts,
-      c.write-settled.ensures.count,
-      counted,
-    )))
+    (omega (arith, left, c.write-settled.auto.acts, c.write-settled.ensures.count)))

@@ -1,21 +1,18 @@
 use Rattle.std.proofs.Common.{ℕ, ◌+◌, arith, ap, ◌∙◌}
 use Rattle.nc_text.specs.Places.{byte_at}
 use Rattle.nc_text.specs.MarkedText.{MarkedText}
-use Rattle.nc_handle.proofs.SpanReads.{span_long, span_byte}
+use Rattle.nc_handle.proofs.SpanReads.{span_long, span_high, span_byte}
 use Rattle.nc_handle.proofs.span.SpanReadChunk.bytes.Goals as goal
 
 pub overflow_add-self : goal.overflow_add-self
 overflow_add-self c =
-    let span = c.args.self.now in
-    let placed = span.placed in
-    omega (arith, c.requires.within, span_long span.region.now.marked.bytes span.base span.length placed, placed.high, placed.lawful.2)
+    omega (arith, c.requires.within, span_high c.args.self.now.region.now.marked.bytes _ _ c.args.self.now.placed)
 
 pub read_run-requires-clause-inside : goal.read_run-requires-clause-inside
 read_run-requires-clause-inside c =
     let span = c.args.self.now in
-    let placed = span.placed in
-    let within = span_long span.region.now.marked.bytes span.base span.length placed in
-    rw (c.text.ensures.marked ∙ c.acts.ensures.marked) (omega (arith, placed.low), omega (arith, c.requires.within, within, placed.high))
+    let within = span_long span.region.now.marked.bytes span.base span.length span.placed in
+    rw (c.text.ensures.marked ∙ c.acts.ensures.marked) (omega (arith, span.placed.low), omega (arith, c.requires.within, within, span.placed.high))
 
 pub read_run-requires-clause-one_bundle : goal.read_run-requires-clause-one_bundle
 read_run-requires-clause-one_bundle c = omega (arith, c.args.self.now.placed.start, c.requires.start)

@@ -22,7 +22,7 @@ returns-then-at-base-clause-found c =
     (next_at items (k - 1) c.args.at found (omega (arith, le)) c.index-entry.ensures
     (before_begun items (k - 1) c.args.at found rising (omega (arith, le)) begun) (omega (arith, begun, same)))
 
--- the chunks that begin at or below the place end there too
+-- the chunks counted up to the place end at or below it
 ended : (c : Joined-k-gt0) → IsAboveAll c.args.at (take c.count_near-k.result c.self.inside.entries.items)
 ended c =
     let items : List Chunk = c.self.inside.entries.items in

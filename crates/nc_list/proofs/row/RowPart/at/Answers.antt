@@ -7,7 +7,7 @@ use Rattle.nc_list.proofs.Rows.{found_at, some_part}
 use Rattle.nc_list.proofs.row.RowPart.at.Given.{Over}
 use Rattle.nc_list.proofs.row.RowPart.at.Goals as goal
 
--- there are parts, and as many numbers
+-- the row has a part
 some : (g : Over) (c : goal.After-deref g) → 0 < length c.self.inside.parts.items
 some g c =
     let inside = subst (λ (z : List Chunk). c.args.i < length z) (sym c.self.view_is) c.requires in

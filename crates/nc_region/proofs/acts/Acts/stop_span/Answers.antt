@@ -4,8 +4,7 @@ use Rattle.nc_decode.specs.declared.instruction.Mark.{Mark}
 use Rattle.nc_text.specs.MarkedText.{MarkedText, with_stops}
 use Rattle.nc_region.proofs.chunks.Creating.{same_code}
 use Rattle.nc_text.specs.Places.{limit_of, byte_at}
-use Rattle.nc_region.specs.declared.acts.Entry.TheVariants.{Did, Settled}
-use Rattle.nc_region.specs.declared.acts.Act.TheVariants.{Bump}
+use Rattle.nc_region.specs.declared.acts.Entry.TheVariants.{Settled}
 use Rattle.nc_region.specs.Acts.{is_marked_at, is_unmarked_at}
 use Rattle.nc_region.specs.Chunks.{HasGoodSpan}
 use Rattle.nc_region.specs.machinery.Between.{HasPut}
@@ -30,11 +29,11 @@ marked_stopped g c at low high marked =
     ∙ (c.stop_where.ensures.bytes.put at low high marked
     ∙ get_or-replicate c.args.len (at - c.args.at) 244 0 (omega (arith, low, high)))
 
--- the marks then
+-- once the stops at marked places have settled the marks are as before
 marks_then : (g : Over) (c : After-settle g) → (g.Self.Acts.marked c.settle.new.self).marks ≡ (g.Self.Acts.marked c.args.self.now).marks
 marks_then g c = ap (λ (m : MarkedText). m.marks) c.settle.ensures.marked ∙ c.stop_where.ensures.marks
 
--- the span then
+-- once the stops at marked places have settled the span lies in the region
 placed_then : (g : Over) (c : After-settle g)
     → HasGoodSpan c.args.at (limit_of (g.Self.Acts.marked c.settle.new.self).bytes) c.args.len
 placed_then g c =

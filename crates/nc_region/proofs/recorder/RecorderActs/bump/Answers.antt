@@ -2,7 +2,7 @@ use Rattle.std.proofs.Common.{◌≡◌, Result, Ok, Err, OnOk, OnErr, true, fal
 use Rattle.std.specs.Result.{is_ok}
 use Rattle.nc_region.proofs.recorder.RecorderActs.bump.Goals as goal
 
--- what holds anyway
+-- what holds anyway holds where a call succeeds
 if_ok : {T E : Type 0} (r : Result T E) (P : Type 0) → P → OnOk r P
 if_ok (Ok x) P h = h
 if_ok (Err y) P h = tt

@@ -13,10 +13,11 @@ use Rattle.nc_region.specs.Region.{Region, IsRefused, live_chunk}
 use Rattle.nc_region.proofs.chunks.Inserting.{unused_if_apart, region_with_chunk}
 use Rattle.nc_region.proofs.chunks.Pieces.{valid_chunk_is_closed, chunk_names_registers}
 use Rattle.nc_region.proofs.chunks.ReadyPlaces.{chunks_stay_ready, ready_inserted}
+use Rattle.nc_region.proofs.RegionParts.{region_of}
 use Rattle.nc_region.proofs.region.RegionOf.create.Goals as goal
 use Rattle.nc_region.proofs.telling.Logged.{told_logged, created_acts}
 
--- only a want of memory may have made pages
+-- what changes nothing, or only pages on a want of memory, is a refused creation
 refused_as : (old new : Region) (v : MarkedChunk) (fault : CreateFault) → new ≡ record old { made = new.made }
     → GetsReady old.made new.made v.base (length v.code) → (fault ≢ OutOfMemory → new.made ≡ old.made) → IsRefused old new v fault
 refused_as old new v WrongLimit same gets made =
@@ -38,20 +39,10 @@ returns-in-Err g c =
     let others = c.make_room.ensures.others in
     let inside = c.self.inside in
     let now = c.make_room.new in
-    let old : Region = record {
-      marked = g.A.Acts.marked inside.acts;
-      made = g.A.Acts.made inside.acts;
-      chunks = inside.chunks;
-      keeper = g.A.Acts.keeper inside.acts;
-      logged = g.A.Acts.logged inside.acts;
-    } in
-    let new : Region = record {
-      marked = g.A.Acts.marked now.acts;
-      made = g.A.Acts.made now.acts;
-      chunks = now.chunks;
-      keeper = g.A.Acts.keeper now.acts;
-      logged = g.A.Acts.logged now.acts;
-    } in
+    let old : Region = region_of (g.A.Acts.marked inside.acts) (g.A.Acts.made inside.acts) inside.chunks
+    (g.A.Acts.keeper inside.acts) (g.A.Acts.logged inside.acts) in
+    let new : Region = region_of (g.A.Acts.marked now.acts) (g.A.Acts.made now.acts) now.chunks
+    (g.A.Acts.keeper now.acts) (g.A.Acts.logged now.acts) in
     let same : new ≡ record old { made = new.made } = rw (others.0, c.in-Err.ensures.unlisted, others.1, others.2) refl in
     record {
       created = tt;

@@ -12,6 +12,7 @@ use Rattle.nc_region.specs.Region.{Region, IsLive, IsRising}
 use Rattle.nc_region.specs.Chunks.{HasGoodSpan}
 use Rattle.nc_region.proofs.chunks.ReadyPlaces.{ready_held, ready_set}
 use Rattle.nc_region.proofs.deleting.Deleted.{retired_set, deleted_is, region_deleted}
+use Rattle.nc_region.proofs.RegionParts.{region_of}
 use Rattle.nc_region.proofs.region.RegionOf.delete.Goals as goal
 
 pub returns-in_default-clause-confined : goal.returns-in_default-clause-confined
@@ -88,20 +89,10 @@ returns-clause-deleted g c =
     let chunk : Chunk = c.in-Some.chunk in
     let f = c.in-Some.ensures.some in
     let chunks = c.self.inside.chunks in
-    let old : Region = record {
-      marked = g.A.Acts.marked c.self.inside.acts;
-      made = g.A.Acts.made c.self.inside.acts;
-      chunks = chunks;
-      keeper = g.A.Acts.keeper c.self.inside.acts;
-      logged = g.A.Acts.logged c.self.inside.acts;
-    } in
-    let new : Region = record {
-      marked = g.A.Acts.marked c.put_stops-stamp.new.acts;
-      made = g.A.Acts.made c.put_stops-stamp.new.acts;
-      chunks = c.retire.new.self;
-      keeper = g.A.Acts.keeper c.put_stops-stamp.new.acts;
-      logged = g.A.Acts.logged c.put_stops-stamp.new.acts;
-    } in
+    let old : Region = region_of (g.A.Acts.marked c.self.inside.acts) (g.A.Acts.made c.self.inside.acts) chunks
+    (g.A.Acts.keeper c.self.inside.acts) (g.A.Acts.logged c.self.inside.acts) in
+    let new : Region = region_of (g.A.Acts.marked c.put_stops-stamp.new.acts) (g.A.Acts.made c.put_stops-stamp.new.acts) c.retire.new.self
+    (g.A.Acts.keeper c.put_stops-stamp.new.acts) (g.A.Acts.logged c.put_stops-stamp.new.acts) in
     rw (← c.self.view_is)
     (deleted_is old new f.0.0 c.args.base c.put_stops-stamp.result chunk
     (slice_get-get_or chunks f.0.0 chunk f.0.1 ∙ ap Some f.0.2) f.1 f.2

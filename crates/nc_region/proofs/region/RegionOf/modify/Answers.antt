@@ -7,6 +7,7 @@ use Rattle.nc_region.proofs.chunks.ReadyPlaces.{ready_part, ready_held}
 use Rattle.nc_region.proofs.patching.Patched.{region_patched, held_holds, patch_lawful, refused_in}
 use Rattle.nc_region.specs.Patch.{acts_of_modify, log_of_modify}
 use Rattle.nc_region.proofs.telling.Logged.{told_logged, modified_acts}
+use Rattle.nc_region.proofs.RegionParts.{region_of}
 use Rattle.nc_region.proofs.region.RegionOf.modify.Goals as goal
 
 pub returns-then-not-is_patch_span-clause-confined : goal.returns-then-not-is_patch_span-clause-confined
@@ -93,15 +94,9 @@ pub returns-in-Err-clause-refused : goal.returns-in-Err-clause-refused
 returns-in-Err-clause-refused g c =
     let spans : c.is_patch_span.result ≡ true = c.if-not-is_patch_span.false in
     let held : IsHeldBy c.self.inside.chunks c.args.at c.in-Some.chunk = c.in-Some.ensures.some in
-    let refused = refused_in (record {
-      marked = g.A.Acts.marked c.self.inside.acts;
-      made = g.A.Acts.made c.self.inside.acts;
-      chunks = c.self.inside.chunks;
-      keeper =
-          g.A.Acts.keeper c.self.inside.acts;
-      logged = g.A.Acts.logged c.self.inside.acts;
-    }) c.args.at c.args.new.now c.in-Some.chunk c.in-Err.fault c.self.invariant.0.rising (c.is_patch_span.ensures.0 spans) held
-    c.in-Err.ensures.refused in
+    let refused = refused_in (region_of (g.A.Acts.marked c.self.inside.acts) (g.A.Acts.made c.self.inside.acts) c.self.inside.chunks
+    (g.A.Acts.keeper c.self.inside.acts) (g.A.Acts.logged c.self.inside.acts)) c.args.at c.args.new.now c.in-Some.chunk c.in-Err.fault
+    c.self.invariant.0.rising (c.is_patch_span.ensures.0 spans) held c.in-Err.ensures.refused in
     subst (λ (r : Region). MayRefusePatch r c.args.at c.args.new.now c.in-Err.fault) c.self.view_is refused
 
 pub returns-in-Err-clause-confined : goal.returns-in-Err-clause-confined
@@ -146,12 +141,7 @@ pub returns-clause-lawful : goal.returns-clause-lawful
 returns-clause-lawful g c =
     let spans : c.is_patch_span.result ≡ true = c.if-not-is_patch_span.false in
     let held : IsHeldBy c.self.inside.chunks c.args.at c.in-Some.chunk = c.in-Some.ensures.some in
-    let lawful = patch_lawful (record {
-      marked = g.A.Acts.marked c.self.inside.acts;
-      made = g.A.Acts.made c.self.inside.acts;
-      chunks = c.self.inside.chunks;
-      keeper =
-          g.A.Acts.keeper c.self.inside.acts;
-      logged = g.A.Acts.logged c.self.inside.acts;
-    }) c.args.at c.args.new.now c.in-Some.chunk (c.is_patch_span.ensures.0 spans) held c.in_default-patch.ensures.can in
+    let lawful = patch_lawful (region_of (g.A.Acts.marked c.self.inside.acts) (g.A.Acts.made c.self.inside.acts) c.self.inside.chunks
+    (g.A.Acts.keeper c.self.inside.acts) (g.A.Acts.logged c.self.inside.acts)) c.args.at c.args.new.now c.in-Some.chunk
+    (c.is_patch_span.ensures.0 spans) held c.in_default-patch.ensures.can in
     subst (λ (r : Region). IsPatch r c.args.at c.args.new.now) c.self.view_is lawful

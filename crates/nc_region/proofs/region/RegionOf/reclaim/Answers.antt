@@ -8,6 +8,7 @@ use Rattle.nc_region.specs.Deletion.{freed, unmarked}
 use Rattle.nc_region.proofs.chunks.ReadyPlaces.{ready_kept}
 use Rattle.nc_region.proofs.deleting.Due.{few, reclaimed_is}
 use Rattle.nc_region.proofs.deleting.Least.{least_below}
+use Rattle.nc_region.proofs.RegionParts.{region_of}
 use Rattle.nc_region.proofs.region.RegionOf.reclaim.Goals as goal
 
 pub invariant_of-self : goal.invariant_of-self
@@ -32,22 +33,10 @@ free_due-requires-clause-few g c =
 
 pub returns-clause-reclaimed : goal.returns-clause-reclaimed
 returns-clause-reclaimed g c =
-    let old : Region = record {
-      marked = g.A.Acts.marked c.self.inside.acts;
-      made = g.A.Acts.made c.self.inside.acts;
-      chunks = c.self.inside.chunks;
-      keeper =
-          g.A.Acts.keeper c.self.inside.acts;
-      logged = g.A.Acts.logged c.self.inside.acts;
-    } in
-    let new : Region = record {
-      marked = g.A.Acts.marked c.free_due.new.acts;
-      made = g.A.Acts.made c.free_due.new.acts;
-      chunks = c.free_due.new.chunks;
-      keeper =
-          g.A.Acts.keeper c.free_due.new.acts;
-      logged = g.A.Acts.logged c.free_due.new.acts;
-    } in
+    let old : Region = region_of (g.A.Acts.marked c.self.inside.acts) (g.A.Acts.made c.self.inside.acts) c.self.inside.chunks
+    (g.A.Acts.keeper c.self.inside.acts) (g.A.Acts.logged c.self.inside.acts) in
+    let new : Region = region_of (g.A.Acts.marked c.free_due.new.acts) (g.A.Acts.made c.free_due.new.acts) c.free_due.new.chunks
+    (g.A.Acts.keeper c.free_due.new.acts) (g.A.Acts.logged c.free_due.new.acts) in
     rw (← c.self.view_is)
     (reclaimed_is old new (g.A.Acts.logged c.look-least.new.self) c.free_due.result c.look-least.result
     (subst (HasLooked (g.A.Acts.keeper c.self.inside.acts)) (sym c.free_due.ensures.keeper) c.look-least.ensures.looked)

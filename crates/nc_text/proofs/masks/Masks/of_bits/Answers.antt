@@ -15,7 +15,7 @@ use Rattle.nc_text.proofs.masks.Masks.of_bits.Goals as goal
 abbrev starts_of : Bundle → Masks
 starts_of w = record { starts = 2 * (w.ends % 2147483648) + 1; seconds = 0; low = 0; middle = 0; high = 0 }
 
--- they tell the mark of a place that is no second half
+-- the masks before any second half is marked tell the mark of a place that is no second half
 first_bits : (w : Bundle) (k next : ℕ) → k < 32 → bit_at (w.pairs / 2) k ≡ 0 → mark_in (starts_of w) k ≡ bit_mark w k next
 first_bits w k next lt clear =
     let no : is_second w k ≡ false = sym (second_word w k) ∙ ap (λ (n : ℕ). n == 1) clear in

@@ -13,17 +13,17 @@ use borrow.Rule.Slice.PartMut.{put_mid, mid_of}
 abbrev filled : ℕ → ℕ → List Masks → List Masks → List Masks
 filled first whole masks part = put_mid first (first + whole - first) masks part
 
--- as many as there are bundles
+-- there are as many filled masks as bundles
 length-part : (masks part : List Masks) (m : Masks) (first whole : ℕ) → first + whole ≤ length masks
     → part ≡ replicate (length (mid_of first (first + whole - first) masks)) m → length part ≡ whole
 length-part masks part m first whole fits is = ap (λ (ms : List Masks). length ms) is ∙ grind (arith, places, length-replicate {A = Masks})
 
--- the masks of those bundles
+-- the masks of the bundles that were filled
 filled_in : (masks part : List Masks) (first whole j : ℕ) → first + whole ≤ length masks → length part ≡ whole → first ≤ j → j < first + whole
     → get_or (filled first whole masks part) j unused_masks ≡ get_or part (j - first) unused_masks
 filled_in masks part first whole j fits long low high = grind (arith, places)
 
--- and of the others
+-- the masks of the bundles that were not filled
 filled_out : (masks part : List Masks) (first whole j : ℕ) → first + whole ≤ length masks → length part ≡ whole
     → (j < first) ⊎ (first + whole ≤ j) → get_or (filled first whole masks part) j unused_masks ≡ get_or masks j unused_masks
 filled_out masks part first whole j fits long (inl low) = grind (arith, places)
@@ -60,7 +60,7 @@ module _ (at len head first whole done : ℕ) (masks part : List Masks) (m : Mas
   room : first + whole ≤ length masks
   room = let p = is.parts in omega (arith, is.long, p.fits, p.first_is, p.whole_is, p.head_is)
 
-  -- the marks of those bundles
+  -- the marks of the bundles that were filled
   mark_inside : (j : ℕ) → at + head ≤ j → j < at + done
       → mark_in (get_or (filled first whole masks part) (j / 32) unused_masks) (j % 32) ≡ unused_mark j
   mark_inside j low high =
@@ -72,7 +72,7 @@ module _ (at len head first whole done : ℕ) (masks part : List Masks) (m : Mas
       ∙ is.unused_is)))
       ∙ (bare_at (j % 32) (omega arith) ∙ unused_mark_in j)
 
-  -- and of the others
+  -- the marks of the bundles that were not filled
   mark_outside : (j : ℕ) → (j < at + head) ⊎ (at + done ≤ j)
       → mark_in (get_or (filled first whole masks part) (j / 32) unused_masks) (j % 32) ≡ mark_in (get_or masks (j / 32) unused_masks) (j % 32)
   mark_outside j out =

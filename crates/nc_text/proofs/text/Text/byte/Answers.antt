@@ -1,21 +1,17 @@
-use Rattle.std.proofs.Common.{◌-◌, length, List, get_or, arith, ap, sym, ◌∙◌}
+use Rattle.std.proofs.Common.{◌-◌, List, get_or, arith, ap, sym, ◌∙◌}
 use Rattle.nc_text.specs.machinery.Pages.{Slot, byte_of}
 use Rattle.nc_text.specs.Ready.{TextState}
-use Rattle.nc_text.proofs.Views.{bytes_long, byte_seen}
+use Rattle.nc_text.proofs.Views.{place_inside, page_inside, byte_seen}
 use Rattle.nc_text.proofs.text.Text.byte.Goals as goal
 
 pub byte-requires : goal.byte-requires
 byte-requires c =
-    let long = bytes_long c.self.inside.pages.items c.self.inside.size in
-    let same = ap (λ (t : TextState). length t.marked.bytes) c.self.view_is in
-    let many = ap (λ (ps : List Slot). length ps) c.deref.ensures.value in
-    omega (arith, long, same, many, c.self.invariant.1, c.requires.0, c.requires.1)
+    page_inside c.self.inside.pages.items c.deref.result.now c.self.inside.size (c.args.at - 65536) c.args.self.now c.deref.ensures.value c.self.view_is
+    c.self.invariant.1 (omega (arith, c.requires.0, c.requires.1))
 
 pub returns : goal.returns
 returns c =
-    let long = bytes_long c.self.inside.pages.items c.self.inside.size in
-    let same = ap (λ (t : TextState). length t.marked.bytes) c.self.view_is in
     c.byte.ensures ∙ (ap (λ (ps : List Slot). byte_of ps (c.args.at - 65536)) c.deref.ensures.value
     ∙ (sym (byte_seen c.self.inside.pages.items c.self.inside.size (c.args.at - 65536)
-    (omega (arith, long, same, c.requires.0, c.requires.1)))
+    (place_inside c.self.inside.pages.items c.self.inside.size _ c.args.self.now c.self.view_is (omega (arith, c.requires.0, c.requires.1))))
     ∙ ap (λ (t : TextState). get_or t.marked.bytes (c.args.at - 65536) 0) c.self.view_is))

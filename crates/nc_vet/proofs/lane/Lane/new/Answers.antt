@@ -2,4 +2,4 @@ use Rattle.std.proofs.Common.{refl}
 use Rattle.nc_vet.proofs.lane.Lane.new.Goals as goal
 
 pub returns : goal.returns
-returns c = refl
+returns c = rw c.start.ensures refl
