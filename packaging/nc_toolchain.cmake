@@ -3,7 +3,7 @@ set(CMAKE_SYSTEM_NAME Generic)
 set(CMAKE_SYSTEM_PROCESSOR i686)
 
 # The compilers beside this file, where it is installed and in the source repository; else those on PATH.
-set(nc_PLACES "${CMAKE_CURRENT_LIST_DIR}/../../../bin" "${CMAKE_CURRENT_LIST_DIR}/../examples/compile")
+set(nc_PLACES "${CMAKE_CURRENT_LIST_DIR}/../../../bin" "${CMAKE_CURRENT_LIST_DIR}/../compiler")
 find_program(nc_CC NAMES nc-cc HINTS ${nc_PLACES} REQUIRED)
 find_program(nc_CXX NAMES nc-c++ HINTS ${nc_PLACES} REQUIRED)
 set(CMAKE_C_COMPILER "${nc_CC}")

@@ -1,5 +1,5 @@
 // Tests of nc_sandbox.hpp: wrapper_test GUEST, on a module of sandbox/tests/guest.c. What failed is printed with its line.
-// tools/try-box-bindings compiles and runs them.
+// tools/try/box-bindings compiles and runs them.
 #include "nc_sandbox.hpp"
 
 #include <cstdio>

@@ -1,8 +1,8 @@
 /* What a library with musl finds in a box: `begin`, which the host calls once, and a heap. No system call leaves the box. For nc-cc, with
    musl's inner headers (build). It runs inside, so nobody has to trust it. */
 
-#include "../library/heap.h"
-#include "../library/setup.h"
+#include "heap.h"
+#include "setup.h"
 
 /* Ends the call: a trampoline (build). */
 _Noreturn void ncs_exit(int status);

@@ -1,9 +1,9 @@
 // A first host in C++: what first.c does, by the values of nc_host.hpp.
 //
-// It executes nothing, and has no thread but its own. tools/try-bindings compares what it prints with first.txt. From the top of the
-// repository, with the library built and `kit` set as in README.md:
+// It executes nothing, and has no thread but its own. tools/try/bindings compares what it prints with first.txt. From the top of the
+// repository, with the library built and `kit` set as in docs/INSTALL.md:
 //
-//     g++ -std=c++17 -Iinclude examples/host/first.cpp crates/nc_host/out/libnc_host.a "$kit/c/liblibc_c.a" -o host && ./host
+//     g++ -std=c++17 -Iinclude -Ibindings/cpp examples/host/first.cpp crates/nc_host/out/libnc_host.a "$kit/c/liblibc_c.a" -o host && ./host
 #include "nc_host.hpp"
 
 #include <array>

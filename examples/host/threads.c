@@ -7,7 +7,7 @@
  * instructions are loads of its name, four equal bytes, at places that differ from chunk to chunk. So a thread that stands in one chunk
  * while another one is put there, or that reads an instruction before it is whole, finds a name of unequal bytes or a byte that begins
  * nothing: it is astray. With --control the host draws the stamp of a deletion before its stops stand in the memory, and threads go
- * astray. tools/try-host compiles it as C and as C++.
+ * astray. tools/try/host compiles it as C and as C++.
  */
 #define _POSIX_C_SOURCE 199506L
 #define NC_FAULT_NAMES

@@ -1,4 +1,7 @@
-"""The libraries of this folder: where their sources come from, and how they are compiled. Each has a program here that uses it."""
+"""The libraries that tools/try/ports compiles: where their sources come from, and how they are compiled. Each has a program here that uses it.
+
+`build` compiles others with the programs of trials/, and runs these by a host for Linux (load.c, host.s).
+"""
 
 from typing import NamedTuple
 

@@ -3,7 +3,7 @@
 top=$here/../..
 if [ -d "$top/crates" ]; then
     kit=${RATTLE_KIT:-$(dirname "$(rt doc)")}
-    include=(-I"$top/include" -I"$top/sandbox") nc_cc=$top/examples/compile/nc-cc
+    include=(-I"$top/include" -I"$top/sandbox") nc_cc=$top/compiler/nc-cc
     boxes=("$top"/sandbox/*.c "$top/sandbox/switch.S")
     archives=("$top/crates/nc_host/out/libnc_host.a" "$kit/c/liblibc_c.a")
 else

@@ -1,4 +1,4 @@
-# Completions of nc-bundle for bash. tools/check-completions compares them with its --help.
+# Completions of nc-bundle for bash. tools/check/completions compares them with its --help.
 _nc_bundle() {
     local word=${COMP_WORDS[COMP_CWORD]} words=
     [[ $word != -* ]] || words="--keep-returns --long-nops --version -h --help"

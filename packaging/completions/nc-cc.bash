@@ -1,4 +1,4 @@
-# Completions of nc-cc and nc-c++ for bash. tools/check-completions compares them with nc-cc --help.
+# Completions of nc-cc and nc-c++ for bash. tools/check/completions compares them with nc-cc --help.
 _nc_cc() {
     local word=${COMP_WORDS[COMP_CWORD]} words=
     case ${COMP_WORDS[COMP_CWORD - 1]} in

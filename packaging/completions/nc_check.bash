@@ -1,4 +1,4 @@
-# Completions of nc_check for bash. tools/check-completions compares them with its --help.
+# Completions of nc_check for bash. tools/check/completions compares them with its --help.
 _nc_check() {
     local word=${COMP_WORDS[COMP_CWORD]} words=
     case ${COMP_WORDS[COMP_CWORD - 1]} in

@@ -23,24 +23,29 @@ static double now(void) {
     return (double)t.tv_sec + 1e-9 * (double)t.tv_nsec;
 }
 
-/* Whether a thread may stand there: at an instruction of the code, in code of the host's, or at another bundle start. */
-static int may_stand(const KitBox *box, const uint8_t *marks, uint32_t place) {
-    uint32_t at = place - box->code_at;
+/* Whether a thread may end there: at an instruction of the code, in code of the host's, or at another bundle start. Only a limit of time
+   ends a thread in the middle of a trampoline. */
+static int may_end(const KitBox *box, const uint8_t *marks, KitEnd end) {
+    uint32_t at = end.place - box->code_at;
     if (at < box->code_len) {
         return marks[at] != NC_UNMARKED;
     }
-    return (place >= NC_START && place < box->code_at) || (place % NC_BUNDLE == 0 && place < box->code_limit);
+    if (end.place < NC_START) {
+        uint32_t start = end.place & ~(NC_BUNDLE - 1);
+        return end.place == start || (end.how == KIT_LATE && kit_host.is_trampoline(start));
+    }
+    return end.place < box->code_at || (end.place % NC_BUNDLE == 0 && end.place < box->code_limit);
 }
 
 static const char *judge(const KitBox *box, const uint8_t *code, const uint8_t *marks, KitEnd end) {
     uint32_t at = end.place - box->code_at;
     int stands = end.how == KIT_STOPPED || end.how == KIT_FAULTED || end.how == KIT_LATE;
     int is_no_stop = end.how == KIT_STOPPED && at < box->code_len && code[at] != NC_STOP;
-    return end.how >= KIT_OTHERWISE                    ? "ANOTHER END"
-         : stands && !may_stand(box, marks, end.place) ? "NO INSTRUCTION IS AT ITS PLACE"
-         : is_no_stop                                  ? "NO STOP IS AT ITS PLACE"
-         : kit_missed_limit(box, end)                  ? "A PAGE FAULT BEYOND A LIMIT"
-                                                       : kit_harm;
+    return end.how >= KIT_OTHERWISE            ? "ANOTHER END"
+         : stands && !may_end(box, marks, end) ? "NO INSTRUCTION IS AT ITS PLACE"
+         : is_no_stop                          ? "NO STOP IS AT ITS PLACE"
+         : kit_missed_limit(box, end)          ? "A PAGE FAULT BEYOND A LIMIT"
+                                               : kit_harm;
 }
 
 static const char *run_chunk(Draw *d, KitBox *box, const uint8_t *code, Counts *counts) {

@@ -8,7 +8,7 @@
 #include <string.h>
 #include <sys/syscall.h>
 
-/* ---- Order. What each change does stands in nc_host.h; docs/EMBEDDING.md says when the count of changes is odd. */
+/* ---- Order. What each change does stands in docs/THEOREM.md; docs/EMBEDDING.md says when the count of changes is odd. */
 
 static int is_step(unsigned k, int stamp, const uint8_t bytes[SEEN]) {
     const Step *step = &watching_steps[k];

@@ -1,4 +1,4 @@
-/* try-boxes links this with --wrap for each function whose name begins with __wrap_ here, so all calls of the library lead here. */
+/* tools/try/boxes links this with --wrap for each function whose name begins with __wrap_ here, so all calls of the library lead here. */
 #define _GNU_SOURCE
 #include "watching.h"
 

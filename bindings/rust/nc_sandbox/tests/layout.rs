@@ -1,7 +1,7 @@
 //! The declarations of `ffi` against what a program in C says that was compiled from the header, and against the header's text.
 
 #[macro_use]
-#[path = "../../../../packaging/rust/nc_host/tests/header/mod.rs"]
+#[path = "../../nc_host/tests/header/mod.rs"]
 mod header;
 
 use header::{declarations, printed_by_c, rust_call};

@@ -1,0 +1,124 @@
+"""What the scripts share that build the library of sandbox/ with programs over it, such as nc-run, and plant faults in them."""
+
+import os
+import re
+import subprocess
+import sys
+from typing import NamedTuple
+
+from examples import TOP
+from executing import missing
+from native import INCLUDE, archives, compiler
+
+SANDBOX = os.path.join(TOP, "sandbox")
+NC_CC = os.path.join(TOP, "compiler", "nc-cc")
+FLAGS = ["-std=gnu11", "-O2", "-Wall", "-Wextra", "-pthread", "-I" + INCLUDE, "-I" + SANDBOX]
+CHECKED = ["-g1", "-fsanitize=address,undefined", "-fno-sanitize-recover=all"]
+FAULT = re.compile(r"^([\w-]+) (\S+) (\S+) (.+)\n    (.*)\n", re.M)
+SYSTEM_LACKS = 123  # a status of nc-run
+# Calls without end fill a stack of 1 MiB long before their time is over.
+LIMITS = 'ulimit -c 0 && ulimit -s 1024 && ulimit -St "$0" && ulimit -Ht $(($0 + 1)) && exec "$@"'
+
+
+class Fault(NamedTuple):
+    name: str
+    source: str
+    test: str
+    edit: str
+    line: str
+
+
+def faults(path):
+    """Those of a faults.txt. One with several tests, and as many lines between bars, is found by each of them."""
+    with open(path, encoding="utf-8") as file:
+        text = file.read()
+    other = [line for line in FAULT.sub("", text).splitlines() if line and not line.startswith("#")]
+    if other:
+        sys.exit("%s: neither a fault nor its line: %s" % (path, other[0]))
+    return [Fault(name, source, test, edit, line) for name, source, tests, edit, lines in FAULT.findall(text)
+            for test, line in zip(tests.split(","), lines.split(" | "))]
+
+
+def sources(*folder):
+    """The paths of the sources in C and assembly of a folder, or of sandbox/."""
+    place = os.path.join(TOP, *(folder or ["sandbox"]))
+    return [os.path.join(place, name) for name in sorted(os.listdir(place)) if name.endswith((".c", ".S"))]
+
+
+def call(words):
+    subprocess.run(words, stdin=subprocess.DEVNULL, check=True)
+
+
+def compile_one(source, made, flags):
+    call([compiler()] + FLAGS + flags + ["-c", source, "-o", made])
+    return made
+
+
+def compile_all(pool, paths, folder, flags):
+    """The objects of sources, by their paths."""
+    made = {path: os.path.join(folder, os.path.relpath(path, TOP).replace(os.sep, "-") + ".o") for path in paths}
+    list(pool.map(lambda path: compile_one(path, made[path], ["-Werror"] + flags), made))
+    return made
+
+
+def link(objects, made, flags=(), over=None):
+    """A program, over the built library nc_host or over other archives."""
+    call([compiler(), "-pthread", *flags, *objects, *(archives() if over is None else over), "-o", made])
+    return made
+
+
+def run(line, folder, seconds):
+    """The status, the output and the errors of a program that may use so many seconds of a processor."""
+    words = ["sh", "-c", LIMITS, str(seconds)] + line
+    limit = 300 + 2 * seconds
+    done = subprocess.run(words, cwd=folder, stdin=subprocess.DEVNULL, capture_output=True, text=True, errors="replace", timeout=limit)
+    return done.returncode, done.stdout, done.stderr
+
+
+def has_sanitizers(folder, flags=()):
+    """Whether the compiler has them, with their libraries."""
+    made = os.path.join(folder, "nothing")
+    words = [compiler(), *(flags or CHECKED), "-x", "c", "-", "-o", made]
+    built = subprocess.run(words, input="int main(void) { return 0; }\n", capture_output=True, text=True)
+    return built.returncode == 0 and subprocess.run([made], capture_output=True).returncode == 0
+
+
+def plant(fault, folder, library, flags=()):
+    """The objects of the library with this fault."""
+    source = os.path.join(SANDBOX, fault.source)
+    planted = os.path.join(folder, "planted-%s%s" % (fault.name, os.path.splitext(source)[1]))
+    text = subprocess.run(["sed", "--", fault.edit, source], capture_output=True, text=True, check=True).stdout
+    with open(source, encoding="utf-8") as file:
+        if file.read() == text:
+            sys.exit("faults.txt: %s changes nothing in %s" % (fault.name, fault.source))
+    with open(planted, "w", encoding="utf-8") as file:
+        file.write(text)
+    return dict(library, **{source: compile_one(planted, planted + ".o", ["-w", *flags])})
+
+
+def try_fault(fault, wanted, ended):
+    """Whether the test doesn't find the fault where faults.txt says: the first of the lines it has to print that it doesn't print."""
+    status, output, _ = ended
+    found = output.splitlines()
+    first = next((line for k, line in enumerate(wanted) if k >= len(found) or found[k] != line), "")
+    right = first.split(":")[0] == fault.line
+    told = "found" if right else "DIFFERS, with status %d, at %r\n%s" % (status, first, output)
+    print("a library with the fault %s, by %s: %s" % (fault.name, fault.test, told), flush=True)
+    return not right
+
+
+def nc_run(folder):
+    """The path of the program, which is made in a folder."""
+    made = os.path.join(folder, "nc-run")
+    call([compiler(), *FLAGS, *sources(), *sources("sandbox", "run"), *archives(), "-o", made])
+    return made
+
+
+def no_boxes(program, folder):
+    """What isn't here without which nc-run runs nothing, or None."""
+    if missing():
+        return missing() + " isn't there"
+    made = os.path.join(folder, "hello.elf")
+    call([NC_CC, os.path.join(TOP, "examples", "run", "hello.c"), "-o", made])
+    done = subprocess.run([program, made], stdin=subprocess.DEVNULL, capture_output=True, text=True)
+    return done.stderr.strip() if done.returncode == SYSTEM_LACKS else None

@@ -1,0 +1,82 @@
+"""What several of the scripts in tools/ use: the built programs, and one script and its replies."""
+
+import os
+import shutil
+import subprocess
+import sys
+
+TOP = os.path.dirname(os.path.dirname(os.path.dirname(os.path.abspath(__file__))))
+
+NOPS = "90" * 32
+CHUNK = "eb1e" + "90" * 30
+
+# A script for 4 bundles and one seat, a line and its reply in turn. Its last line has no end.
+SCRIPT = [
+    ("create 00010000 " + CHUNK, "ok"),
+    ("create 00010000 " + CHUNK, "refused Occupied"),
+    ("walk 00010000 00000000 00000000", "walk 00010000 00010020 stop"),
+    ("dump", "dump 00010000 live " + CHUNK),
+    ("chunk 0001001f", "chunk 00010000 live " + CHUNK),
+    ("chunk 00010020", "none"),
+    ("delete 00010000", "stamp 1"),
+    ("walk 00010000 00000000", "walk 00010000 stop"),
+    ("dump", "dump 00010000 retired 32 1"),
+    ("reclaim", "freed 0"),
+    ("checkin 0", "ok"),
+    ("reclaim", "freed 1"),
+    ("dump", "dump"),
+    ("checkin 1", "refused NoSeat"),
+    ("create 00010000 -", "refused BadLength"),
+    ("create 00010000 9", "bad line"),
+    ("", "bad line"),
+    ("leave 0", "ok"),
+]
+SCRIPT_TEXT = "\n".join(line for line, _ in SCRIPT)
+SCRIPT_REPLIES = [reply + "\n" for _, reply in SCRIPT]
+SCRIPT_WORDS = ["replay", "--bundles", "4", "--seats", "1"]
+
+# Lines of chunks for 4 bundles, and their verdicts.
+LINES_TEXT = "00010000 %s\n00010001 %s\n" % (NOPS, NOPS)
+LINES_VERDICTS = "ok\nrefused BadBase\n"
+
+
+def lines_words(workers):
+    """The command line that vets lines by this many workers."""
+    return ["vet", "--bundles", "4", "--workers", str(workers)]
+
+
+def give_up(message):
+    """Ends the script with status 2."""
+    print(f"{os.path.basename(sys.argv[0])}: {message}", file=sys.stderr)
+    sys.exit(2)
+
+
+def require_rt():
+    """Without the toolchain the script ends."""
+    if shutil.which("rt") is None:
+        give_up("rt isn't here: what this needs is built by the Rattle toolchain")
+
+
+def rt(*words, **more):
+    """Runs a command of the toolchain. Without the toolchain, or if the command fails, the script ends."""
+    require_rt()
+    done = subprocess.run(["rt", *words], check=False, **more)
+    if done.returncode:
+        give_up(f"rt {' '.join(words)} ended with status {done.returncode}")
+    return done
+
+
+def built(name, words, given=subprocess.DEVNULL):
+    """A program's path. It is built if it isn't there, and run with these words and this standard input."""
+    crate = os.path.join(TOP, "crates", name)
+    program = os.path.join(crate, "out", name)
+    if not os.path.exists(program):
+        rt("run", *words, cwd=crate, stdin=given, stdout=subprocess.DEVNULL)
+    return program
+
+
+def library(folder, name):
+    """A shared library from a file of C in tools/sources, for LD_PRELOAD."""
+    path = os.path.join(folder, name + ".so")
+    subprocess.run(["cc", "-O1", "-Wall", "-Werror", "-shared", "-fPIC", "-o", path, os.path.join(TOP, "tools", "sources", name + ".c")], check=True)
+    return path

@@ -1,0 +1,220 @@
+"""What an installation consists of: each path below PREFIX, with its file or its link."""
+
+import os
+import re
+import stat
+import sys
+from string import Template
+
+from building import DEFAULT, FASTER, PROCESSORS, boxes, libraries, program
+from examples import TOP
+from explaining import all_definitions
+from manual import pages
+from placing import File, Link
+
+sys.path.append(os.path.join(TOP, "compiler", "runtime"))
+from making import Fault
+from runtime import runtime
+
+PROGRAMS = ["nc_check", "nc_replay"]
+REWRITER, DRIVER = "compiler/nc-bundle", "compiler/nc-cc"
+SHARE, DOC = "share/reedbodkin/", "share/doc/reedbodkin/"
+
+# Files of the repository, and where they go. A folder's files go below the second path.
+FILES = [
+    ("include/nc_host.h", "include/nc_host.h"),
+    ("bindings/cpp/nc_host.hpp", "include/nc_host.hpp"),
+    ("sandbox/nc_sandbox.h", "include/nc_sandbox.h"),
+    ("sandbox/guest/nc_run.h", SHARE + "guest/nc_run.h"),
+    ("bindings/cpp/nc_sandbox.hpp", "include/nc_sandbox.hpp"),
+    ("bindings/cpp/nc_sandbox_words.hpp", "include/nc_sandbox_words.hpp"),
+    ("bindings/rust/nc_sandbox", SHARE + "rust/nc_sandbox"),
+    ("bindings/rust/nc_sandbox/src", SHARE + "rust/nc_sandbox/src"),
+    ("bindings/rust/nc_sandbox/examples", SHARE + "rust/nc_sandbox/examples"),
+    ("bindings/rust/nc_host", SHARE + "rust/nc_host"),
+    ("bindings/rust/nc_host/src", SHARE + "rust/nc_host/src"),
+    ("bindings/rust/nc_host/examples", SHARE + "rust/nc_host/examples"),
+    ("compiler/runtime/chunk.ld", SHARE + "chunk.ld"),
+    ("compiler/bundling", SHARE + "bundling"),
+    ("compiler/driving", SHARE + "driving"),
+    ("packaging/nc_toolchain.cmake", "lib/cmake/nc_host/nc_toolchain.cmake"),
+    ("packaging/meson/nc-cc", "share/meson/cross/nc-cc"),
+    ("docs/man/nc-bundle.1", "share/man/man1/nc-bundle.1"),
+    ("docs/man/nc-cc.1", "share/man/man1/nc-cc.1"),
+    ("docs/man/nc_check.1", "share/man/man1/nc_check.1"),
+    ("docs/man/nc_replay.1", "share/man/man1/nc_replay.1"),
+    ("docs/man/nc-run.1", "share/man/man1/nc-run.1"),
+    ("packaging/completions/nc_check.bash", "share/bash-completion/completions/nc_check"),
+    ("packaging/completions/nc_replay.bash", "share/bash-completion/completions/nc_replay"),
+    ("packaging/completions/nc-run.bash", "share/bash-completion/completions/nc-run"),
+    ("packaging/completions/nc-bundle.bash", "share/bash-completion/completions/nc-bundle"),
+    ("packaging/completions/nc-cc.bash", "share/bash-completion/completions/nc-cc"),
+    ("packaging/completions/_nc-bundle", "share/zsh/site-functions/_nc-bundle"),
+    ("packaging/completions/_nc-cc", "share/zsh/site-functions/_nc-cc"),
+    ("packaging/completions/_nc_check", "share/zsh/site-functions/_nc_check"),
+    ("packaging/completions/_nc_replay", "share/zsh/site-functions/_nc_replay"),
+    ("packaging/completions/_nc-run", "share/zsh/site-functions/_nc-run"),
+    ("packaging/NOTICE", DOC + "NOTICE"),
+    ("README.md", DOC + "README.md"),
+    ("SECURITY.md", DOC + "SECURITY.md"),
+    ("CHANGELOG.md", DOC + "CHANGELOG.md"),
+    ("CONTRIBUTING.md", DOC + "CONTRIBUTING.md"),
+    ("VERSION", DOC + "VERSION"),
+    ("docs", DOC + "docs"),
+    ("docs/charts", DOC + "docs/charts"),
+    ("examples/check", DOC + "examples/check"),
+    ("examples/host", DOC + "examples/host"),
+    ("examples/sandbox", DOC + "examples/sandbox"),
+    ("examples/jit", DOC + "examples/jit"),
+    ("examples/boxes", DOC + "examples/boxes"),
+    ("examples/boxes/calculator", DOC + "examples/boxes/calculator"),
+    ("examples/boxes/costs", DOC + "examples/boxes/costs"),
+    ("examples/boxes/document", DOC + "examples/boxes/document"),
+    ("examples/boxes/picture", DOC + "examples/boxes/picture"),
+    ("examples/boxes/plugins", DOC + "examples/boxes/plugins"),
+    ("examples/run", DOC + "examples/run"),
+    ("compiler/runtime/division.c", DOC + "examples/library/division.c"),
+    ("compiler/runtime/floating.c", DOC + "examples/library/floating.c"),
+    ("compiler/runtime/heap.h", DOC + "examples/library/heap.h"),
+    ("compiler/runtime/making.py", DOC + "examples/library/making.py"),
+    ("compiler/runtime/runtime.py", DOC + "examples/library/runtime.py"),
+    ("compiler/runtime/setup.h", DOC + "examples/library/setup.h"),
+    ("compiler/runtime/start.c", DOC + "examples/library/start.c"),
+    ("examples/ports/build", DOC + "examples/library/build"),
+    ("examples/ports/host.s", DOC + "examples/library/host.s"),
+    ("examples/ports/load.c", DOC + "examples/library/load.c"),
+    ("examples/ports/trials", DOC + "examples/library/trials"),
+    ("compiler/runtime/musl", DOC + "examples/library/musl"),
+    ("compiler/runtime/run", DOC + "examples/library/run"),
+    ("compiler/runtime/templates/bits", DOC + "examples/library/templates/bits"),
+    ("compiler/runtime/musl/bits", DOC + "examples/library/musl/bits"),
+    ("examples/compile/sample.c", DOC + "examples/compile/sample.c"),
+    ("examples/first.script", DOC + "examples/first.script"),
+    ("examples/vet.lines", DOC + "examples/vet.lines"),
+]
+
+# Folders and files of the repository that pages name and that aren't installed, and what stands before their names on an installed page.
+ELSEWHERE = [".ci/", "bench/", "bindings/", "compiler/", "crates/", "examples/compile/build", "examples/compile/host.s", "examples/mapped/",
+             "examples/ports/", "packaging/", "sandbox/", "tests/", "tools/"]
+ONLY_THERE = "Named on this page, and only in the source repository: "
+
+# Templates of packaging/, and where they go.
+TEMPLATES = [
+    ("nc_host.pc.in", "lib/pkgconfig/nc_host.pc"),
+    ("nc_host-static.pc.in", "lib/pkgconfig/nc_host-static.pc"),
+    ("nc_hostConfig.cmake.in", "lib/cmake/nc_host/nc_hostConfig.cmake"),
+    ("ConfigVersion.cmake.in", "lib/cmake/nc_host/nc_hostConfigVersion.cmake"),
+    ("nc_sandbox.pc.in", "lib/pkgconfig/nc_sandbox.pc"),
+    ("nc_sandboxConfig.cmake.in", "lib/cmake/nc_sandbox/nc_sandboxConfig.cmake"),
+    ("ConfigVersion.cmake.in", "lib/cmake/nc_sandbox/nc_sandboxConfigVersion.cmake"),
+]
+
+
+class Words(Template):
+    """Words such as @VERSION@ in a text."""
+
+    pattern = r"@(?:(?P<escaped>@)|(?P<named>[A-Z]+)@|(?P<braced>(?!))|(?P<invalid>(?!)))"
+
+
+def read(path):
+    with open(os.path.join(TOP, path), "rb") as file:
+        return file.read()
+
+
+def version():
+    """The version, as it stands in the file VERSION."""
+    text = read("VERSION").decode()
+    if not re.fullmatch(r"\d+\.\d+\.\d+\n", text):
+        raise ValueError("VERSION isn't a line such as 1.2.3")
+    return text.strip()
+
+
+def filled(template, **more):
+    """A template of packaging/, with the version and other words put in."""
+    number = version()
+    major, minor, _ = number.split(".")
+    return Words(read("packaging/" + template).decode()).substitute(VERSION=number, MAJOR=major, MINOR=minor, **more)
+
+
+def copied(path, to):
+    """A file of the repository, or each file of a folder."""
+    place = os.path.join(TOP, path)
+    if os.path.isdir(place):
+        names = [name for name in sorted(os.listdir(place)) if os.path.isfile(os.path.join(place, name))]
+        return {key: file for name in names for key, file in copied(path + "/" + name, to + "/" + name).items()}
+    return {to: File(read(path), 0o755 if os.stat(place).st_mode & stat.S_IXUSR else 0o644)}
+
+
+def without_links(text, place, made):
+    """A page without its links to files that aren't installed: their words stay."""
+    def kept(link):
+        to = os.path.normpath(os.path.join(os.path.dirname(place), link[2]))
+        return link[0] if "://" in link[2] or any(path == to or path.startswith(to + "/") for path in made) else link[1]
+    return re.sub(r"\[([^\]\n]+)\]\(([^)#\s]+)(?:#[^)\s]*)?\)", kept, text)
+
+
+def names(text, path):
+    """Whether a page names this file, or this folder (whose path ends with a slash) or something below it."""
+    end = "[/`]" if path.endswith("/") else r"(?![\w.-])"
+    return re.search(r"(?<![\w/.-])" + re.escape(path.rstrip("/")) + end, text) is not None
+
+
+def with_note(text):
+    """A page with a line below its title about what it names and isn't installed."""
+    named = ", ".join("`%s`" % path for path in ELSEWHERE if names(text, path))
+    title, rest = text.split("\n", 1)
+    return "%s\n\n%s%s.\n%s" % (title, ONLY_THERE, named, rest) if named else text
+
+
+def as_installed(text, place, made):
+    """A page as it is installed: without links to what isn't, and with the names that files have where they are installed."""
+    text = without_links(text, place, made)
+    for path, to in FILES:
+        there = to[len(DOC):] if to.startswith(DOC) else to
+        if there != path:
+            text = re.sub(re.escape(path) + r"(?![\w-])", there, text)
+    return with_note(text)
+
+
+def c_library(sources):
+    """The C library that nc-cc takes, made of musl's sources."""
+    return {SHARE + "libc/" + name: File(content, 0o644) for name, content in runtime(sources).items()}
+
+
+def manual_pages():
+    """The manual page of the library for C, which has the date of that of nc_check."""
+    date = re.search(r"^\.Dd (.*)$", read("docs/man/nc_check.1").decode(), re.M)[1]
+    return {place: File(text.encode(), 0o644) for place, text in pages(read("include/nc_host.h").decode(), version(), date).items()}
+
+
+def tree(cpu=DEFAULT, anew=False):
+    """All of it, for a processor; what is built already isn't built again, if it isn't to be made anew."""
+    number = version()
+    soname = "libnc_host.so." + number.split(".")[0]
+    made = {}
+    for path, to in FILES:
+        made.update(copied(path, to))
+    made[DOC + "docs/DEFINITIONS-ALL.md"] = File(all_definitions().encode(), 0o644)
+    for path in [path for path in made if path.endswith(".md")]:
+        made[path] = File(as_installed(made[path].content.decode(), path, made).encode(), made[path].mode)
+    for template, to in TEMPLATES:
+        made[to] = File(filled(template).encode(), 0o644)
+    made.update(manual_pages())
+    made["bin/nc-bundle"] = File(read(REWRITER), 0o755)
+    made["bin/nc-cc"] = File(read(DRIVER), 0o755)
+    made["bin/nc-c++"] = Link("nc-cc")
+    made[SHARE + "VERSION"] = File(read("VERSION"), 0o644)
+    for name in PROGRAMS:
+        made["bin/" + name] = File(program(name, cpu, anew), 0o755)
+    static, shared = libraries(cpu, soname, anew)
+    made["lib/libnc_host.a"] = File(static, 0o644)
+    made["lib/libnc_host.so." + number] = File(shared, 0o755)
+    made["lib/" + soname] = Link("libnc_host.so." + number)
+    made["lib/libnc_host.so"] = Link(soname)
+    if PROCESSORS.index(cpu) < PROCESSORS.index(FASTER):
+        made["lib/glibc-hwcaps/%s/%s" % (FASTER, soname)] = File(libraries(FASTER, soname, anew)[1], 0o755)
+    sandbox, runner = boxes(cpu, static)
+    made["lib/libnc_sandbox.a"] = File(sandbox, 0o644)
+    made["bin/nc-run"] = File(runner, 0o755)
+    made[SHARE + "processor"] = File((cpu + "\n").encode(), 0o644)
+    return made
