@@ -8,14 +8,14 @@
 
 mod asked;
 mod building;
-mod checking;
-mod command_line;
+mod check;
+mod replay;
 mod table;
 mod words;
 
 pub use asked::{Ask, CheckAsk, Task};
 pub use building::matches;
-pub use checking::{ask_check, check_words};
-pub use command_line::{ask, replay_words};
+pub use check::{ask_check, check_words};
+pub use replay::{ask, replay_words};
 pub use table::{Program, Usage, Word};
 pub use words::arguments;

@@ -11,7 +11,7 @@ use Rattle.nc_region.specs.Region.{Region, IsCreated}
 use Rattle.nc_region.specs.Log.{log_of_create}
 use Rattle.nc_handle.specs.declared.acts.act.NcAct.{NcAct}
 use Rattle.nc_handle.specs.Held.{IsShort}
-use Rattle.nc_handle.specs.Shown.{IsTold, bytes_of_span}
+use Rattle.nc_handle.specs.Lent.{IsTold, bytes_of_span}
 
 -- a span of the text has as many bytes as it has places
 pub span_long : (text : List ℕ) (base len : ℕ) → HasGoodSpan base (limit_of text) len → length (bytes_of_span text base len) ≡ len

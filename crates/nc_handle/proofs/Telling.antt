@@ -23,7 +23,7 @@ use Rattle.nc_calls.specs.Calls.{Details, no_details, span_from, reclaim_events,
 use Rattle.nc_calls.specs.Histories.{Creates, Patches, Reclaims}
 use Rattle.nc_handle.specs.declared.acts.act.NcAct.{NcAct}
 use Rattle.nc_handle.specs.acts.Shown.{entry_of}
-use Rattle.nc_handle.specs.Shown.{IsTold}
+use Rattle.nc_handle.specs.Lent.{IsTold}
 use Rattle.nc_handle.specs.Held.{HeldState, HasBegun, HasEnded, HasReclaimed, meetings}
 use Rattle.nc_handle.specs.Pending.{events_pending_by, events_pending, IsHeldCall, Changes, Begins, Ends, TellsPending, IsLibrarys, DoesItself}
 

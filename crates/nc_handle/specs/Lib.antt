@@ -1,6 +1,6 @@
 pub mod machinery
 pub mod acts
-pub mod Shown
-pub mod Runs
+pub mod Lent
+pub mod RunCalls
 pub mod Held
 pub mod Pending

@@ -12,7 +12,7 @@ ghost use Rattle.nc_calls.specs.Histories.{LogsCall};
 ghost use Rattle.nc_handle.specs.machinery.Standing.{AreBytesAt};
 ghost use Rattle.nc_handle.specs.Held.{IsLiveAt, IsShort, IsShortForPatch, HasBegun, HasEnded, IsNotLoaded, MayRefuseBegin, MayRefuseLoad, MayRefuseModify};
 ghost use Rattle.nc_handle.specs.Pending.{TellsPending, DoesItself};
-ghost use Rattle.nc_handle.specs.Shown.{IsTold, bytes_of_span};
+ghost use Rattle.nc_handle.specs.Lent.{IsTold, bytes_of_span};
 
 use crate::acts::{NcAct, write_creation, write_deletion, write_patch};
 use crate::fault::{LoadFault, PatchFault, RetireFault};

@@ -19,7 +19,7 @@ pub(crate) struct Span<'a> {
 impl<'a> ReadChunk for Span<'a> {
     ghost use Rattle.std.specs.Prelude.{◌+◌};
     ghost use Rattle.nc_text.specs.Marks.{mark_at};
-    ghost use Rattle.nc_handle.specs.Shown.{bytes_of_span};
+    ghost use Rattle.nc_handle.specs.Lent.{bytes_of_span};
 
     ghost code = { λ s. bytes_of_span s.region.now.marked.bytes s.base s.length };
 

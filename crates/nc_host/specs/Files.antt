@@ -8,7 +8,7 @@ use Rattle.nc_elf.specs.declared.fault.LoadedFault.TheVariants.{NoRoom, Refused}
 use Rattle.nc_elf.specs.declared.fault.SegmentFault.{SegmentFault}
 use Rattle.nc_elf.specs.declared.fault.SegmentFault.TheVariants.{BeyondFile, BeyondMemory, Wraps, OutOfOrder, WritableCode, UnfilledCode}
 use Rattle.nc_vet.specs.declared.fault.VetFault.TheVariants as vet
-use Rattle.nc_host.specs.declared.answers.NcSegments.{NcSegments}
+use Rattle.nc_host.specs.declared.lent_answers.NcSegments.{NcSegments}
 use Rattle.nc_host.specs.Shown.{fault_number}
 
 -- the number of the fault of a loaded segment

@@ -10,7 +10,7 @@ use Rattle.nc_vet.specs.declared.fault.VetFault.TheVariants.{BadBase, BadLength,
 use Rattle.nc_vet.specs.declared.fault.VetFault.TheVariants.{OutOfMemory}
 use Rattle.nc_region.specs.declared.fault.ModifyFault.{ModifyFault}
 use Rattle.nc_region.specs.declared.fault.ModifyFault.TheVariants as patch
-use Rattle.nc_host.specs.declared.answers.NcInstruction.{NcInstruction}
+use Rattle.nc_host.specs.declared.lent_answers.NcInstruction.{NcInstruction}
 
 -- the number of a flow
 abbrev pub flow_number : Flow → ℕ

@@ -4,8 +4,8 @@ ghost use Rattle.std.specs.Prelude.{◌≡◌, ◌<◌, IfOk, IfErr};
 ghost use Rattle.nc_host.specs.Handles.{IsVetted};
 ghost use Rattle.nc_host.specs.Outcomes.{IsChunkFault};
 
-use crate::answers::NcVerdict;
-use crate::vetting::told;
+use crate::lent_answers::NcVerdict;
+use crate::lent_vet::told;
 use nc_vet::{VetFault, Vetted, judge};
 use std::alloc::Global;
 

@@ -13,8 +13,8 @@ use Rattle.nc_calls.proofs.Offered.{still_created}
 use Rattle.nc_handle.specs.declared.acts.act.NcAct.{NcAct}
 use Rattle.nc_handle.specs.acts.Runs.{runs_of_create, HasRuns}
 use Rattle.nc_handle.specs.Held.{HeldState, IsLiveAt, HasBegun, HasLoaded}
-use Rattle.nc_handle.specs.Runs.{AreCreationRuns, AreDeletionRuns}
-use Rattle.nc_handle.specs.Shown.{bytes_of_span}
+use Rattle.nc_handle.specs.RunCalls.{AreCreationRuns, AreDeletionRuns}
+use Rattle.nc_handle.specs.Lent.{bytes_of_span}
 use Rattle.nc_handle.specs.Pending.{IsHeldCall, Changes, Begins, events_pending}
 use Rattle.nc_handle.proofs.Offered.{create_runs_due, delete_runs_due, still_none, one_of_base, span_put, chunk_span}
 use Rattle.nc_hosts.specs.Hosts.{Host, IsReached}

@@ -5,7 +5,7 @@ ghost use Rattle.nc_vet.specs.Chunk.{MarkedChunk, IsValid};
 ghost use Rattle.nc_list.specs.declared.chunk.Chunk.{Chunk};
 ghost use Rattle.nc_handle.specs.declared.acts.act.NcAct.{NcAct};
 ghost use Rattle.nc_handle.specs.Held.{HeldState, IsLiveAt, HasBegun, HasLoaded};
-ghost use Rattle.nc_handle.specs.Runs.{AreCreationRuns, AreDeletionRuns};
+ghost use Rattle.nc_handle.specs.RunCalls.{AreCreationRuns, AreDeletionRuns};
 ghost use Rattle.nc_handle.specs.Pending.{IsHeldCall, events_pending};
 ghost use Rattle.nc_hosts.specs.Hosts.{Host, IsReached};
 

@@ -50,7 +50,6 @@ mod fault;
 mod history;
 mod law;
 mod listing;
-mod modify;
 mod patch;
 mod plain;
 mod reclaim;

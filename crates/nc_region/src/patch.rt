@@ -14,13 +14,16 @@ ghost use Rattle.nc_region.specs.Region.{HoldsValid, IsInChunk};
 ghost use Rattle.nc_region.specs.Patch.{AreBytesOf, IsRun, log_of_modify};
 ghost use Rattle.nc_region.specs.machinery.PatchSteps.{CanPatch, MayRefuseIn};
 
+mod judge;
+mod put;
+
 use crate::acts::Acts;
 use crate::fault::ModifyFault;
-use crate::modify::{
-    goes_well, is_marked, judge, length_at, put_patch, put_where_new, spares_pair,
-};
+pub(crate) use judge::is_patch_span;
+use judge::{goes_well, is_marked, judge_each, length_at, spares_pair};
 use nc_decode::{Instr, Mark, START, decode};
 use nc_list::Chunk;
+use put::{put_patch, put_single};
 
 /// The mark at an address of the text, or `Unmarked` outside.
 pub(crate) fn mark_within<A: Acts>(acts: &A, at: u32) -> Mark
@@ -66,7 +69,7 @@ pub(crate) fn patch<A: Acts>(
         put_single(acts, chunk, at, new);
         return Ok(());
     }
-    judge(acts, chunk, at, new)?;
+    judge_each(acts, chunk, at, new)?;
     put_patch(acts, chunk, at, new);
     Ok(())
 }
@@ -132,22 +135,4 @@ fn fits_single<A: Acts>(
     ensures none { IsFalse result → ¬ IsRun (A.marked acts.now) chunk at new.now }
 {
     is_marked(mark) && length_at(acts, chunk, at) == u32::from(instr.len)
-}
-
-/// Replaces a single instruction, unless its bytes are there already.
-fn put_single<A: Acts>(acts: &mut A, chunk: Chunk, at: u32, new: &[u8])
-    requires whole { IsText (A.marked acts.old) }
-    requires patch { CanPatch (A.marked acts.old) chunk at new.now }
-    requires ready { AreReady (A.made acts.old) at (length new.now) }
-    requires only { (i : Instr) × (first_instruction new.now ≡ Some i) × (i.len ≡ length new.now) }
-    ensures bytes { (A.marked acts.new).bytes ≡ with_span (A.marked acts.old).bytes (at - 0x10000) new.now }
-    ensures marks { (A.marked acts.new).marks ≡ (A.marked acts.old).marks }
-    ensures whole { IsText (A.marked acts.new) }
-    ensures made { A.made acts.new ≡ A.made acts.old }
-    ensures keeper { A.keeper acts.new ≡ A.keeper acts.old }
-    ensures holds { HoldsValid (A.marked acts.new) chunk }
-    ensures log { (news : List Piece) → AreBytesOf new.now news
-        → Logs (A.logged acts.old) (A.logged acts.new) (log_of_modify (A.marked acts.old).bytes at news) }
-{
-    put_where_new(acts, at, new);
 }

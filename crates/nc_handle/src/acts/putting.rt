@@ -10,8 +10,8 @@ ghost use Rattle.nc_handle.specs.machinery.Written.{HasWritten};
 ghost use Rattle.nc_handle.specs.machinery.Writing.{HasPutUpTo, starts_if, mark_if, marks_if, is_among};
 
 use crate::acts::act::NcAct;
+use crate::acts::chunk::ReadChunk;
 use crate::acts::entries::{STOP, bump, mark_span, put, settle, write};
-use crate::acts::reading::ReadChunk;
 use nc_text::lowest_place;
 
 /// Writes the puts of a bundle's bytes but for the first, in ascending order. Returns the new number of acts.

@@ -9,8 +9,8 @@ ghost use Rattle.nc_handle.specs.machinery.Standing.{AreMarksAt};
 ghost use Rattle.nc_handle.specs.machinery.Running.{AddsRuns, HasBits, bytes_for, picks, run_at};
 
 use crate::acts::act::NcAct;
+use crate::acts::chunk::ReadChunk;
 use crate::acts::entries::{bump, mark_span, settle, write};
-use crate::acts::reading::ReadChunk;
 
 /// The places of a bundle that a run may include.
 #[derive(Clone, Copy, Drop)]

@@ -1,6 +1,6 @@
 use Rattle.std.proofs.Common.{◌<◌, ap, sym, subst}
 use Rattle.nc_vet.specs.declared.fault.VetFault.TheVariants.{OutOfMemory}
-use Rattle.nc_host.specs.declared.answers.NcVerdict.{NcVerdict}
+use Rattle.nc_host.specs.declared.lent_answers.NcVerdict.{NcVerdict}
 use Rattle.nc_host.proofs.Accepted.{good_span, some_fault}
 use Rattle.nc_host.proofs.chunks.vet_copy.Goals as goal
 

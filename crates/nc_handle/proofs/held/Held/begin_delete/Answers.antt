@@ -1,7 +1,7 @@
 use Rattle.std.proofs.Common.{Some, ap, subst}
 use Rattle.nc_region.specs.Log.{log_of_delete}
 use Rattle.nc_handle.specs.Held.{HeldState}
-use Rattle.nc_handle.specs.Shown.{IsTold}
+use Rattle.nc_handle.specs.Lent.{IsTold}
 use Rattle.nc_handle.proofs.Telling.{begins}
 use Rattle.nc_handle.proofs.held.Held.begin_delete.Goals as goal
 

@@ -1,0 +1,5 @@
+use Rattle.nc_command.proofs.check.asked.Goals as goal
+use Rattle.std.proofs.Common.{rules}
+
+pub returns : goal.returns
+returns c = search rules

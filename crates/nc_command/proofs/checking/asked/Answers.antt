@@ -1,5 +1,0 @@
-use Rattle.nc_command.proofs.checking.asked.Goals as goal
-use Rattle.std.proofs.Common.{rules}
-
-pub returns : goal.returns
-returns c = search rules

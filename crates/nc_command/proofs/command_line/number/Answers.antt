@@ -1,5 +1,0 @@
-use Rattle.nc_command.proofs.command_line.number.Goals as goal
-use Rattle.std.proofs.Common.{rules}
-
-pub returns-clause-most : goal.returns-clause-most
-returns-clause-most c = search rules

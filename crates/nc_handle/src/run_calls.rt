@@ -1,0 +1,99 @@
+//! The acts of a creation and of a deletion as runs, computed from the region's present bytes and marks.
+
+ghost use Rattle.std.specs.Prelude.{◌≡◌, ◌≤◌, Some, IfOk, IfErr, OnErr, length};
+ghost use Rattle.nc_list.specs.declared.chunk.Chunk.{Chunk};
+ghost use Rattle.nc_region.specs.Log.{log_of_create, log_of_delete};
+ghost use Rattle.nc_handle.specs.acts.Runs.{runs_of_create, runs_of_delete, HasRuns};
+ghost use Rattle.nc_handle.specs.Held.{IsLiveAt};
+ghost use Rattle.nc_handle.specs.RunCalls.{runs_of, AreCreationRuns, AreDeletionRuns, MayRefuseCreationRuns, MayRefuseDeletionRuns};
+ghost use Rattle.nc_handle.specs.Lent.{bytes_of_span};
+
+use crate::acts::{NcAct, write_creation_runs, write_deletion_runs};
+use crate::fault::RunsFault;
+use crate::held::Held;
+use crate::span::Span;
+
+/// The number of runs for a chunk of this many bytes.
+fn runs_of(length: u32) -> usize
+    ensures { result ≡ runs_of length }
+{
+    2 * (length as usize / 32) + 2
+}
+
+/// Writes the runs of the creation of the chunk in a span.
+fn tell_creation_runs(acts: &mut [NcAct], span: &Span)
+    requires { runs_of span.now.length ≤ length acts.old }
+    ensures { HasRuns acts.old acts.new (runs_of span.now.length) span.now.base
+        (bytes_of_span span.now.region.now.marked.bytes span.now.base span.now.length)
+        (runs_of_create span.now.base (bytes_of_span span.now.region.now.marked.bytes span.now.base span.now.length))
+        (log_of_create span.now.base (bytes_of_span span.now.region.now.marked.bytes span.now.base span.now.length)) }
+{
+    write_creation_runs(acts, span.base, span);
+}
+
+/// Writes the runs of the deletion of the chunk in a span.
+fn tell_deletion_runs(acts: &mut [NcAct], span: &Span)
+    requires { runs_of span.now.length ≤ length acts.old }
+    ensures { HasRuns acts.old acts.new (runs_of span.now.length) span.now.base
+        (bytes_of_span span.now.region.now.marked.bytes span.now.base span.now.length)
+        (runs_of_delete span.now.region.now.marked.marks span.now.base span.now.length)
+        (log_of_delete span.now.region.now.marked.marks span.now.base span.now.length) }
+{
+    write_deletion_runs(acts, span.base, span);
+}
+
+impl Held {
+    /// The acts that would create a live chunk with its present bytes, as runs: two for each of its bundles, and two more.
+    /// Directly after `create` these are the acts of that call. Returns their number.
+    pub fn creation_runs(&self, base: u32, acts: &mut [NcAct]) -> Result<usize, RunsFault>
+        // The runs of a creation of the chunk's bytes, which stand for its acts, with the settling.
+        ensures told { IfOk result (λ count. (c : Chunk) × IsLiveAt self.now.region.chunks base c
+            × AreCreationRuns self.now c acts.old acts.new count) }
+        ensures untouched { OnErr result (acts.new ≡ acts.old) }
+        // Each refusal is returned exactly when it is due.
+        ensures refused { IfErr result (MayRefuseCreationRuns self.now base (length acts.old)) }
+    {
+        let Some(chunk) = self.region.live_at(base) else {
+            return Err(RunsFault::NoChunk);
+        };
+        let wanted = runs_of(chunk.length);
+        if acts.len() < wanted {
+            return Err(RunsFault::NoRoom(wanted));
+        }
+        let span = Span {
+            region: &self.region,
+            base,
+            length: chunk.length,
+        };
+        tell_creation_runs(acts, &span);
+        Ok(wanted)
+    }
+
+    /// The acts of the deletion that is under way, as runs: two for each bundle of its chunk, and two more. Returns their
+    /// number.
+    pub fn deletion_runs(&self, acts: &mut [NcAct]) -> Result<usize, RunsFault>
+        // The runs of a deletion by the region's own marks, which stand for its acts, with the settling.
+        ensures told { IfOk result (λ count. (c : Chunk) × (self.now.begun ≡ Some c)
+            × AreDeletionRuns self.now c acts.old acts.new count) }
+        ensures untouched { OnErr result (acts.new ≡ acts.old) }
+        // Each refusal is returned exactly when it is due.
+        ensures refused { IfErr result (MayRefuseDeletionRuns self.now (length acts.old)) }
+    {
+        let Some(chunk) = self.begun else {
+            return Err(RunsFault::NoChunk);
+        };
+        let wanted = runs_of(chunk.length);
+        if acts.len() < wanted {
+            return Err(RunsFault::NoRoom(wanted));
+        }
+        // Called for its postconditions.
+        let _facts = self.region.chunk_count();
+        let span = Span {
+            region: &self.region,
+            base: chunk.base,
+            length: chunk.length,
+        };
+        tell_deletion_runs(acts, &span);
+        Ok(wanted)
+    }
+}

@@ -1,6 +1,0 @@
-use Rattle.std.proofs.Common.{ap, sym}
-use Rattle.nc_host.specs.Shown.{flow_number}
-use Rattle.nc_host.proofs.decoding.flow_number.Goals as goal
-
-pub returns-in-Call : goal.returns-in-Call
-returns-in-Call c = ap flow_number (sym c.in-Call.is)

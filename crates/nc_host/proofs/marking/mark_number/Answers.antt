@@ -1,6 +1,0 @@
-use Rattle.std.proofs.Common.{ap, sym}
-use Rattle.nc_host.specs.Shown.{mark_number}
-use Rattle.nc_host.proofs.marking.mark_number.Goals as goal
-
-pub returns-in-Plain : goal.returns-in-Plain
-returns-in-Plain c = ap mark_number (sym c.in-Plain.is)

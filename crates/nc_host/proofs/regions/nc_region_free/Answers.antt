@@ -1,5 +1,0 @@
-use Rattle.std.proofs.Common.{rules}
-use Rattle.nc_host.proofs.regions.nc_region_free.Goals as goal
-
-pub returns : goal.returns
-returns c = search rules

@@ -1,5 +1,0 @@
-use Rattle.std.proofs.Common.{sym, ◌∙◌, rules}
-use Rattle.nc_host.proofs.regions.nc_region_seat.Goals as goal
-
-pub returns-in-Some-clause-unchanged : goal.returns-in-Some-clause-unchanged
-returns-in-Some-clause-unchanged c = λ lt. (search rules, c.of.ensures ∙ sym c.in-Some.ensures.some)

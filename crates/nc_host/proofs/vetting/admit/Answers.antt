@@ -1,9 +1,0 @@
-use Rattle.std.proofs.Common.{◌∙◌, ap, inl}
-use Rattle.nc_host.specs.declared.answers.NcVerdict.{NcVerdict}
-use Rattle.nc_host.proofs.Accepted.{only_memory}
-use Rattle.nc_host.proofs.vetting.admit.Goals as goal
-
-pub returns-in-Err-clause-exact : goal.returns-in-Err-clause-exact
-returns-in-Err-clause-exact c = λ marks valid.
-    inl (ap (λ (v : NcVerdict). v.fault) c.told.ensures
-    ∙ only_memory c.args.base c.args.limit c.args.code.now marks c.in-Err.fault valid c.in-Err.ensures.fault)

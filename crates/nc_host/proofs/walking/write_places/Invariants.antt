@@ -1,9 +1,0 @@
-use Rattle.std.specs.Prelude.{◌≡◌, length, take}
-use Rattle.nc_handle.specs.acts.Shown.{over}
-use Rattle.nc_host.proofs.walking.write_places.Given as goal
-
-abbrev pub invariant-loop-i : goal.invariant-loop-i
-invariant-loop-i l = record {
-  len : length l.buffer ≡ length l.initial.buffer;
-  written : l.buffer ≡ over (take l.i l.places) l.initial.buffer;
-}

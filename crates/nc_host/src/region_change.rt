@@ -1,0 +1,173 @@
+//! Creating and patching chunks of a region by its handle, with the acts of each change.
+
+ghost use Rattle.std.specs.Prelude.{◌≡◌, ◌<◌, ◌⊎◌, List, None, Some, length};
+ghost use Rattle.nc_text.specs.Places.{limit_of};
+ghost use Rattle.nc_vet.specs.Chunk.{MarkedChunk, Piece};
+ghost use Rattle.nc_region.specs.Log.{log_of_create};
+ghost use Rattle.nc_region.specs.Patch.{AreBytesOf, IsModified, IsPatch, log_of_modify};
+ghost use Rattle.nc_region.specs.Region.{IsCreated};
+ghost use Rattle.nc_handle.specs.Held.{HasLoaded, HasPatched, HeldState, IsShortForPatch, MayRefuseLoad, MayRefuseModify};
+ghost use Rattle.nc_handle.specs.Pending.{TellsPending};
+ghost use Rattle.nc_handle.specs.Lent.{IsTold};
+ghost use Rattle.nc_handle.specs.declared.fault.LoadFault.{LoadFault};
+ghost use Rattle.nc_handle.specs.declared.fault.PatchFault.{PatchFault};
+ghost use Rattle.nc_host.specs.Handles.{IsChunkFor, IsDone, IsRefusal, IsSameButPages, load_number, load_wanted, modify_number, modify_wanted};
+ghost use Rattle.nc_host.specs.Outcomes.{IsChunkFault};
+
+use crate::chunks::vet_copy;
+use crate::numbers::{NOTHING, load_numbers, modify_numbers};
+use crate::region_answers::{NcChange, no_change};
+use nc_handle::{Held, NcAct, NcRegion};
+use nc_vet::Vetted;
+use std::alloc::Global;
+
+/// Creates a vetted chunk, and returns the result as numbers.
+pub(crate) fn load(held: &mut Held, vetted: Vetted, acts: &mut [NcAct]) -> NcChange
+    ensures created { result.fault ≡ 0 → HasLoaded vetted held.old held.new }
+    ensures told { result.fault ≡ 0 → IsTold acts.old acts.new result.count (log_of_create vetted.base vetted.code) }
+    ensures pending { result.fault ≡ 0 → TellsPending held.old held.new vetted acts.old acts.new result.count }
+    ensures untouched { 0 < result.fault → acts.new ≡ acts.old }
+    ensures unchanged { 0 < result.fault → (held.new ≡ held.old)
+        ⊎ ((result.fault ≡ 8) × IsSameButPages vetted.base (length vetted.code) held.old held.new) }
+    ensures at { result.at ≡ 0 }
+    ensures refused { 0 < result.fault → (f : LoadFault) × MayRefuseLoad held.old vetted (length acts.old) f
+        × (result.fault ≡ load_number f) × (result.count ≡ load_wanted f) }
+{
+    match held.create(vetted, acts) {
+        Ok(count) => no_change(0, count),
+        Err((_vetted, fault)) => {
+            let (number, wanted) = load_numbers(fault);
+            no_change(number, wanted)
+        }
+    }
+}
+
+/// Vets a chunk and creates it, and returns the result as numbers.
+fn vet_and_load(
+    alloc: Global,
+    held: &mut Held,
+    base: u32,
+    code: &[u8],
+    acts: &mut [NcAct],
+) -> NcChange
+    ensures created { result.fault ≡ 0 → (v : MarkedChunk) × IsChunkFor held.old base code.now v × HasLoaded v held.old held.new }
+    ensures told { result.fault ≡ 0 → IsTold acts.old acts.new result.count (log_of_create base code.now) }
+    ensures pending { result.fault ≡ 0 → (v : MarkedChunk) × (v.base ≡ base) × (v.code ≡ code.now)
+        × TellsPending held.old held.new v acts.old acts.new result.count }
+    ensures untouched { 0 < result.fault → acts.new ≡ acts.old }
+    ensures unchanged { 0 < result.fault → (held.new ≡ held.old)
+        ⊎ ((result.fault ≡ 8) × IsSameButPages base (length code.now) held.old held.new) }
+    ensures at { result.fault ≡ 0 → result.at ≡ 0 }
+    ensures refused { 0 < result.fault → ((result.count ≡ 0)
+        × IsChunkFault base (limit_of held.old.region.marked.bytes) code.now result.fault result.at)
+        ⊎ ((result.at ≡ 0) × ((v : MarkedChunk) × IsChunkFor held.old base code.now v
+        × ((f : LoadFault) × MayRefuseLoad held.old v (length acts.old) f × (result.fault ≡ load_number f) × (result.count ≡ load_wanted f)))) }
+{
+    match vet_copy(alloc, base, held.limit(), code) {
+        Ok(vetted) => load(held, vetted, acts),
+        Err(verdict) => NcChange {
+            fault: verdict.fault,
+            at: verdict.at,
+            count: 0,
+        },
+    }
+}
+
+/// Vets a chunk and creates it in a region, with its acts.
+///
+/// The acts are written into the buffer, with the settling among them: two more than the chunk has bytes. An empty buffer
+/// counts as none, and then the count is 0. A refusal changes nothing, except that a lack of memory may leave pages of the
+/// chunk's span allocated.
+#[unsafe(no_mangle)]
+pub extern "C" fn nc_region_create(
+    alloc: Global,
+    region: &mut NcRegion,
+    base: u32,
+    code: &[u8],
+    acts: &mut [NcAct],
+) -> NcChange
+    ensures created { result.fault ≡ 0 → IsDone region.old.value region.new.value
+        (λ old new. (v : MarkedChunk) × IsChunkFor old base code.now v × HasLoaded v old new) }
+    // The acts written are those of a creation, with the settling.
+    ensures told { result.fault ≡ 0 → IsTold acts.old acts.new result.count (log_of_create base code.now) }
+    // What the buffer then has is pending, for a chunk of this code.
+    ensures pending { result.fault ≡ 0 → IsDone region.old.value region.new.value (λ old new. (v : MarkedChunk) × (v.base ≡ base)
+        × (v.code ≡ code.now) × TellsPending old new v acts.old acts.new result.count) }
+    ensures untouched { 0 < result.fault → acts.new ≡ acts.old }
+    ensures unchanged { 0 < result.fault → (region.new.value ≡ region.old.value)
+        ⊎ ((result.fault ≡ 8) × IsDone region.old.value region.new.value (IsSameButPages base (length code.now))) }
+    ensures at { result.fault ≡ 0 → result.at ≡ 0 }
+    // Each refusal is returned when it is due: there is no region, the chunk has a fault, or the region refuses it.
+    ensures refused { 0 < result.fault → ((region.old.value ≡ None) × (result ≡ record { fault = 32; at = 0; count = 0 }))
+        ⊎ ((h : HeldState) × (region.old.value ≡ Some h) × (
+        ((result.count ≡ 0) × IsChunkFault base (limit_of h.region.marked.bytes) code.now result.fault result.at)
+        ⊎ ((result.at ≡ 0) × ((v : MarkedChunk) × IsChunkFor h base code.now v
+        × ((f : LoadFault) × MayRefuseLoad h v (length acts.old) f × (result.fault ≡ load_number f) × (result.count ≡ load_wanted f)))))) }
+{
+    let Some(mut held) = region.take(alloc) else {
+        return no_change(NOTHING, 0);
+    };
+    let change = vet_and_load(alloc, &mut held, base, code, acts);
+    *region = NcRegion::of(held);
+    change
+}
+
+/// Patches a chunk, and returns the result as numbers.
+fn patch(held: &mut Held, at: u32, new: &[u8], acts: &mut [NcAct]) -> NcChange
+    ensures modified { result.fault ≡ 0 → HasPatched at new.now held.old held.new }
+    ensures allowed { result.fault ≡ 0 → ¬ IsShortForPatch (length acts.old) (length new.now) }
+    ensures told { result.fault ≡ 0 → (news : List Piece) → AreBytesOf new.now news
+        → IsTold acts.old acts.new result.count (log_of_modify held.old.region.marked.bytes at news) }
+    ensures pending { (v : MarkedChunk) → result.fault ≡ 0 → TellsPending held.old held.new v acts.old acts.new result.count }
+    ensures untouched { 0 < result.fault → acts.new ≡ acts.old }
+    ensures unchanged { 0 < result.fault → held.new ≡ held.old }
+    ensures at { result.at ≡ 0 }
+    ensures refused { 0 < result.fault → (f : PatchFault) × MayRefuseModify held.old at new.now (length acts.old) f
+        × (result.fault ≡ modify_number f) × (result.count ≡ modify_wanted f) }
+{
+    match held.modify(at, new, acts) {
+        Ok(count) => no_change(0, count),
+        Err(fault) => {
+            let (number, wanted) = modify_numbers(fault);
+            no_change(number, wanted)
+        }
+    }
+}
+
+/// Patches a chunk of a region, with its acts. It takes no memory, and of the chunk it reads only the bundles of the patch and
+/// of its targets.
+///
+/// The acts are written into the buffer, with the settlings among them: at most three for each new byte. An empty buffer counts
+/// as none, and then the count is 0. A refusal changes nothing.
+#[unsafe(no_mangle)]
+pub extern "C" fn nc_region_patch(
+    alloc: Global,
+    region: &mut NcRegion,
+    at: u32,
+    bytes: &[u8],
+    acts: &mut [NcAct],
+) -> NcChange
+    // No deletion was under way, and the new bytes are in place, by a lawful patch; all else is as before.
+    ensures modified { result.fault ≡ 0 → IsDone region.old.value region.new.value (HasPatched at bytes.now) }
+    // A lent buffer had room for three acts for each byte.
+    ensures allowed { result.fault ≡ 0 → ¬ IsShortForPatch (length acts.old) (length bytes.now) }
+    // The acts written are those of a patch of the region's own bytes, with the settlings.
+    ensures told { result.fault ≡ 0 → (h : HeldState) (news : List Piece) → region.old.value ≡ Some h → AreBytesOf bytes.now news
+        → IsTold acts.old acts.new result.count (log_of_modify h.region.marked.bytes at news) }
+    // What the buffer then has is pending.
+    ensures pending { (v : MarkedChunk) → result.fault ≡ 0 → IsDone region.old.value region.new.value
+        (λ old new. TellsPending old new v acts.old acts.new result.count) }
+    ensures untouched { 0 < result.fault → acts.new ≡ acts.old }
+    ensures unchanged { 0 < result.fault → region.new.value ≡ region.old.value }
+    ensures at { result.at ≡ 0 }
+    // Each refusal is returned exactly when it is due.
+    ensures refused { 0 < result.fault → IsRefusal region.old.value (λ h f. MayRefuseModify h at bytes.now (length acts.old) f)
+        modify_number modify_wanted result.fault result.count }
+{
+    let Some(mut held) = region.take(alloc) else {
+        return no_change(NOTHING, 0);
+    };
+    let change = patch(&mut held, at, bytes, acts);
+    *region = NcRegion::of(held);
+    change
+}

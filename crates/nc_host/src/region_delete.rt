@@ -1,0 +1,126 @@
+//! Deletions in two steps, and reuse, by a region's handle.
+
+ghost use Rattle.std.specs.Prelude.{◌≡◌, ◌<◌, ◌⊎◌, ℕ, None, Some, IsSome, length};
+ghost use Rattle.nc_vet.specs.Chunk.{MarkedChunk};
+ghost use Rattle.nc_list.specs.declared.chunk.Chunk.{Chunk};
+ghost use Rattle.nc_region.specs.Log.{log_of_delete};
+ghost use Rattle.nc_handle.specs.Held.{HeldState, HasBegun, HasEnded, HasReclaimed, MayRefuseBegin};
+ghost use Rattle.nc_handle.specs.Pending.{TellsPending, DoesItself};
+ghost use Rattle.nc_handle.specs.Lent.{IsTold};
+ghost use Rattle.nc_handle.specs.declared.fault.RetireFault.{RetireFault};
+ghost use Rattle.nc_host.specs.Handles.{IsDone, IsRefusal, retire_number, retire_wanted};
+
+use crate::numbers::{NOT_BEGUN, NOTHING, UNDERWAY, retire_numbers};
+use crate::region_answers::{NcChange, NcCount, NcStamp, no_change};
+use nc_handle::{Held, NcAct, NcRegion};
+use std::alloc::Global;
+
+/// The first call of a deletion, with its result as numbers.
+fn begin(held: &mut Held, base: u32, acts: &mut [NcAct]) -> NcChange
+    ensures begun { result.fault ≡ 0 → (c : Chunk) × HasBegun held.old held.new base c
+        × IsTold acts.old acts.new result.count (log_of_delete held.old.region.marked.marks base c.length) }
+    ensures pending { (v : MarkedChunk) → result.fault ≡ 0 → TellsPending held.old held.new v acts.old acts.new result.count }
+    ensures untouched { 0 < result.fault → acts.new ≡ acts.old }
+    ensures unchanged { 0 < result.fault → held.new ≡ held.old }
+    ensures at { result.at ≡ 0 }
+    ensures refused { 0 < result.fault → (f : RetireFault) × MayRefuseBegin held.old base (length acts.old) f
+        × (result.fault ≡ retire_number f) × (result.count ≡ retire_wanted f) }
+{
+    match held.begin_delete(base, acts) {
+        Ok((_chunk, count)) => no_change(0, count),
+        Err(fault) => {
+            let (number, wanted) = retire_numbers(fault);
+            no_change(number, wanted)
+        }
+    }
+}
+
+/// The first call of a deletion: its acts are written, and the region still has the chunk. It takes no memory.
+///
+/// The acts are written into the buffer, with the settling among them and the stamp at the end: two more than the chunk has
+/// bytes. An empty buffer counts as none, and then the count is 0. Until `nc_region_end_delete` every call that changes the
+/// region is refused. A refusal changes nothing.
+#[unsafe(no_mangle)]
+pub extern "C" fn nc_region_begin_delete(
+    alloc: Global,
+    region: &mut NcRegion,
+    base: u32,
+    acts: &mut [NcAct],
+) -> NcChange
+    // The acts written are those of a deletion, by the region's own marks, with the settling.
+    ensures begun { result.fault ≡ 0 → IsDone region.old.value region.new.value (λ old new. (c : Chunk) × HasBegun old new base c
+        × IsTold acts.old acts.new result.count (log_of_delete old.region.marked.marks base c.length)) }
+    // What the buffer then has, up to the stamp, is pending.
+    ensures pending { (v : MarkedChunk) → result.fault ≡ 0 → IsDone region.old.value region.new.value
+        (λ old new. TellsPending old new v acts.old acts.new result.count) }
+    ensures untouched { 0 < result.fault → acts.new ≡ acts.old }
+    ensures unchanged { 0 < result.fault → region.new.value ≡ region.old.value }
+    ensures at { result.at ≡ 0 }
+    // Each refusal is returned exactly when it is due.
+    ensures refused { 0 < result.fault → IsRefusal region.old.value (λ h f. MayRefuseBegin h base (length acts.old) f)
+        retire_number retire_wanted result.fault result.count }
+{
+    let Some(mut held) = region.take(alloc) else {
+        return no_change(NOTHING, 0);
+    };
+    let change = begin(&mut held, base, acts);
+    *region = NcRegion::of(held);
+    change
+}
+
+/// The last call of a deletion: the chunk is deleted, and its stamp drawn. It takes no memory, and while a deletion is under
+/// way it is never refused.
+#[unsafe(no_mangle)]
+pub extern "C" fn nc_region_end_delete(alloc: Global, region: &mut NcRegion) -> NcStamp
+    ensures ended { result.fault ≡ 0 → IsDone region.old.value region.new.value (λ old new. HasEnded old new result.stamp) }
+    // What is pending is the stamp, which the library has drawn itself.
+    ensures pending { (seats : ℕ) → result.fault ≡ 0 → IsDone region.old.value region.new.value (DoesItself seats) }
+    ensures unchanged { 0 < result.fault → (result.stamp ≡ 0) × (region.new.value ≡ region.old.value) }
+    ensures refused { 0 < result.fault → ((result.fault ≡ 32) × (region.old.value ≡ None))
+        ⊎ ((result.fault ≡ 38) × ((h : HeldState) × (region.old.value ≡ Some h) × (h.begun ≡ None))) }
+{
+    let Some(mut held) = region.take(alloc) else {
+        return NcStamp {
+            stamp: 0,
+            fault: NOTHING,
+        };
+    };
+    let ended = held.end_delete();
+    *region = NcRegion::of(held);
+    match ended {
+        Some(stamp) => NcStamp { stamp, fault: 0 },
+        None => NcStamp {
+            stamp: 0,
+            fault: NOT_BEGUN,
+        },
+    }
+}
+
+/// Checks in for each seat not given out yet, and then frees the chunks that are due. Returns their number. It puts no byte
+/// and takes no memory.
+#[unsafe(no_mangle)]
+pub extern "C" fn nc_region_reclaim(alloc: Global, region: &mut NcRegion) -> NcCount
+    ensures reclaimed { result.fault ≡ 0 → IsDone region.old.value region.new.value (λ old new. HasReclaimed old new result.count) }
+    // The library has made all that is pending itself, first for the seats not given out.
+    ensures pending { (seats : ℕ) → result.fault ≡ 0 → IsDone region.old.value region.new.value
+        (λ old new. (met : HeldState) × DoesItself seats old met × DoesItself seats met new) }
+    ensures unchanged { 0 < result.fault → (result.count ≡ 0) × (region.new.value ≡ region.old.value) }
+    ensures refused { 0 < result.fault → ((result.fault ≡ 32) × (region.old.value ≡ None))
+        ⊎ ((result.fault ≡ 37) × ((h : HeldState) × (region.old.value ≡ Some h) × IsSome h.begun)) }
+{
+    let Some(mut held) = region.take(alloc) else {
+        return NcCount {
+            fault: NOTHING,
+            count: 0,
+        };
+    };
+    let freed = held.reclaim();
+    *region = NcRegion::of(held);
+    match freed {
+        Some(count) => NcCount { fault: 0, count },
+        None => NcCount {
+            fault: UNDERWAY,
+            count: 0,
+        },
+    }
+}

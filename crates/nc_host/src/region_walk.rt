@@ -1,0 +1,87 @@
+//! Walks through a region's text, written into a host's buffer.
+
+ghost use Rattle.std.specs.Prelude.{◌≡◌, ◌<◌, ◌≤◌, ◌⊎◌, None, Some, length};
+ghost use Rattle.nc_handle.specs.acts.Shown.{over};
+ghost use Rattle.nc_handle.specs.Held.{HeldState};
+ghost use Rattle.nc_host.specs.Walked.{end_number, no_walk, IsShownWalk, MayRefuseShownWalk};
+
+use crate::lent_answers::{NO_MEMORY, NO_ROOM};
+use crate::numbers::{NO_START, NOTHING};
+use crate::region_answers::{NcWalk, no_walk};
+use nc_handle::{Held, NcRegion};
+use nc_region::{End, WalkFault};
+use std::alloc::Global;
+
+/// How a walk ended, as a host reads it.
+fn end_number(end: End) -> u32
+    ensures { result ≡ end_number end }
+{
+    match end {
+        End::Stop => 1,
+        End::Trampoline => 2,
+        End::Beyond => 3,
+        End::More => 4,
+    }
+}
+
+/// Writes the places of a walk.
+fn write_places(buffer: &mut [u32], places: &[u32])
+    requires { length places.now ≤ length buffer.old }
+    ensures { buffer.new ≡ over places.now buffer.old }
+{
+    for i in 0..places.len() {
+        buffer[i] = places[i];
+    }
+}
+
+/// Walks, and writes the places if there is room for all of them.
+fn walk_into(held: &Held, start: u32, choices: &[u32], places: &mut [u32]) -> NcWalk
+    ensures told { result.fault ≡ 0 → IsShownWalk held.now.region.marked.bytes start choices.now result places.old places.new }
+    ensures refused { 0 < result.fault → (places.new ≡ places.old)
+        × MayRefuseShownWalk held.now.region.marked.bytes start choices.now (length places.old) result }
+{
+    let trace = match held.walk(start, choices) {
+        Ok(trace) => trace,
+        Err(WalkFault::NotBundle) => return no_walk(NO_START),
+        Err(WalkFault::OutOfMemory) => return no_walk(NO_MEMORY),
+    };
+    let count = trace.places.len();
+    if count > places.len() {
+        return NcWalk {
+            count,
+            fault: NO_ROOM,
+            end: 0,
+        };
+    }
+    write_places(places, &trace.places);
+    NcWalk {
+        count,
+        fault: 0,
+        end: end_number(trace.end),
+    }
+}
+
+/// Walks from a bundle start of a region, with its steps picked by these choices (`RegionOf::walk`), and writes the places
+/// into a buffer; nothing is executed. Room for one place more than there are choices is enough.
+#[unsafe(no_mangle)]
+pub extern "C" fn nc_region_walk(
+    alloc: Global,
+    region: &mut NcRegion,
+    start: u32,
+    choices: &[u32],
+    places: &mut [u32],
+) -> NcWalk
+    ensures same { region.new.value ≡ region.old.value }
+    ensures told { result.fault ≡ 0 → (h : HeldState) × (region.old.value ≡ Some h)
+        × IsShownWalk h.region.marked.bytes start choices.now result places.old places.new }
+    ensures refused { 0 < result.fault → (places.new ≡ places.old) × (((result ≡ no_walk 32) × (region.old.value ≡ None))
+        ⊎ ((h : HeldState) × (region.old.value ≡ Some h)
+        × MayRefuseShownWalk h.region.marked.bytes start choices.now (length places.old) result)) }
+{
+    let Some(held) = region.take(alloc) else {
+        return no_walk(NOTHING);
+    };
+    let told = walk_into(&held, start, choices, places);
+    *region = NcRegion::of(held);
+    told
+}

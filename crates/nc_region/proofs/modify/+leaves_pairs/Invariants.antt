@@ -1,5 +1,0 @@
-use Rattle.std.proofs.Common.{length}
-use Rattle.nc_region.proofs.modify.+leaves_pairs.Given as goal
-
-abbrev pub decreases-leaves_pairs : goal.decreases-leaves_pairs
-decreases-leaves_pairs g l = length l.new.now

@@ -1,5 +1,0 @@
-use Rattle.std.proofs.Common.{length}
-use Rattle.nc_region.proofs.modify.+put_patch.Given as goal
-
-abbrev pub decreases-put_patch : goal.decreases-put_patch
-decreases-put_patch g l = length l.new.now

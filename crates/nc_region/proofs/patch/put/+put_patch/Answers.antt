@@ -1,0 +1,157 @@
+use Rattle.std.proofs.Common.{◌≡◌, ℕ, ◌+◌, ◌-◌, ◌≤◌, cond, List, [], ◌++◌, length, take, drop, None, Some, eqb-true}
+use Rattle.std.proofs.Common.{sym, subst, ◌∙◌, ap, arith, rules}
+use Rattle.std.proofs.lemmas.Bool.{eqb-false}
+use Rattle.std.proofs.lemmas.List.{length-take, length-drop}
+use Rattle.std.specs.Result.{result_ok}
+use Rattle.nc_decode.specs.declared.instruction.Instr.{Instr}
+use Rattle.nc_decode.specs.Front.{first_instruction}
+use Rattle.nc_vet.specs.Chunk.{Piece}
+use Rattle.nc_text.specs.Places.{limit_of, byte_at}
+use Rattle.nc_text.specs.MarkedText.{MarkedText, IsText, with_span}
+use Rattle.nc_text.specs.Ready.{AreReady}
+use Rattle.nc_list.specs.declared.chunk.Chunk.{Chunk}
+use Rattle.nc_region.specs.declared.acts.Entry.{Entry}
+use Rattle.nc_region.specs.Log.{Logs}
+use Rattle.nc_region.specs.Patch.{stands_there, log_of_instruction, log_of_modify}
+use Rattle.nc_region.specs.machinery.PatchSteps.{CanPatch, IsReplacing}
+use Rattle.nc_region.proofs.SpanPlaces.{span_behind}
+use Rattle.nc_region.proofs.chunks.Creating.{same_code}
+use Rattle.nc_region.proofs.telling.Logged.{logs_none, logs_more}
+use Rattle.nc_region.proofs.patching.NewInstructions.{none_of_none, not_found, parted, whole_again}
+use Rattle.nc_region.proofs.patching.Standing.{lies}
+use Rattle.nc_region.proofs.chunks.ReadyPlaces.{ready_part}
+use Rattle.nc_region.proofs.patching.Exchanged.{changed, changes_replace}
+use Rattle.nc_region.proofs.patching.Turns.{turn, next_patch, spans_join, same_log}
+use Rattle.nc_region.proofs.patch.put.+put_patch.Goals as goal
+
+-- behind the first new instruction no byte changes
+same_behind : (marked : MarkedText) (chunk : Chunk) (at : ℕ) (new : List ℕ) (i : Instr) (patch : CanPatch marked chunk at new)
+    → IsText marked → first_instruction new ≡ Some i → (now : List ℕ) → now ≡ with_span marked.bytes (at - 65536) (take i.len new)
+    → (k : ℕ) → at + i.len ≤ k → byte_at now k ≡ byte_at marked.bytes k
+same_behind marked chunk at new i patch whole is now put k le =
+    let p = parted new patch.run.news i patch.run.bytes is in
+    let w = turn marked chunk at new patch p.first p.rest whole p.is in
+    let r = changes_replace marked chunk at patch.run.before (w.os ++ patch.run.after) w.o p.first w.change in
+    ap (λ (z : List ℕ). byte_at z k) (put ∙ ap (λ (z : List ℕ). with_span marked.bytes (at - 65536) z) p.front)
+    ∙ span_behind marked.bytes at p.first.bytes k 0 r.low r.high (omega (arith, le, p.len))
+
+pub returns-then-is_empty-clause-log : goal.returns-then-is_empty-clause-log
+returns-then-is_empty-clause-log g t c = λ news b.
+    subst (λ (z : List Piece). Logs (g.A.Acts.logged c.args.acts.now) (g.A.Acts.logged c.args.acts.now)
+    (log_of_modify (g.A.Acts.marked c.args.acts.now).bytes c.args.at z))
+    (sym (none_of_none c.args.new.now news (eqb-true _ _ (sym c.is_empty.ensures ∙ c.if-is_empty.true)) b))
+    (logs_none (g.A.Acts.logged c.args.acts.now))
+
+pub returns-in_default-clause-bytes : goal.returns-in_default-clause-bytes
+returns-in_default-clause-bytes g t c =
+    let none : first_instruction c.args.new.now ≡ None = sym c.decode.ensures.first ∙ ap result_ok c.in_default.is in
+    let some = eqb-false (length c.args.new.now) 0 (sym c.is_empty.ensures ∙ c.if-is_empty.false) in
+    absurd (not_found c.args.new.now (omega (arith, some)) none c.requires.patch.run.news c.requires.patch.run.bytes)
+
+pub returns-in_default-clause-log : goal.returns-in_default-clause-log
+returns-in_default-clause-log g t c =
+    let none : first_instruction c.args.new.now ≡ None = sym c.decode.ensures.first ∙ ap result_ok c.in_default.is in
+    let some = eqb-false (length c.args.new.now) 0 (sym c.is_empty.ensures ∙ c.if-is_empty.false) in
+    absurd (not_found c.args.new.now (omega (arith, some)) none c.requires.patch.run.news c.requires.patch.run.bytes)
+
+pub put_where_new-requires-clause-replacing : goal.put_where_new-requires-clause-replacing
+put_where_new-requires-clause-replacing g t c =
+    let marked = g.A.Acts.marked c.args.acts.now in
+    let patch = c.requires.patch in
+    let is = sym c.decode.ensures.first ∙ ap result_ok c.in-Ok.is in
+    let p = parted c.args.new.now patch.run.news c.in-Ok.instr patch.run.bytes is in
+    let w = turn marked c.args.chunk c.args.at c.args.new.now patch p.first p.rest c.requires.whole p.is in
+    subst (λ (z : List ℕ). IsReplacing (g.A.Acts.marked c.args.acts.now) c.args.at z) (sym p.front)
+    (changes_replace marked c.args.chunk c.args.at patch.run.before (w.os ++ patch.run.after) w.o p.first w.change)
+
+pub put_where_new-requires-clause-ready : goal.put_where_new-requires-clause-ready
+put_where_new-requires-clause-ready g t c =
+    let is = sym c.decode.ensures.first ∙ ap result_ok c.in-Ok.is in
+    let p = parted c.args.new.now c.requires.patch.run.news c.in-Ok.instr c.requires.patch.run.bytes is in
+    ready_part _ c.args.at (length c.args.new.now) c.args.at _ c.requires.ready (omega arith)
+    (omega (arith, p.len, p.long, length-take {A = ℕ}, length-drop {A = ℕ}))
+
+pub put_patch-requires : goal.put_patch-requires
+put_patch-requires g t c =
+    let marked = g.A.Acts.marked c.args.acts.now in
+    let mid = g.A.Acts.marked c.put_where_new.new.acts in
+    let patch = c.requires.patch in
+    let some = eqb-false (length c.args.new.now) 0 (sym c.is_empty.ensures ∙ c.if-is_empty.false) in
+    let is = sym c.decode.ensures.first ∙ ap result_ok c.in-Ok.is in
+    let sized = c.decode.ensures.sized in
+    let p = parted c.args.new.now patch.run.news c.in-Ok.instr patch.run.bytes is in
+    let w = turn marked c.args.chunk c.args.at c.args.new.now patch p.first p.rest c.requires.whole p.is in
+    let same : g.A.Acts.marked c.put_where_new.new.acts ≡ changed (g.A.Acts.marked c.args.acts.now) c.args.at p.first.bytes =
+    same_code (g.A.Acts.marked c.put_where_new.new.acts) (changed (g.A.Acts.marked c.args.acts.now) c.args.at p.first.bytes)
+    (c.put_where_new.ensures.bytes ∙ ap
+    (λ (z : List ℕ). with_span (g.A.Acts.marked c.args.acts.now).bytes
+    (c.args.at - 65536) z) p.front) c.put_where_new.ensures.marks in
+    let next : CanPatch (g.A.Acts.marked c.put_where_new.new.acts) c.args.chunk (c.args.at + c.from.result)
+    (take (length c.args.new.now - c.in-Ok.instr.len) (drop c.in-Ok.instr.len c.args.new.now)) =
+    subst (λ (k : MarkedText). CanPatch k c.args.chunk (c.args.at + c.from.result)
+    (take (length c.args.new.now - c.in-Ok.instr.len) (drop c.in-Ok.instr.len c.args.new.now))) (sym same)
+    (next_patch marked c.args.chunk c.args.at c.args.new.now patch p.first p.rest w c.from.result
+    (take (length c.args.new.now - c.in-Ok.instr.len) (drop c.in-Ok.instr.len c.args.new.now)) (c.from.ensures ∙ p.len) p.behind) in
+    let ready : AreReady (g.A.Acts.made c.put_where_new.new.acts) (c.args.at + c.from.result)
+    (length (take (length c.args.new.now - c.in-Ok.instr.len) (drop c.in-Ok.instr.len c.args.new.now))) =
+    rw c.put_where_new.ensures.made (ready_part _ c.args.at (length c.args.new.now) (c.args.at + c.from.result) _ c.requires.ready
+    (omega arith) (omega (arith, c.from.ensures, p.len, p.long, length-take {A = ℕ}, length-drop {A = ℕ}))) in
+    let ends : c.args.at + c.from.result + length (take (length c.args.new.now - c.in-Ok.instr.len) (drop c.in-Ok.instr.len c.args.new.now))
+    ≤ c.args.chunk.base + c.args.chunk.length =
+    omega (arith, c.requires.ends, c.from.ensures, p.len, p.long, length-take {A = ℕ}, length-drop {A = ℕ}) in
+    λ κs lives. (search rules, (search rules, (c.put_where_new.ensures.whole, (next, (ends, ready)))))
+
+pub returns-clause-bytes : goal.returns-clause-bytes
+returns-clause-bytes g t c =
+    let marked = g.A.Acts.marked c.args.acts.now in
+    let patch = c.requires.patch in
+    let is = sym c.decode.ensures.first ∙ ap result_ok c.in-Ok.is in
+    let p = parted c.args.new.now patch.run.news c.in-Ok.instr patch.run.bytes is in
+    let w = turn marked c.args.chunk c.args.at c.args.new.now patch p.first p.rest c.requires.whole p.is in
+    let r = changes_replace marked c.args.chunk c.args.at patch.run.before (w.os ++ patch.run.after) w.o p.first w.change in
+    let rest : List ℕ = take (length c.args.new.now - c.in-Ok.instr.len) (drop c.in-Ok.instr.len c.args.new.now) in
+    let fits : c.args.at + length c.args.new.now ≤ limit_of (g.A.Acts.marked c.args.acts.now).bytes =
+    omega (arith, c.requires.ends, (lies marked c.args.chunk c.requires.whole patch.holds).high) in
+    c.put_patch.ensures.bytes
+    ∙ (ap (λ (z : List ℕ). with_span z (c.args.at + c.from.result - 65536)
+    (take (length c.args.new.now - c.in-Ok.instr.len) (drop c.in-Ok.instr.len c.args.new.now))) (c.put_where_new.ensures.bytes
+    ∙ ap (λ (z : List ℕ). with_span (g.A.Acts.marked c.args.acts.now).bytes (c.args.at - 65536) z) p.front)
+    ∙ (ap (λ (k : ℕ). with_span (with_span (g.A.Acts.marked c.args.acts.now).bytes (c.args.at - 65536) p.first.bytes)
+    (c.args.at + k - 65536) (take (length c.args.new.now - c.in-Ok.instr.len) (drop c.in-Ok.instr.len c.args.new.now)))
+    (c.from.ensures ∙ p.len)
+    ∙ (spans_join (g.A.Acts.marked c.args.acts.now).bytes c.args.at p.first.bytes
+    (take (length c.args.new.now - c.in-Ok.instr.len) (drop c.in-Ok.instr.len c.args.new.now)) r.low (omega (arith, fits, p.long))
+    ∙ ap (λ (z : List ℕ). with_span (g.A.Acts.marked c.args.acts.now).bytes (c.args.at - 65536) z)
+    (whole_again c.args.new.now patch.run.news c.in-Ok.instr p))))
+
+pub returns-clause-log : goal.returns-clause-log
+returns-clause-log g t c = λ news b.
+    let marked = g.A.Acts.marked c.args.acts.now in
+    let is = sym c.decode.ensures.first ∙ ap result_ok c.in-Ok.is in
+    let q = parted c.args.new.now news c.in-Ok.instr b is in
+    let patch = c.requires.patch in
+    let one : Logs (g.A.Acts.logged c.args.acts.now) (g.A.Acts.logged c.put_where_new.new.acts)
+    (cond (stands_there (g.A.Acts.marked c.args.acts.now).bytes c.args.at q.first.bytes) []
+    (log_of_instruction c.args.at q.first.bytes)) =
+    subst (λ (z : List ℕ). Logs (g.A.Acts.logged c.args.acts.now) (g.A.Acts.logged c.put_where_new.new.acts)
+    (cond (stands_there (g.A.Acts.marked c.args.acts.now).bytes c.args.at z) []
+    (log_of_instruction c.args.at z))) q.front c.put_where_new.ensures.log in
+    let len : c.from.result ≡ length q.first.bytes = c.from.ensures ∙ q.len in
+    let agree : (k : ℕ) → c.args.at + length q.first.bytes ≤ k
+    → byte_at (g.A.Acts.marked c.put_where_new.new.acts).bytes k ≡ byte_at (g.A.Acts.marked c.args.acts.now).bytes k = λ k le.
+    same_behind marked c.args.chunk c.args.at c.args.new.now c.in-Ok.instr patch c.requires.whole is _
+    c.put_where_new.ensures.bytes k (omega (arith, le, q.len)) in
+    let two : Logs (g.A.Acts.logged c.put_where_new.new.acts) (g.A.Acts.logged c.put_patch.new.acts)
+    (log_of_modify (g.A.Acts.marked c.args.acts.now).bytes (c.args.at + length q.first.bytes) q.rest) =
+    subst (λ (z : List Entry). Logs (g.A.Acts.logged c.put_where_new.new.acts) (g.A.Acts.logged c.put_patch.new.acts) z)
+    (same_log (g.A.Acts.marked c.put_where_new.new.acts).bytes (g.A.Acts.marked c.args.acts.now).bytes
+    (c.args.at + length q.first.bytes) q.rest agree)
+    (subst (λ (k : ℕ). Logs (g.A.Acts.logged c.put_where_new.new.acts) (g.A.Acts.logged c.put_patch.new.acts)
+    (log_of_modify (g.A.Acts.marked c.put_where_new.new.acts).bytes (c.args.at + k) q.rest)) len
+    (c.put_patch.ensures.log q.rest q.behind)) in
+    subst (λ (z : List Piece). Logs (g.A.Acts.logged c.args.acts.now) (g.A.Acts.logged c.put_patch.new.acts)
+    (log_of_modify (g.A.Acts.marked c.args.acts.now).bytes c.args.at z)) (sym q.is)
+    (logs_more _ _ _ _ _ one two)
+
+pub returns-clause-holds : goal.returns-clause-holds
+returns-clause-holds g t c = c.put_patch.ensures.holds
