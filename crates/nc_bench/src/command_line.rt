@@ -7,13 +7,14 @@ use crate::plan::{Churn, Out};
 use crate::reclaim::Share;
 use crate::workers::Jobs;
 use clap::ArgMatches;
+use std::alloc::{AllocError, Global};
 use std::io;
 
 /// The measurement that is asked for.
-#[derive(Clone, Copy, Drop)]
+#[derive(Drop)]
 pub enum Ask<'a> {
-    /// Vetting by one thread.
-    Vet(Source<'a>),
+    /// Vetting by one thread, of the source and of these further files for the same address.
+    Vet(Source<'a>, Vec<&'a str>),
     /// Vetting by this number of workers, or by several numbers of them in turn.
     Workers(Jobs, Option<u32>),
     /// The calls of a region.
@@ -60,6 +61,11 @@ fn source<'a>(found: &ArgMatches<'a>) -> io::Result<Source<'a>> {
         kind: kind(found),
         bundles: found.get_one("BUNDLES"),
     })
+}
+
+/// The further files that are asked for.
+fn also<'a>(alloc: Global, found: &ArgMatches<'a>) -> Result<Vec<&'a str>, AllocError> {
+    found.get_strs("also").unwrap_or(&[]).to_vec(alloc)
 }
 
 /// The order of creations that is asked for.
@@ -117,9 +123,9 @@ fn jobs(found: &ArgMatches<'_>) -> Jobs {
 }
 
 /// The measurement of this name that is asked for.
-fn named<'a>(name: &str, found: &ArgMatches<'a>) -> io::Result<Ask<'a>> {
+fn named<'a>(alloc: Global, name: &str, found: &ArgMatches<'a>) -> io::Result<Ask<'a>> {
     match name {
-        "vet" => Ok(Ask::Vet(source(found)?)),
+        "vet" => Ok(Ask::Vet(source(found)?, also(alloc, found)?)),
         "workers" => Ok(Ask::Workers(jobs(found), found.get_one("WORKERS"))),
         "chunks" => Ok(Ask::Chunks(load(found))),
         "reclaim" => Ok(Ask::Reclaim(share(found))),
@@ -131,9 +137,9 @@ fn named<'a>(name: &str, found: &ArgMatches<'a>) -> io::Result<Ask<'a>> {
 }
 
 /// The measurement that is asked for, and its number of rounds. The parser requires that there is one.
-pub fn asked<'a>(found: &ArgMatches<'a>) -> io::Result<(Ask<'a>, u32)> {
+pub fn asked<'a>(alloc: Global, found: &ArgMatches<'a>) -> io::Result<(Ask<'a>, u32)> {
     match found.subcommand() {
-        Some((name, found)) => Ok((named(name, found)?, number(found, "ROUNDS"))),
+        Some((name, found)) => Ok((named(alloc, name, found)?, number(found, "ROUNDS"))),
         None => Err(io::Error::from(io::ErrorKind::InvalidInput)),
     }
 }

@@ -59,7 +59,7 @@ fn measure<R: Threads + Wait + Sync + Clock + Files + Print + AllocGlobal>(
     rounds: u32,
 ) -> io::Result<()> {
     match ask {
-        Ask::Vet(source) => measure_vet(rt, &source, rounds),
+        Ask::Vet(source, also) => measure_vet(rt, &source, &also, rounds),
         Ask::Workers(jobs, workers) => measure_workers(rt, jobs, rounds, workers),
         Ask::Chunks(load) => measure_chunks(rt, load, rounds),
         Ask::Reclaim(share) => measure_reclaim(rt, share, rounds),
@@ -82,7 +82,7 @@ fn run<R: Threads + Wait + Sync + Clock + Files + Print + Eprint + AllocGlobal>(
     words: &[&str],
 ) -> io::Result<ExitCode> {
     let asked = match matches(rt.alloc(), words) {
-        Ok(found) => asked(&found),
+        Ok(found) => asked(rt.alloc(), &found),
         Err(error) => return report_fault(rt, &error),
     };
     let (ask, rounds) = asked?;

@@ -64,13 +64,19 @@ static BENCH: Program = Program {
     subcommands: &[
         Usage {
             name: "vet",
-            about: "Time vetting by one thread, on a file's code",
+            about: "Time vetting by one thread, on the code of a file, or of several in turn",
             words: &[
                 word!(true, "FILE", TEXT, "File of raw code"),
                 word!(true, "ADDRESS", TEXT, "Address of its first byte, in hexadecimal"),
                 ROUNDS,
                 word!(false, "KIND", KIND, "Verdict: accepted, or refused at the end for a byte or a target [default: accepted]"),
-                word!(false, "BUNDLES", NUMBER, "Number of bundles, the file's first [default: all]"),
+                word!(false, "BUNDLES", NUMBER, "Number of bundles, each file's first [default: all]"),
+                Word {
+                    is_option: true,
+                    action: ArgAction::Append,
+                    value_names: &["FILE"],
+                    ..word!(false, "also", TEXT, "Further file for the same address, vetted in turn with the others")
+                },
             ],
         },
         Usage {

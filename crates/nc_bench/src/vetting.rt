@@ -4,23 +4,57 @@ use crate::code::{LIMIT, Source, read_code};
 use crate::timing::{now, since};
 use nc_vet::vet;
 use nc_work::Verdict;
-use std::alloc::Global;
+use std::alloc::{AllocError, Global};
 use std::io;
 use std::rt::Files;
 use std::time::{Clock, Duration};
 
-/// The number of bytes that are vetted in a round, unless one chunk has more.
+/// The number of bytes that are vetted in a round, unless the codes together have more.
 const ROUND: usize = 65_536;
 
-/// Copies of the code for one round, as many of them as there is memory for.
-fn chunks(alloc: Global, code: &[u8]) -> Vec<Vec<u8>> {
-    let mut chunks = Vec::new(alloc);
-    for _ in 0..(ROUND / code.len().max(1)).max(1) {
-        if let Ok(copied) = Vec::from_slice(alloc, code) {
-            let _pushed = chunks.push(copied);
-        }
+/// The code of the source, and of further files that are prepared as it is.
+fn read_codes<R: Files + AllocGlobal>(
+    rt: &R,
+    source: &Source<'_>,
+    also: &[&str],
+) -> io::Result<Vec<Vec<u8>>> {
+    let mut codes = Vec::new(rt.alloc());
+    codes.push(read_code(rt, source)?)?;
+    for path in also {
+        let further = Source { path, ..*source };
+        codes.push(read_code(rt, &further)?)?;
     }
-    chunks
+    Ok(codes)
+}
+
+/// The number of bytes of all codes.
+fn total(codes: &[Vec<u8>]) -> usize {
+    let mut bytes = 0usize;
+    for code in codes {
+        bytes = bytes.saturating_add(code.len());
+    }
+    bytes
+}
+
+/// A copy of each code.
+fn copy_each(
+    alloc: Global,
+    codes: &[Vec<u8>],
+    chunks: &mut Vec<Vec<u8>>,
+) -> Result<(), AllocError> {
+    for code in codes {
+        chunks.push(Vec::from_slice(alloc, code)?)?;
+    }
+    Ok(())
+}
+
+/// This many copies of the codes, in turn.
+fn copies(alloc: Global, codes: &[Vec<u8>], turns: usize) -> Result<Vec<Vec<u8>>, AllocError> {
+    let mut chunks = Vec::with_capacity(alloc, turns.saturating_mul(codes.len()))?;
+    for _ in 0..turns {
+        copy_each(alloc, codes, &mut chunks)?;
+    }
+    Ok(chunks)
 }
 
 /// The number of accepted chunks.
@@ -34,8 +68,8 @@ pub fn count_accepted(verdicts: &[Verdict]) -> usize {
     accepted
 }
 
-/// Vets the chunks, and times only the vetting: the time for a chunk, and the number of accepted chunks. The verdicts are kept,
-/// in a list with room for them.
+/// Vets the chunks, and times only the vetting: the time for all of them, and the number of accepted chunks. The verdicts are
+/// kept, in a list with room for them.
 fn vet_timed<R: Clock>(
     rt: &R,
     base: u32,
@@ -43,26 +77,30 @@ fn vet_timed<R: Clock>(
     room: Vec<Verdict>,
 ) -> (Duration, usize) {
     let mut verdicts = room;
-    let count = u32::try_from(chunks.len()).unwrap_or(u32::MAX);
     let start = now(rt);
     for code in chunks {
         let _pushed = verdicts.push(vet(base, LIMIT, code));
     }
     let took = since(rt, start);
-    let each = took.checked_div(count).unwrap_or(Duration::MAX);
-    (each, count_accepted(&verdicts))
+    (took, count_accepted(&verdicts))
 }
 
-/// Vets copies of the code. The time is the maximum if there is no memory for them.
-fn vet_round<R: Clock>(rt: &R, alloc: Global, base: u32, code: &[u8]) -> (Duration, usize) {
-    let chunks = chunks(alloc, code);
-    match Vec::with_capacity(alloc, chunks.len()) {
-        Ok(room) => vet_timed(rt, base, chunks, room),
-        Err(_) => (Duration::MAX, 0),
-    }
+/// Vets copies of the codes in turn: the time for one copy of each, and the number of accepted chunks.
+fn vet_round<R: Clock>(
+    rt: &R,
+    alloc: Global,
+    base: u32,
+    codes: &[Vec<u8>],
+) -> Result<(Duration, usize), AllocError> {
+    let turns = (ROUND / total(codes).max(1)).max(1);
+    let chunks = copies(alloc, codes, turns)?;
+    let room = Vec::with_capacity(alloc, chunks.len())?;
+    let (took, accepted) = vet_timed(rt, base, chunks, room);
+    let each = took.checked_div(u32::try_from(turns).unwrap_or(u32::MAX));
+    Ok((each.unwrap_or(Duration::MAX), accepted))
 }
 
-/// Prints the time for one chunk in the best round. A megabyte is a million bytes.
+/// Prints the time for one copy of each code in the best round. A megabyte is a million bytes.
 fn report<R: Print>(rt: &R, bytes: usize, accepted: usize, best: Duration) -> io::Result<()> {
     let nanos = u64::try_from(best.as_nanos()).unwrap_or(u64::MAX).max(1);
     let speed = (bytes as u64).saturating_mul(1000) / nanos;
@@ -70,19 +108,20 @@ fn report<R: Print>(rt: &R, bytes: usize, accepted: usize, best: Duration) -> io
     println!(rt; "{bytes} bytes {verdict}, {nanos} ns, {speed} MB/s")
 }
 
-/// Vets a source's code in rounds, and reports the best one.
+/// Vets the code of a source and of further files in rounds, and reports the best round.
 pub fn measure_vet<R: Files + Clock + Print + AllocGlobal>(
     rt: &R,
     source: &Source<'_>,
+    also: &[&str],
     rounds: u32,
 ) -> io::Result<()> {
-    let code = read_code(rt, source)?;
+    let codes = read_codes(rt, source, also)?;
     let mut best = Duration::MAX;
     let mut accepted = 0;
     for _ in 0..rounds {
-        let (took, valid) = vet_round(rt, rt.alloc(), source.base, &code);
+        let (took, valid) = vet_round(rt, rt.alloc(), source.base, &codes)?;
         best = best.min(took);
         accepted = valid;
     }
-    report(rt, code.len(), accepted, best)
+    report(rt, total(&codes), accepted, best)
 }
