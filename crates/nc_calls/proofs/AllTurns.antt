@@ -113,7 +113,7 @@ all_stand w safe =
     (λ now. (view : List ℕ) → IsViewOf w view → Stands view now)
     (λ now is view v. stands_if_safe view now (is view v)) s) w.seats safe
 
--- where threads stand after every event
+-- after every event of a history, threads stand where they may
 pub stand_always : (limit seats : ℕ) (first events later : List Event) (r : Region) (turns : List Turn)
     → IsHistory limit seats first r turns → happened first turns ≡ events ++ later
     → AllStand (world_after (first_world limit seats) events)
@@ -122,7 +122,7 @@ stand_always limit seats first events later r turns h is =
     all_stand (world_after (first_world limit seats) events)
     (safe_after limit seats events later h.lawful (subst (AreAllowed (first_world limit seats)) is s.led.allowed))
 
--- what threads fetch after every event
+-- after every event of a history, threads fetch whole instructions
 pub whole_always : (limit seats : ℕ) (first events later : List Event) (r : Region) (turns : List Turn)
     → IsHistory limit seats first r turns → happened first turns ≡ events ++ later
     → AllFetchWhole (world_after (first_world limit seats) events)
@@ -131,7 +131,7 @@ whole_always limit seats first events later r turns h is =
     fetch_whole_after limit seats events later h.lawful (subst (AreAllowed (first_world limit seats)) is s.led.allowed)
     (subst (StaysWhole (first_world limit seats)) is s.whole)
 
--- where none stands when a span is freed
+-- no thread stands in a span when it is freed in a history
 pub none_in_freed : (limit seats : ℕ) (first events later : List Event) (r : Region) (turns : List Turn) (span : RetiredSpan)
     → IsHistory limit seats first r turns → happened first turns ≡ events ++ Frees span ∷ later
     → NoneIsWithin (world_after (first_world limit seats) events) span

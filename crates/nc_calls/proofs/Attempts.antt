@@ -40,7 +40,7 @@ split_joined (x ∷ p) q (y ∷ xs) ys is =
       | inr f ↦ (let same : p ≡ xs ++ f.0 = f.1 in inr (f.0, cc, f.2))
     ]
 
--- where it is so of the places behind the first one
+-- the first puts of stops from a place on are those at the chosen ones of the first places, if so they are from the next place on
 first_put : (d : Details) (chosen : ℕ → Bool) (at n : ℕ) (x : Event) (p q : List Event)
     → ((r : List Event) → r ++ q ≡ events_of d (puts_where chosen (at + 1) (replicate n 244))
     → (k : ℕ) × (k ≤ n) × (r ≡ events_of d (puts_where chosen (at + 1) (replicate k 244))))
@@ -88,7 +88,7 @@ pub data IsPart (marks : List Mark) (base len : ℕ) (part : List Event) : Type 
       ++ (Settles ∷ events_of (record no_details { base = base; len = len }) (puts_where (is_unmarked_at marks) base (replicate n 244)))
       → IsPart marks base len part
 
--- nothing ends with a stamp
+-- no list of events that ends with a retiring is empty
 no_end : (base len : ℕ) (y z : List Event) → y ++ (z ++ Retires base len ∷ []) ≡ [] → ⊥
 no_end base len [] [] none = cc
 no_end base len [] (e ∷ z) none = cc
@@ -247,7 +247,7 @@ begun w chunks k c r _ (OneMore {earlier} first part rest own) =
       views = b.views;
     }
 
--- a live chunk is deleted, after such attempts, in a world that has a region's text and spans
+-- a live chunk is deleted, after unfinished attempts at its deletion, in a world that has a region's text and spans
 pub delete_leads : (w : World) (chunks : List Chunk) (k : ℕ) (c : Chunk) (made : List Event) → Keeps w → ViewsKeep w chunks
     → IsRegion w.marked chunks → AreSpansOf w.retired chunks → k < length chunks → get_or chunks k c ≡ c → IsLive c.state
     → AreAttempts w.marked.marks c.base c.length made

@@ -60,7 +60,7 @@ record Filling (w : World) (base len : ℕ) (view : List ℕ) : Type 0 where
   good : Good view w.marked.marks w.retired
   stops : (at : ℕ) → base ≤ at → at < base + len → IsBundleStart at → byte_at view at ≡ 244
 
--- what no instruction has may be put
+-- while the span is filled, no instruction has a place of it that is no bundle start
 filling_clear : (w : World) (base len : ℕ) (view : List ℕ) (at : ℕ) → HasGoodSpan base (limit_of w.marked.bytes) len
     → IsUnused w.marked base len → Filling w base len view → base ≤ at → at < base + len → at % 32 ≢ 0
     → (now : State) (i : Instr) (k : ℕ) → IsMarked w.marked.marks now → instruction_at view now.place ≡ Some i → k < i.len
@@ -172,7 +172,7 @@ nearly_first final mid base len f =
           ];
     }
 
--- with one more of the bundle starts it is nearly the final one still
+-- a text that is the final one, but for stops at bundle starts, is so with one more byte of the final one put
 nearly_put : (final view : List ℕ) (at byte : ℕ) → InRegion view at → byte ≡ byte_at final at → IsNearly final view
     → IsNearly final (set view (at - 65536) byte)
 nearly_put final view at byte inside is n =
@@ -275,7 +275,7 @@ final_from_puts final mid now base bytes count le code f has =
           ];
     }
 
--- the text with the chunk is one
+-- a text with a chunk that joins it is a text (`IsText`)
 final_text : (marked : MarkedText) (base : ℕ) (code : List ℕ) (marks : List Mark) → IsText marked → Joins marked base code marks
     → IsText (with_chunk marked base code marks)
 final_text marked base code marks whole j =

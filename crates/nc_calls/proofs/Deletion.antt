@@ -50,7 +50,7 @@ unmarked_or_mark Unmarked = inl refl
 unmarked_or_mark Plain = inr refl
 unmarked_or_mark (After register) = inr refl
 
--- each byte is a stop
+-- each byte of a list of stops is a stop
 stop_byte : (len k : ℕ) → k < len → get_or (replicate {A = ℕ} len 244) k 0 ≡ 244
 stop_byte len k lt = get_or-replicate len k 244 0 lt
 
@@ -183,7 +183,7 @@ may_lay_others w base len mid placed =
           (emptied_clear w base len mid view (base + count) placed f (omega arith) (omega (arith, lt, n)) chosen);
     }
 
--- once all marked places are stops, the text is such a one
+-- a good text with stops put at all marked places of a span is as it has to be before the unmarked ones (`Emptied`)
 emptied_first : (w : World) (base len : ℕ) (now mid : List ℕ) → Good mid w.marked.marks w.retired
     → HasPut (is_marked_at w.marked.marks) base (replicate len 244) len now mid → Emptied w base len mid mid
 emptied_first w base len now mid good has =

@@ -125,7 +125,7 @@ free_if_kept least (c ∷ rest) at free = go c.state refl (is_due least c.state)
     go Live is true due f rest_is = absurd (let no : false ≡ true = sym (ap (is_due least) is) ∙ due in cc)
     go (Retired stamp) is true due f rest_is = ((λ live inside. subst IsLive is live), rest_is f)
 
--- a place that isn't marked any more wasn't, or was and is
+-- an unmarked place stays unmarked where a world is thinned
 still_unmarked : (w v : World) → IsThinned w v → (at : ℕ) → 65536 ≤ at → mark_at w.marked.marks at ≡ Unmarked
     → mark_at v.marked.marks at ≡ Unmarked
 still_unmarked w v t at low was =
@@ -136,7 +136,7 @@ still_unmarked w v t at low was =
           absurd (subst (λ (m : Mark). Admits m s.0) was (t.fewer (state at s.0) (low, s.1)).1)
     ]
 
--- the views keep what they have to
+-- where a world is thinned, its views keep what they have to for the chunks that are kept
 pub views_thinned : (w v : World) (chunks : List Chunk) (least : ℕ) → IsThinned w v → ViewsKeep w chunks → ViewsKeep v (kept least chunks)
 views_thinned w v chunks least t keep =
     record {

@@ -78,7 +78,7 @@ pub looks_are : (a m : ℕ) → All IsKeepers (map Looks (range_with_len a m))
 looks_are a zero = All-nil IsKeepers
 looks_are a (suc m) = All-cons IsKeepers (Looks a) (map Looks (range_with_len (a + 1) m)) tt (looks_are (a + 1) m)
 
--- All are allowed, and only the keeper's numbers and the seats are others afterwards. If what views have at marked places stood
+-- Events that are allowed, and after which only the keeper's numbers and the seats are others. If what views have at marked places stood
 -- there whole before them, it did after each.
 pub record KeeperOnly (w : World) (keeper : KeeperNumbers) (seats : List Seat) (events : List Event) : Type 0 where
   pub allowed : AreAllowed (placed w keeper seats) events
@@ -137,7 +137,7 @@ keeper_woven w (Looks k ∷ events) keeper seats own threads =
 
 -- ---- events parted where the first of the writer's end
 
--- what threads do is allowed in both parts
+-- threads that do what they may in two lists of events, one after the other, do so in each
 pub threads_parted : (w : World) (xs ys : List Event) → ThreadsMay w (xs ++ ys) → ThreadsMay w xs × ThreadsMay (world_after w xs) ys
 threads_parted w [] ys t = (tt, t)
 threads_parted w (x ∷ xs) ys t = let r = threads_parted (after w x) xs ys t.1 in ((t.0, r.0), r.1)

@@ -12,17 +12,17 @@ use Rattle.nc_text.specs.Marks.{IsMarked, Admits, mark_at}
 use Rattle.nc_region.specs.schedules.Spans.{RetiredSpan}
 use Rattle.nc_calls.proofs.Good.{Good, KeepsInstruction, Borrowed, good_by_places}
 
--- a byte elsewhere than where one is put
+-- a byte stays where one is put elsewhere
 pub byte_beside : (text : List ℕ) (at place byte : ℕ) → 65536 ≤ at → 65536 ≤ place → place ≢ at
     → byte_at (set text (at - 65536) byte) place ≡ byte_at text place
 byte_beside text at place byte low from other =
     get_or-set_other text (at - 65536) (place - 65536) byte 0 (λ e. other (omega (arith, e, low, from)))
 
--- the byte that is put
+-- a byte that is put stands at its place
 pub byte_there : (text : List ℕ) (at byte : ℕ) → InRegion text at → byte_at (set text (at - 65536) byte) at ≡ byte
 byte_there text at byte inside = get_or-set_same text (at - 65536) byte 0 (omega (arith, inside.0, inside.1))
 
--- an instruction stays that doesn't have the place
+-- an instruction that doesn't have the place where a byte is put stays
 keeps_beside : (text : List ℕ) (at byte : ℕ) (now : State) → 65536 ≤ at → 65536 ≤ now.place
     → ((i : Instr) (k : ℕ) → instruction_at text now.place ≡ Some i → k < i.len → now.place + k ≢ at)
     → KeepsInstruction text (set text (at - 65536) byte) now.place

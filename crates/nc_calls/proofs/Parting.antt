@@ -70,7 +70,7 @@ pieces_apart before after b a n p at k same here there some less =
       | Later m x y ↦ omega (arith, ap place x, place-append before (n ∷ m), length-append n.bytes (code_of m), here, there, less)
     ]
 
--- an unmarked mark, or another
+-- a mark is `Unmarked` or another one
 unmarked_or_not : (m : Mark) → (m ≡ Unmarked) ⊎ (m ≢ Unmarked)
 unmarked_or_not Unmarked = inl refl
 unmarked_or_not Plain = inr (λ e. cc)

@@ -45,7 +45,7 @@ pub record SoundBy (marks : List Mark) (spans : List RetiredSpan) (chunks : List
   pub good : Good view marks spans
   pub stopped : AreStopped view marks chunks
 
--- by a world's marks and retired spans
+-- what every view keeps (`SoundBy`), by a world's marks and retired spans
 abbrev pub Sound : World → List Chunk → List ℕ → Type 0
 Sound w chunks view = SoundBy w.marked.marks w.retired chunks view
 
@@ -95,7 +95,7 @@ stop_put w chunks at new view r inside s =
 
 -- ---- one byte
 
--- the byte may be put
+-- the byte of a new instruction of one byte may be put
 byte_put : (w : World) (chunks : List Chunk) (at byte : ℕ) (view : List ℕ) → Replaces w chunks at (byte ∷ []) → InRegion view at
     → length view ≡ length (changed w.marked at (byte ∷ [])).bytes → byte_at (changed w.marked at (byte ∷ [])).bytes at ≡ byte
     → Sound w chunks view → Sound w chunks (set view (at - 65536) byte)
@@ -172,7 +172,7 @@ none_inside w chunks at new r now m low high =
       | inr b ↦ omega (arith, b, high)
     ]
 
--- no instruction has one of its further bytes
+-- while the further bytes of a new instruction are put, no instruction has one of their places
 open_clear : (w : World) (chunks : List Chunk) (at : ℕ) (new view : List ℕ) (here : ℕ) → Replaces w chunks at new
     → Open w chunks at view → at < here → here < at + length new → (now : State) (i : Instr) (k : ℕ) → IsMarked w.marked.marks now
     → instruction_at view now.place ≡ Some i → k < i.len → now.place + k ≢ here

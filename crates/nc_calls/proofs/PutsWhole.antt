@@ -59,7 +59,7 @@ whole_put_marked marks spans view text there byte good low marked rest = λ now 
           is)
     ]
 
--- the byte that is put is the same in both
+-- a byte put at a place of a view and of a text stands there in both
 pub put_in_both : (view text : List ℕ) (at byte k : ℕ) → InRegion view at → InRegion text at → k < 1
     → byte_at (set text (at - 65536) byte) (at + k) ≡ byte_at (set view (at - 65536) byte) (at + k)
 put_in_both view text at byte k inside within none =

@@ -36,7 +36,7 @@ use Rattle.nc_calls.proofs.Woven.{Woven, seated, writer_more, thread_more}
 
 -- ---- in a world
 
--- each frees a span that is there then, with a stamp of at most this number
+-- each of the events frees a span that is there then, with a stamp of at most this number
 abbrev pub FreesMay : List RetiredSpan → ℕ → List Event → Type 0
 FreesMay spans least [] = ⊤
 FreesMay spans least (Frees span ∷ events) =
@@ -85,7 +85,7 @@ frees_woven (Frees span ∷ events) w seats known keeps range knows may threads 
 
 -- ---- members of a filtered list
 
--- what a test keeps of a list was there, and passes
+-- a member of a filtered list is a member of the list, and passes the test
 filter_from : {X : Type 0} (p : X → Bool) (xs : List X) (x : X) → Contains (filter p xs) x → Contains xs x × (p x ≡ true)
 filter_from p xs x has = (
   All-contains (Contains xs) (filter p xs) x (All-filter p (Contains xs) xs (All-contains_itself xs)) has,
@@ -93,25 +93,25 @@ filter_from p xs x has = (
       (λ y. p y ≡ true) (filter p xs) x (filter_passes p xs) has,
 )
 
--- a member that passes is kept at the head
+-- a filtered list contains the first member of the list if it passes the test
 filter_head : {X : Type 0} (p : X → Bool) (y x : X) (rest : List X) (b : Bool) → p y ≡ b → y ≡ x → p x ≡ true
     → Contains (cond b (y ∷ rest) rest) x
 filter_head p y x rest true e same is = subst (Contains (y ∷ rest)) same (Contains-append_left (y ∷ []) rest y (Contains-push [] y))
 filter_head p y x rest false e same is = absurd (false≢true (sym e ∙ (ap p same ∙ is)))
 
--- what the rest keeps is kept
+-- a filtered list contains what the filtered rest of the list contains
 filter_later : {X : Type 0} (y x : X) (rest : List X) (b : Bool) → Contains rest x → Contains (cond b (y ∷ rest) rest) x
 filter_later y x rest true h = Contains-append_right (y ∷ []) rest x h
 filter_later y x rest false h = h
 
--- what was there and passes is kept, by its index
+-- a filtered list contains a member of the list that passes the test, by the member's index
 filter_at : {X : Type 0} (p : X → Bool) (xs : List X) (x : X) (k : ℕ) → k < length xs → get_or xs k x ≡ x → p x ≡ true
     → Contains (filter p xs) x
 filter_at p [] x k lt e is = absurd (omega arith)
 filter_at p (y ∷ ys) x zero lt e is = filter_head p y x (filter p ys) (p y) refl e is
 filter_at p (y ∷ ys) x (suc k) lt e is = filter_later y x (filter p ys) (p y) (filter_at p ys x k (omega (arith, lt)) e is)
 
--- what was in a list and passes a test is kept
+-- a filtered list contains each member of the list that passes the test
 filter_to : {X : Type 0} (p : X → Bool) (xs : List X) (x : X) → Contains xs x → p x ≡ true → Contains (filter p xs) x
 filter_to p xs x has is = filter_at p xs x has.0 has.1 has.2 is
 
@@ -126,7 +126,7 @@ same_base a b e =
           (false≢true (sym (ap (λ (x : Bool). (x && (a.length == b.length)) && (a.stamp == b.stamp)) other.0) ∙ e))
     ]
 
--- spans of another base are others
+-- retired spans with different bases aren't found to be the same
 other_span : (a b : RetiredSpan) → a.base ≢ b.base → is_same_span a b ≡ false
 other_span a b ne = go (is_same_span a b) refl
   where

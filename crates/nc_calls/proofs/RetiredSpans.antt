@@ -144,6 +144,6 @@ same_spans_retired spans chunks k c stamp lt here live same = λ span.
           ],
     )
 
--- a span lies beside a place and those behind it, so many as the length says
+-- a retired span of the region lies beside the `len` places from `base` on
 abbrev pub IsBeside : ℕ → ℕ → RetiredSpan → Type 0
 IsBeside base len span = (65536 ≤ span.base) × ((span.base + span.length ≤ base) ⊎ (base + len ≤ span.base))

@@ -10,7 +10,7 @@ use Rattle.nc_calls.proofs.Entries.{events_of, instruction_events, patch_events}
 
 module _ (P : List Event → Type 0) (put : (at byte : ℕ) (more : List Event) → P more → P (Puts at byte ∷ more))
     (settled : (more : List Event) → P more → P (Settles ∷ more)) where
-  -- puts before others keep it
+  -- puts before other events keep P
   pub puts_keep : (d : Details) (chosen : ℕ → Bool) (at : ℕ) (bytes : List ℕ) (more : List Event) → P more
       → P (events_of d (puts_where chosen at bytes) ++ more)
   puts_keep d chosen at [] more p = p
@@ -21,7 +21,7 @@ module _ (P : List Event → Type 0) (put : (at byte : ℕ) (more : List Event) 
       go true q = put at byte (events_of d (puts_where chosen (at + 1) rest) ++ more) q
       go false q = q
 
-  -- an instruction of a patch keeps it
+  -- an instruction of a patch, before other events, keeps P
   instruction_keeps : (at : ℕ) (bytes : List ℕ) (more : List Event) → P more → P (instruction_events at bytes ++ more)
   instruction_keeps at [] more p = p
   instruction_keeps at (byte ∷ []) more p = put at byte more p
@@ -32,12 +32,12 @@ module _ (P : List Event → Type 0) (put : (at byte : ℕ) (more : List Event) 
       (puts_keep no_details any_place (at + 1) (next ∷ rest) (Settles ∷ Puts at byte ∷ more)
       (settled (Puts at byte ∷ more) (put at byte more p)))))
 
-  -- an instruction keeps it, put or not
+  -- an instruction of a patch, put or left as it stands, keeps P before other events
   turn_keeps : (b : Bool) (at : ℕ) (bytes : List ℕ) (more : List Event) → P more → P (cond b [] (instruction_events at bytes) ++ more)
   turn_keeps true at bytes more p = p
   turn_keeps false at bytes more p = instruction_keeps at bytes more p
 
-  -- all instructions of a patch keep it
+  -- all instructions of a patch keep P
   pub patch_keeps : P [] → (text : List ℕ) (at : ℕ) (news : List Piece) → P (patch_events text at news)
   patch_keeps none text at [] = none
   patch_keeps none text at (n ∷ ns) =

@@ -19,7 +19,7 @@ use Rattle.nc_calls.specs.Whole.{StoodWhole}
 abbrev pub AllStoodWhole : List Mark → List ℕ → List (List ℕ) → Type 0
 AllStoodWhole marks text earlier = (now : State) → IsMarked marks now → StoodWhole text earlier now.place
 
--- where nothing was put since the last settling, it stands there now
+-- where nothing was put since the last settling, what views have at marked places stood there whole
 pub whole_settled : (marks : List Mark) (text : List ℕ) → AllStoodWhole marks text []
 whole_settled marks text = λ now m view i v is.
     let same : view ≡ text = only_as_it_stands text view v in (

@@ -12,7 +12,7 @@ use Rattle.nc_calls.proofs.Whole.{StaysWhole, whole_first}
 abbrev pub seated : World → List Seat → World
 seated w seats = record w { seats = seats }
 
--- each is a put, a settling, a marking, or draws a stamp
+-- each of the events is a put, a settling or a marking, or raises the generation
 abbrev pub ArePlain : List Event → Type 0
 ArePlain [] = ⊤
 ArePlain (Puts at byte ∷ events) = ArePlain events
@@ -22,7 +22,7 @@ ArePlain (Bumps ∷ events) = ArePlain events
 ArePlain (Retires base len ∷ events) = ArePlain events
 ArePlain (event ∷ events) = ⊥
 
--- All are allowed, and the world afterwards is the one that the writer's events leave, but for the seats. If what views have at
+-- Events that are allowed, and after which the world is the one that the writer's events leave, but for the seats. If what views have at
 -- marked places stood there whole after each of the writer's events, it did after every event.
 pub record Woven (w : World) (seats : List Seat) (events : List Event) : Type 0 where
   pub allowed : AreAllowed (seated w seats) events

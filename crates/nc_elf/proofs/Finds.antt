@@ -22,7 +22,7 @@ find_here {X} p f a (suc n) i le lt fails passes =
           ∙ find_here p f (a + 1) n i (omega (arith, differ)) (omega arith) (λ j l. fails j (omega (arith, l))) passes
     ]
 
--- none is found where all fail
+-- no element is found where all fail
 pub find_nowhere : {X : Type 0} (p : X → Bool) (f : ℕ → X) (a n : ℕ) → ((j : ℕ) → a ≤ j → j < a + n → p (f j) ≡ false)
     → find p (map f (range_with_len a n)) ≡ None
 find_nowhere p f a zero fails = refl

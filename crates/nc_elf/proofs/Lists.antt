@@ -30,7 +30,7 @@ module _ {X : Type 0} (chosen : ProgramHeader → Bool) (of : ProgramHeader → 
   more_chosen file i e =
       ap (λ (hs : List ProgramHeader). map of hs) (more_headers file i true e) ∙ map-append of _ (program_header file i ∷ [])
 
-  -- any other header adds nothing
+  -- a header that isn't chosen adds nothing
   pub more_passed : (file : List ℕ) (i : ℕ) → chosen (program_header file i) ≡ false → named file (i + 1) ≡ named file i
   more_passed file i e =
       ap (λ (hs : List ProgramHeader). map of hs) (more_headers file i false e ∙ append-nil _)

@@ -16,7 +16,7 @@ more_loaded = more_chosen is_present loaded_of
 pub more_absent : (file : List ℕ) (i : ℕ) → is_present (program_header file i) ≡ false → first_loaded file (i + 1) ≡ first_loaded file i
 more_absent = more_passed is_present loaded_of
 
--- one more header adds at most one segment, and none is lost
+-- no fewer segments are named with one more header
 one_longer : (file : List ℕ) (i : ℕ) → length (first_loaded file i) ≤ length (first_loaded file (i + 1))
 one_longer file i =
     elim (cases_Bool (is_present (program_header file i))) [

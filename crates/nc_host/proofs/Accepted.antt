@@ -26,7 +26,7 @@ some_fault (Bare at) = omega arith
 some_fault (BadTarget at) = omega arith
 some_fault OutOfMemory = omega arith
 
--- nothing is wrong with its span
+-- the span of an accepted chunk is good
 pub good_span : (base limit : ℕ) (code : List ℕ) (marks : List Mark) → IsAccepted base limit code marks → HasGoodSpan base limit (length code)
 good_span base limit code marks v =
     record { lawful = v.range.0; start = v.base_is.0; whole = v.length_is.1; some = v.length_is.0; low = v.base_is.1; high = v.range.1 }

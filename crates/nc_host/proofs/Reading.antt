@@ -43,7 +43,7 @@ instr_back i = rw (flow_back i.flow, register_back i.masks) refl
 pub same_instr : (i j : Instr) → instruction_of i ≡ instruction_of j → i ≡ j
 same_instr i j e = sym (instr_back i) ∙ (ap instr_of e ∙ instr_back j)
 
--- the same answer tells the same instruction
+-- answers with an instruction are equal only if the instructions are
 pub same_ok : (i j : Instr) → ◌≡◌ {A = Result Instr DecodeFault} (Ok i) (Ok j) → i ≡ j
 same_ok i j e = cc
 
@@ -54,7 +54,7 @@ not_both r f i a b = cc
 pub one_fault : (r : Result Instr DecodeFault) → r ≡ Err Truncated → r ≡ Err NotPermitted → ⊥
 one_fault r a b = cc
 
--- none for one fault isn't none for another
+-- what is read where there is no instruction tells the fault
 pub one_number : (a b : ℕ) → no_instruction a ≡ no_instruction b → a ≡ b
 one_number a b e = ap (λ (n : NcInstruction). n.fault) e
 

@@ -221,7 +221,7 @@ fetch_there limit seats host l =
 pub fetch_whole : (bundles seats : ℕ) (host : Host) → IsReached bundles seats host → AllFetchWhole host.world
 fetch_whole bundles seats host reached = fetch_there (65536 + 32 * bundles) seats host (led bundles seats host reached)
 
--- none is in a span that is freed next
+-- no thread of a host is in a span that is freed next
 freed_there : (limit seats : ℕ) (host : Host) (span : RetiredSpan) (later : List Event) → Led limit seats host
     → host.pending ≡ Frees span ∷ later → NoneIsWithin host.world span
 freed_there limit seats host span later l is =

@@ -30,7 +30,7 @@ IsWriters event = is_writers event ≡ true
 pub all_front : {X : Type 0} (P : X → Type 0) (xs ys : List X) → All P (xs ++ ys) → All P xs
 all_front P xs ys all = subst (All P) (take_at xs ys (length xs) refl) (All-take P (length xs) (xs ++ ys) all)
 
--- the writer's events among its own are all of them
+-- where all events are the writer's, the writer's events among them are all of them
 pub writers_all : (events : List Event) → All IsWriters events → writers events ≡ events
 writers_all [] all = refl
 writers_all (event ∷ events) all =

@@ -138,15 +138,15 @@ kept_is_all n kept part e l =
     let fits = kept_fits n kept part e l in
     e ∙ take_all (n + 1) part (omega arith)
 
--- a part of which no more is kept is short
+-- a part of which at most n bytes are kept has at most n bytes
 pub kept_is_short : (n : ℕ) (kept part : List ℕ) → kept ≡ take (n + 1) part → length kept ≤ n → length part ≤ n
 kept_is_short = kept_fits
 
--- a part of which more is kept is long
+-- a part of which more than n bytes are kept has more than n bytes
 pub kept_is_long : (n : ℕ) (kept part : List ℕ) → kept ≡ take (n + 1) part → n < length kept → n < length part
 kept_is_long n kept part e l = omega (arith, ap length e ∙ length-take (n + 1) part)
 
--- no more bytes are taken than there are
+-- k bytes of a list, or all of its bytes if it has fewer, are what `take k` takes
 take-min : (k : ℕ) (xs : List ℕ) → take (min k (length xs)) xs ≡ take k xs
 take-min k xs = ⊎_elim
     (λ (l : k < length xs). ap (λ (n : ℕ). take n xs) (omega arith))

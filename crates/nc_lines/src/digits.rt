@@ -74,7 +74,7 @@ fn values_of(digits: u8x16) -> u8x16
     ensures { result ≡ map lane_value digits }
 {
     let decimal = digits - u8x16::splat(b'0');
-    // This bit makes upper case lower case, and no letter of a byte that is none.
+    // The bit 0x20 makes upper case lower case, and no letter of a byte that is none.
     let letter = (digits | u8x16::splat(0x20)) - u8x16::splat(b'a');
     // At most 255, so the sum doesn't wrap.
     let from_ten = letter.simd_min(u8x16::splat(245)) + u8x16::splat(10);

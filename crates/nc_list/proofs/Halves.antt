@@ -22,7 +22,7 @@ cut_starts parts starts cut n are lt is =
 cut_long : (parts : List (List Chunk)) (cut : ℕ) → cut < length parts → length (starts_of 0 (take cut parts)) ≡ cut
 cut_long parts cut lt = starts_long 0 (take cut parts) ∙ length-take-le cut parts (omega (arith, lt))
 
--- none from the cut on is lower
+-- no start from a cut on is lower than the one at the cut
 pub cut_enough : (parts : List (List Chunk)) (starts : List ℕ) (cut n : ℕ) → starts ≡ starts_of 0 parts → cut < length parts
     → n ≡ get_or starts cut 0 → Each (λ (m : ℕ). n ≤ m) (drop cut starts)
 cut_enough parts starts cut n are lt is =
@@ -36,7 +36,7 @@ cut_enough parts starts cut n are lt is =
 cut_all : (parts : List (List Chunk)) (cut : ℕ) → all_of parts ≡ all_of (take cut parts) ++ all_of (drop cut parts)
 cut_all parts cut = ap all_of (sym (take-append-drop cut parts)) ∙ all_append (take cut parts) (drop cut parts)
 
--- parts with chunks have some
+-- parts of which there are some, each with a chunk, have a chunk
 some_all : (parts : List (List Chunk)) → 0 < length parts → Each (λ (p : List Chunk). 0 < length p) parts → 0 < length (all_of parts)
 some_all [] some each = absurd (omega (arith, some))
 some_all (p ∷ parts) some each = omega (arith, each.0, length-append p (all_of parts))
@@ -45,7 +45,7 @@ begins_front : (first : ℕ) (xs ys : List Chunk) → 0 < length xs → BeginsAt
 begins_front first [] ys some begins = absurd (omega (arith, some))
 begins_front first (c ∷ xs) ys some begins = begins
 
--- the chunks before the cut are as many as the number there
+-- the chunks before a cut are as many as the start there says
 cut_count : (parts : List (List Chunk)) (starts : List ℕ) (cut n : ℕ) → starts ≡ starts_of 0 parts → cut < length parts
     → n ≡ get_or starts cut 0 → n ≡ length (all_of (take cut parts))
 cut_count parts starts cut n are lt is = omega (arith, is, ap (λ (z : List ℕ). get_or z cut 0) are, starts_get 0 parts cut 0 lt)
@@ -135,7 +135,7 @@ rows_joined lower upper starts also count more first other oldest late low row n
   since = subst (AreSince low) (sym (all_append lower upper)) (since_both low oldest late (all_of lower) (all_of upper) le behind row.since next.since);
 }
 
--- each start of a row fits behind so many chunks
+-- each start of a row plus a number is below a bound if the number of all chunks plus it is
 pub starts_fit : (parts : List (List Chunk)) (starts : List ℕ) (count most : ℕ) → starts ≡ starts_of 0 parts
     → length (all_of parts) + count < most → Each (λ (n : ℕ). n + count < most) starts
 starts_fit parts starts count most are few =

@@ -17,7 +17,7 @@ one_more : (least : ℕ) (c : Chunk) (cs : List Chunk) (b : Bool) → is_due lea
 one_more least c cs true is so = rw is (omega (arith, so))
 one_more least c cs false is so = rw is (omega (arith, so))
 
--- each chunk is due or it isn't
+-- the chunks that are kept and those that are freed are together as many as all
 kept_and_freed : (least : ℕ) (cs : List Chunk) → length cs ≡ length (kept least cs) + length (freed least cs)
 kept_and_freed least [] = refl
 kept_and_freed least (c ∷ cs) = one_more least c cs (is_due least c.state) refl (kept_and_freed least cs)

@@ -42,7 +42,7 @@ pub starts_long : (from : ℕ) (xs : List (List Chunk)) → length (starts_of fr
 starts_long from [] = refl
 starts_long from (p ∷ xs) = ap suc (starts_long (from + length p) xs)
 
--- none is lower than the first
+-- no start is lower than the first
 pub starts_low : (from : ℕ) (xs : List (List Chunk)) → Each (λ (n : ℕ). from ≤ n) (starts_of from xs)
 starts_low from [] = tt
 starts_low from (p ∷ xs) = (
@@ -51,7 +51,7 @@ starts_low from (p ∷ xs) = (
       (starts_low (from + length p) xs),
 )
 
--- none is higher than the number of chunks
+-- no start is higher than the first one plus the number of chunks
 pub starts_high : (from : ℕ) (xs : List (List Chunk)) → Each (λ (n : ℕ). n ≤ from + length (all_of xs)) (starts_of from xs)
 starts_high from [] = tt
 starts_high from (p ∷ xs) = (
@@ -60,7 +60,7 @@ starts_high from (p ∷ xs) = (
       (λ n h. omega (arith, h, length-append p (all_of xs))) (starts_of (from + length p) xs) (starts_high (from + length p) xs),
 )
 
--- the one at an index
+-- the start at an index is the first one plus the number of chunks in the parts before it
 pub starts_get : (from : ℕ) (xs : List (List Chunk)) (k d : ℕ) → k < length xs
     → get_or (starts_of from xs) k d ≡ from + length (all_of (take k xs))
 starts_get from [] k d lt = absurd (omega (arith, lt))

@@ -84,7 +84,7 @@ lowered parts starts k by new lt are fewer =
     ∙ (append_assoc before (n ∷ []) (starts_of (n + length new) after)
     ∙ sym (ap (starts_of 0) (around_set parts k new lt) ∙ starts_around (take k parts) new after n count)))))
 
--- what is behind the part is enough to take from
+-- each start behind a part is at least as high as the number of chunks to take from the part
 pub enough_behind : (parts : List (List Chunk)) (starts : List ℕ) (k by : ℕ) → k < length parts → starts ≡ starts_of 0 parts
     → by ≤ length (get_or parts k []) → Each (λ (n : ℕ). by ≤ n) (drop (k + 1) starts)
 enough_behind parts starts k by lt are le =
@@ -97,7 +97,7 @@ enough_behind parts starts k by lt are le =
     (each_map (λ (m : ℕ). n + length (get_or parts k []) ≤ m) (λ (m : ℕ). by ≤ m) (λ m h. omega (arith, h, le)) rest
     (starts_low (n + length (get_or parts k [])) after))
 
--- the starts where a part has as many
+-- the starts stay where a part is set to one with as many chunks
 pub starts_stay : (parts : List (List Chunk)) (k : ℕ) (new : List Chunk) → k < length parts → length new ≡ length (get_or parts k [])
     → starts_of 0 parts ≡ starts_of 0 (set parts k new)
 starts_stay parts k new lt same =
@@ -107,12 +107,12 @@ starts_stay parts k new lt same =
     ∙ (ap (λ (m : ℕ). starts_of 0 (take k parts) ++ n ∷ starts_of (n + m) (drop (suc k) parts)) (sym same)
     ∙ sym (ap (starts_of 0) (around_set parts k new lt) ∙ starts_around (take k parts) new (drop (suc k) parts) n refl)))
 
--- each part still has a chunk
+-- each part still has a chunk where one is set to a part with a chunk
 pub set_have : (parts : List (List Chunk)) (k : ℕ) (new : List Chunk) → HaveSome parts → 0 < length new → HaveSome (set parts k new)
 set_have parts k new have some = λ several.
     each_set (λ (p : List Chunk). 0 < length p) parts k new (have (omega (arith, several, length-set parts k new))) some
 
--- all but that part still have one
+-- all other parts still have a chunk where one part is set
 pub set_others : (parts : List (List Chunk)) (k : ℕ) (new : List Chunk) → HaveSome parts → OthersHaveSome (set parts k new) k
 set_others parts k new have = λ several.
     let all = have (omega (arith, several, length-set parts k new)) in (
@@ -121,7 +121,7 @@ set_others parts k new have = λ several.
           (each_drop (λ (p : List Chunk). 0 < length p) (k + 1) parts all),
     )
 
--- the first base of all
+-- the first base of all parts is that of the first one
 pub begins_all : (parts : List (List Chunk)) (first : ℕ) → 0 < length parts → HaveSome parts → BeginsAt first (get_or parts 0 [])
     → BeginsAt first (all_of parts)
 begins_all [] first some have begins = absurd (omega (arith, some))
@@ -323,14 +323,14 @@ next_all parts k at c for so =
     subst (λ (z : List (List Chunk)). IsNextChunk (all_of z) at c) (sym (around parts k [] for.inside))
     (next_within (take k parts) (get_or parts k []) (drop (suc k) parts) at c for.below so)
 
--- all chunks up to that part end at or below the place
+-- all chunks up to the part for a place end at or below the place if those of the part do
 pub passed_all : (parts : List (List Chunk)) (k at : ℕ) → IsPartFor parts k at → IsAboveAll at (get_or parts k [])
     → IsAboveAll at (all_of (take (k + 1) parts))
 passed_all parts k at for below =
     subst (IsAboveAll at) (sym (all_more parts k for.inside))
     (each_append (λ (d : Chunk). d.base + d.length ≤ at) (all_of (take k parts)) (get_or parts k []) for.below below)
 
--- the first of the next part
+-- the first chunk of the next part is the next chunk of a place, if all before it end at or below the place
 first_next : (before : List (List Chunk)) (here : List Chunk) (after : List (List Chunk)) (at : ℕ) (c : Chunk)
     → IsAboveAll at (all_of before) → 0 < length here → c ≡ get_or here 0 c → BeginAbove at (here ++ all_of after)
     → IsNextChunk (all_of (before ++ here ∷ after)) at c

@@ -16,7 +16,7 @@ freed_append least xs ys = filter-append (λ (c : Chunk). is_due least c.state) 
 pub kept_append : (least : ℕ) (xs ys : List Chunk) → kept least (xs ++ ys) ≡ kept least xs ++ kept least ys
 kept_append least xs ys = filter-append (λ (c : Chunk). not (is_due least c.state)) xs ys
 
--- a chunk that is due is all of its list's due ones
+-- the due chunks of a list of one chunk that is due are that chunk
 freed_is : (least : ℕ) (c : Chunk) → is_due least c.state ≡ true → freed least (c ∷ []) ≡ c ∷ []
 freed_is least c is = rw is refl
 
@@ -33,12 +33,13 @@ kept_not least c is = rw is refl
 cons_none : (c : Chunk) (cs : List Chunk) → c ∷ cs ≡ [] → ⊥
 cons_none c cs is = omega (arith, ap (λ (z : List Chunk). length z) is)
 
--- where none is due all stay
+-- where no chunk is due, the first one isn't, and none of the others is
 stay_first : (least : ℕ) (c : Chunk) (cs : List Chunk) {b : Bool} → is_due least c.state ≡ b → freed least (c ∷ cs) ≡ []
     → (is_due least c.state ≡ false) × (freed least cs ≡ [])
 stay_first least c cs {b = true} is none = absurd (cons_none c (freed least cs) (sym (ap (λ (t : Bool). if t then c ∷ freed least cs else freed least cs) is) ∙ none))
 stay_first least c cs {b = false} is none = (is, sym (ap (λ (t : Bool). if t then c ∷ freed least cs else freed least cs) is) ∙ none)
 
+-- where no chunk is due all stay
 pub all_stay : (least : ℕ) (cs : List Chunk) → freed least cs ≡ [] → kept least cs ≡ cs
 all_stay least [] none = refl
 all_stay least (c ∷ cs) none =
@@ -143,11 +144,11 @@ gone_all most least old new taken some so = record {
       ∙ (sym so.taken_are ∙ none);
 }
 
--- none is taken where none is due
+-- no chunk is taken where none is due
 pub taken_none : (least : ℕ) (cs : List Chunk) → freed least cs ≡ [] → AreTaken least cs cs []
 taken_none least cs none = record { front = []; back = cs; was = refl; now = refl; taken_are = refl; none = λ e. none }
 
--- where none was taken all stay
+-- where no chunk was taken all stay
 pub taken_nothing : (least : ℕ) (old new : List Chunk) → AreTaken least old new [] → new ≡ old
 taken_nothing least old new so =
     so.now ∙ (ap (λ (z : List Chunk). z ++ so.back) (all_stay least so.front (sym so.taken_are)) ∙ sym so.was)

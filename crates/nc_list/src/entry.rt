@@ -99,14 +99,14 @@ impl Entry {
         self.length
     }
 
-    /// Its stamp, or the greatest number if it is live.
+    /// The chunk's stamp, or the greatest number if it is live.
     pub(crate) fn stamp(self) -> u64
         ensures { IsSince result self.state }
     {
         self.stamp
     }
 
-    /// It is retired with a stamp of at most this number.
+    /// The chunk is retired with a stamp of at most this number.
     pub(crate) fn is_due(self, least: u64) -> bool
         requires { least < 2 ^ 64 - 1 }
         ensures { result ≡ is_due least self.state }

@@ -5,7 +5,7 @@ ghost use Rattle.nc_list.specs.Each.{Each};
 
 use std::alloc::AllocError;
 
-/// One chunk more stands before each part behind this one.
+/// One chunk more stands before each part behind part `k`.
 pub(crate) fn raise(starts: &mut [u32], k: usize)
     requires inside { k < length starts.old }
     requires few { Each (λ (n : ℕ). n < 2 ^ 32 - 1) starts.old }
@@ -16,7 +16,7 @@ pub(crate) fn raise(starts: &mut [u32], k: usize)
     }
 }
 
-/// So many chunks less stand before each part behind this one.
+/// `count` chunks less stand before each part behind part `k`.
 pub(crate) fn lower(starts: &mut [u32], k: usize, count: u32)
     requires inside { k < length starts.old }
     requires enough { Each (λ (n : ℕ). count ≤ n) (drop (k + 1) starts.old) }
@@ -41,7 +41,7 @@ pub(crate) fn split_starts(starts: &Vec<u32>, cut: usize) -> Result<Vec<u32>, Al
     Ok(upper)
 }
 
-/// Adds the numbers of more parts, behind so many chunks.
+/// Adds the numbers of more parts, behind `count` chunks.
 pub(crate) fn join_starts(
     starts: &mut Vec<u32>,
     upper: &Vec<u32>,

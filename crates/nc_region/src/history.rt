@@ -21,10 +21,10 @@ impl Model for History {
     ghost also_owns = { λ _. ftrue };
 }
 
-// It owns nothing.
+// A history owns nothing.
 unsafe impl Send for History {}
 
-// It owns nothing.
+// A history owns nothing.
 unsafe impl Sync for History {}
 
 /// What is noted at once.

@@ -53,8 +53,9 @@ fn free_many<A: Acts>(acts: &mut A, chunks: &mut ChunkList, least: u64)
     }
 }
 
-/// Does the same, `FEW` at once. Once so many were taken, `free_many` goes on. It isn't inlined, so that its room costs nothing where
-/// none is due.
+/// Unmarks the span of each retired chunk of the list with a stamp of at most this number, in ascending order, and removes these
+/// chunks, `FEW` at once. Once `FEW` were taken, `free_many` goes on. It isn't inlined, so that its room costs nothing where none is
+/// due.
 #[inline(never)]
 fn free_few<A: Acts>(acts: &mut A, chunks: &mut ChunkList, least: u64)
     requires region { IsRegion (A.marked acts.old) chunks.old }

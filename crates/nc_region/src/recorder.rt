@@ -64,7 +64,7 @@ impl<A: Acts + Drop> Recorder<A> {
     fn record(&mut self, entry: Entry)
         ensures acts { self.new.acts ≡ self.old.acts }
         ensures logged { Logs self.old.history.entries self.new.history.entries (entry ∷ []) }
-        // It goes on exactly if it did before and there was room.
+        // The recorder goes on exactly if it did before and there was room.
         ensures goes_on { (self.new.full ≡ false) ↔ ((self.old.full ≡ false)
             × (vec_len self.old.entries < vec_capacity self.old.entries)) }
     {

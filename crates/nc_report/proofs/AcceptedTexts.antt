@@ -26,7 +26,7 @@ accepted chunk s name old out a none = record {
       ∙ ap (λ (n : ℕ). accepted_text s.detail s.format chunk.base name (length chunk.code) n a.rows) a.has.counted;
 }
 
--- so it is where nothing is written of it
+-- in brief nothing is written of an accepted source
 pub adds_none : (chunk : MarkedChunk) (s : Style) (name out : List ℕ) → IsValid chunk → s.detail ≡ Brief → AddsAccepted out out s name chunk
 adds_none chunk s name out v e = record {
   valid = v;
@@ -38,7 +38,7 @@ adds_none chunk s name out v e = record {
       (sym (append-nil out));
 }
 
--- and where its verdict is written, and what is asked for of its transfers
+-- of an accepted source its verdict is written, and what is asked for of its transfers, unless in brief
 pub adds_ok : (chunk : MarkedChunk) (s : Style) (name old mid late new : List ℕ) (count : ℕ) → HasInstructions chunk.code count → IsValid chunk
     → s.detail ≢ Brief → mid ≡ old ++ ok_text s.format chunk.base name (length chunk.code) count
     → ((pieces : List Piece) → AreSpelled pieces → chunk.code ≡ code_of pieces → AddsCalls s.detail s.format mid late chunk.base pieces)

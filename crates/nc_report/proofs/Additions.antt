@@ -72,7 +72,7 @@ writes_none before out P p = record {
   kept = sym (append-nil out);
 }
 
--- what was added says what it has to
+-- what was added says what follows from what it says
 pub writes_so : (before after : Option (List ℕ)) (old new : List ℕ) (P Q : List ℕ → Type 0) → ((text : List ℕ) → P text → Q text)
     → WritesOn before after old new P → WritesOn before after old new Q
 writes_so before after old new P Q f w =
@@ -120,7 +120,7 @@ cut_here before after old out P Q f w =
       written = w.written;
     }
 
--- so it is where some of what is kept was written
+-- where a front of what is kept was written too, what is written so far is a prefix, if the text can be completed
 pub cut_in : (before mid after : Option (List ℕ)) (old out added : List ℕ) (n : ℕ) (P Q R : List ℕ → Type 0)
     → ((a b : List ℕ) → P a → Q b → (more : List ℕ) × R ((a ++ b) ++ more)) → WritesOn before mid old out P → Adds out added Q
     → Appends mid after (take n added) → HasBegun (After old R) before after
@@ -181,7 +181,7 @@ begun_after before after old P Q f = begun_so (After old P) (After old Q) before
         let (more, q) = f text p in
         (more, (text ++ more, q, ap (λ (z : List ℕ). z ++ more) e ∙ append_assoc old text more))
 
--- so it is where the other text has been added to
+-- a prefix of text after text that was added, where both together can be completed
 pub begun_later : (before after : Option (List ℕ)) (old mid : List ℕ) (P Q R : List ℕ → Type 0)
     → ((a b : List ℕ) → P a → Q b → (more : List ℕ) × R ((a ++ b) ++ more)) → Adds old mid P → HasBegun (After mid Q) before after
     → HasBegun (After old R) before after

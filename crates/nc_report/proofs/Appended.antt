@@ -37,7 +37,7 @@ one_written f xs old now next i d lt e n =
     (sym (ap (flat_map f) (take_more xs i d lt) ∙ flat_map-append f (take i xs) (x ∷ [])
     ∙ ap (λ (z : List ℕ). flat_map f (take i xs) ++ z) (append-nil (f x))))
 
--- so all bytes were
+-- once the bytes up to the last one were written, all were
 pub all_written : (f : ℕ → List ℕ) (xs old now : List ℕ) (i : ℕ) → length xs ≤ i → now ≡ old ++ flat_map f (take i xs)
     → now ≡ old ++ flat_map f xs
 all_written f xs old now i le e = e ∙ ap (λ (z : List ℕ). old ++ flat_map f z) (take_all i xs le)

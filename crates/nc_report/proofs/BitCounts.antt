@@ -58,7 +58,7 @@ low_bit n i lt =
 abbrev pub word : Bundle → ℕ
 word w = bit_or (bit_or (w.ends * 2 % 4294967296) 1) (w.pairs / 2)
 
--- its bits
+-- a bit of the word of a bundle says whether an instruction begins there
 word_bit : (w : Bundle) (i : ℕ) → i < 32 → bit_at (word w) i ≡ cond (begins_at w i) 1 0
 word_bit w zero lt =
     bit_at_or (bit_or (w.ends * 2 % 4294967296) 1) (w.pairs / 2) 0
@@ -86,7 +86,7 @@ get_range p a zero i lt = absurd (omega (arith, lt))
 get_range p a (suc n) zero lt = ap p (omega arith)
 get_range p a (suc n) (suc i) lt = get_range p (a + 1) n i (omega (arith, lt)) ∙ ap p (omega arith)
 
--- the ones of the word are the instructions that begin
+-- the word of a bundle has as many ones as instructions begin in the bundle
 pub ones_begun : (w : Bundle) → w.pairs < 4294967296 → count_ones (word w) ≡ begun_in w
 unfolding begun_in
 ones_begun w small =
@@ -103,7 +103,7 @@ ones_begun w small =
     (mask_l-lt (map p places)) bits in
     ap count_ones same ∙ ones-mask_l p places
 
--- and are no more than there are places
+-- at most 32 instructions begin in a bundle
 pub begun_small : (w : Bundle) → begun_in w ≤ 32
 unfolding begun_in
 begun_small w = count_by-le-length (begins_at w) (range_with_len 0 32)

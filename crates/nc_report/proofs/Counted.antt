@@ -26,7 +26,7 @@ one_counted p =
     ∙ ap (λ (n : ℕ). n + sum_by one (replicate (p.instr.len - 1) Unmarked)) (marked_first (is_indirect p.instr.flow) p.instr.reg)
     ∙ ap (λ (n : ℕ). 1 + n) (none_counted (p.instr.len - 1))
 
--- so instructions have as many marks as there are
+-- the marks of instructions count as many as there are instructions
 pub all_counted : (pieces : List Piece) → sum_by one (marks_of pieces) ≡ length pieces
 all_counted [] = refl
 all_counted (p ∷ ps) =

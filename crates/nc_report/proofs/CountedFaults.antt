@@ -25,11 +25,11 @@ range_more a n = ap (range_with_len a) (add-one n) ∙ range_next a n
 pub range_to : (n : ℕ) → range_with_len 0 (n + 1) ≡ range_with_len 0 n ++ n ∷ []
 range_to n = range_more 0 n ∙ ap (λ (k : ℕ). range_with_len 0 n ++ k ∷ []) (omega arith)
 
--- one number more is counted
+-- with one number more, one more is counted if it passes
 pub count_more : (p : ℕ → Bool) (n : ℕ) → count_by p (range_with_len 0 (n + 1)) ≡ count_by p (range_with_len 0 n) + cond (p n) 1 0
 count_more p n = ap (λ (ks : List ℕ). count_by p ks) (range_to n) ∙ sum_by_push (λ (k : ℕ). cond (p k) 1 0) (range_with_len 0 n) n
 
--- no more are counted than there are
+-- of the first n numbers at most n are counted
 pub count_small : (p : ℕ → Bool) (n : ℕ) → count_by p (range_with_len 0 n) ≤ n
 count_small p n = omega (arith, count_by-le-length p (range_with_len 0 n), length-range_with_len 0 n)
 
@@ -41,11 +41,11 @@ same_four : (a b c d e f g h : ℕ) → a ≡ e → b ≡ f → c ≡ g → d �
 same_four a b c d e f g h p q r s =
     ap (λ (x : ℕ). four x b c d) p ∙ ap (λ (x : ℕ). four e x c d) q ∙ ap (λ (x : ℕ). four e f x d) r ∙ ap (λ (x : ℕ). four e f g x) s
 
--- a number stays
+-- a number to which nothing is added stays
 stays : (a e : ℕ) → e ≡ a + 0 → a ≡ e
 stays a e p = omega (arith, p)
 
--- one place more, by what is found there
+-- the counts with what is found at one place more, by the count of each kind
 counted_by : (x : Option VetFault) (a b c d e f g h : ℕ) → e ≡ a + cond (is_crosses x) 1 0 → f ≡ b + cond (is_not_permitted x) 1 0
     → g ≡ c + cond (is_bare x) 1 0 → h ≡ d + cond (is_mistargeted x) 1 0 → counted (four a b c d) x ≡ four e f g h
 unfolding four
@@ -59,7 +59,7 @@ counted_by (Some (Crosses at)) a b c d e f g h p q r s = same_four (a + 1) b c d
 counted_by (Some (Bare at)) a b c d e f g h p q r s = same_four a b (c + 1) d e f g h (stays a e p) (stays b f q) (sym r) (stays d h s)
 counted_by (Some (BadTarget at)) a b c d e f g h p q r s = same_four a b c (d + 1) e f g h (stays a e p) (stays b f q) (stays c g r) (sym s)
 
--- one place more
+-- the counts up to a place, with what is found there, are those up to the next place
 pub counts_more : (base limit : ℕ) (code : List ℕ) (spots : List Spot) (k : ℕ)
     → counted (counts_to base limit code spots k) (fault_at base limit code spots k) ≡ counts_to base limit code spots (k + 1)
 unfolding four
@@ -70,7 +70,7 @@ counts_more base limit code spots k =
     (count_more (λ (n : ℕ). is_bare (fault_at base limit code spots n)) k)
     (count_more (λ (n : ℕ). is_mistargeted (fault_at base limit code spots n)) k)
 
--- each number is at most that of the places
+-- each of the counts up to a place is at most the number of places
 pub counts_small : (base limit : ℕ) (code : List ℕ) (spots : List Spot) (k : ℕ) (counts : Counts) → counts ≡ counts_to base limit code spots k
     → (counts.crosses ≤ k) × (counts.not_permitted ≤ k) × (counts.bare ≤ k) × (counts.bad_target ≤ k)
 counts_small base limit code spots k counts e = (

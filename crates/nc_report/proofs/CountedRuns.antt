@@ -38,7 +38,7 @@ above_run rest count k s r lt =
     let other : get_or rest count 0 ≢ get_or rest 0 0 = r.ends (omega (arith, lt, long)) in
     subst (λ (n : ℕ). get_or rest 0 0 + 1 ≤ n) (sym (get_or-drop count rest k 0)) (omega (arith, first, later, other))
 
--- one more run is written
+-- with the row of one more run, the numbers up to its end are written
 pub count_more : (f : Format) (numbers old out new rest : List ℕ) (count : ℕ) → HasCounted f numbers old out rest → BeginsWithRun rest count
     → new ≡ out ++ row_text f (record { to = get_or rest 0 0; times = count }) → HasCounted f numbers old new (drop count rest)
 count_more f numbers old out new rest count h r e =
@@ -83,12 +83,12 @@ lists_outside f base code sent numbers old new is moved counts = λ pieces s par
   added = counts.added;
 }
 
--- as lines they are what is asked for
+-- as lines the rows are what is asked for
 pub called_lines : (old new : List ℕ) (base : ℕ) (pieces : List Piece) → AddsRows Text old new base pieces
     → AddsCalls Calls Text old new base pieces
 called_lines old new base pieces a = record { rows = a.rows; calls = a.counts; added = a.added }
 
--- and so they are as an array
+-- as an array the rows are what is asked for
 pub called_object : (none rows old one two new : List ℕ) (base : ℕ) (pieces : List Piece) → none ≡ [] → AddsRows Json none rows base pieces
     → one ≡ old ++ codes ",\"calls\":[" → two ≡ one ++ drop 1 rows → new ≡ two ++ codes "]" → AddsCalls Calls Json old new base pieces
 called_object none rows old one two new base pieces e a first middle last = record {

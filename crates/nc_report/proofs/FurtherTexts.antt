@@ -46,7 +46,7 @@ each_some f (fault ∷ fs) =
     let (words, shown) = some_shown f in
     let (rest, t) = each_some f fs in (heading f fault ++ (words ++ rest), (words, rest, shown, t, refl))
 
--- the faults at one place more
+-- the further faults up to the next place are those up to this one, and those here
 pub others_more : (base limit : ℕ) (code : List ℕ) (spots : List Spot) (own k : ℕ)
     → others_to base limit code spots own (k + 1) ≡ others_to base limit code spots own k ++ others_at base limit code spots own k
 others_more base limit code spots own k =
@@ -82,7 +82,7 @@ completed f base limit code spots own k n le text h =
           (each_both f (others_to base limit code spots own k) gs text more h t)),
     )
 
--- with the text about one place more
+-- the text about the first places and that about the next one are the text about all of these
 pub told_more : (f : Format) (base limit : ℕ) (code : List ℕ) (spots : List Spot) (own k : ℕ) (a b : List ℕ)
     → TellsEach f (others_to base limit code spots own k) a → TellsEach f (others_at base limit code spots own k) b
     → TellsEach f (others_to base limit code spots own (k + 1)) (a ++ b)
@@ -120,7 +120,7 @@ abbrev pub TellsFirst : Format → ℕ → ℕ → List ℕ → List Spot → Ve
 TellsFirst f base limit code spots fault own text =
     (first each : List ℕ) × Opens f fault first × TellsEach f (others_to base limit code spots own (length code)) each × (text ≡ first ++ each)
 
--- together all is told
+-- the beginning with the text about each fault, and the numbers, are the whole text about other faults
 pub others_told : (f : Format) (limit base : ℕ) (code : List ℕ) (spots : List Spot) (fault : VetFault) (own : ℕ) → HasSpots code spots
     → (a b : List ℕ) → TellsFirst f base limit code spots fault own a → TellsLast f base limit code spots b
     → TellsOthers f limit base code fault own (a ++ b)
@@ -143,7 +143,7 @@ pub none_shown : (f : Format) → Shows f []
 none_shown Text = no_details
 none_shown Json = NoMembers
 
--- so the text about all places can be completed
+-- the text about each fault can be completed to the whole text about other faults
 pub others_completed : (f : Format) (limit base : ℕ) (code : List ℕ) (spots : List Spot) (fault : VetFault) (own : ℕ) → HasSpots code spots
     → (a : List ℕ) → TellsFirst f base limit code spots fault own a → (more : List ℕ) × TellsOthers f limit base code fault own (a ++ more)
 others_completed f limit base code spots fault own h a t =

@@ -15,14 +15,14 @@ use Rattle.std.proofs.lemmas.List.{length-replicate, get_or-replicate}
 abbrev pub compared : (ℕ → ℕ → Bool) → List ℕ → List ℕ → ℕ
 compared t xs ys = mask_l (map (top 7) (zip2 (λ a b. cond (t a b) 255 0) xs ys)) % 2 ^ 64
 
--- the mask is that of the tests
+-- the mask of two lists of lanes is that of the tests of their lanes
 compared_is : (t : ℕ → ℕ → Bool) (xs ys : List ℕ) → length xs ≡ 32 → length ys ≡ 32 → (compared t xs ys ≡ mask_l (zip2 t xs ys))
     × (length (zip2 t xs ys) ≡ 32)
 compared_is t xs ys p q =
     let long : length (zip2 t xs ys) ≡ 32 = length-zip2 t xs ys (p ∙ sym q) ∙ p in
     (ap (λ (z : List Bool). mask_l z % 2 ^ 64) (tops_compared w8 t xs ys) ∙ mask_l-mod (zip2 t xs ys) 64 (omega (arith, long)), long)
 
--- it has 32 bits
+-- the mask of two lists of lanes has 32 bits
 compared_small : (t : ℕ → ℕ → Bool) (xs ys : List ℕ) → length xs ≡ 32 → length ys ≡ 32 → compared t xs ys < 2 ^ 32
 compared_small t xs ys p q =
     let w = compared_is t xs ys p q in
@@ -35,7 +35,7 @@ is_one : (b : Bool) → (cond {A = ℕ} b 1 0 == 1) ≡ b
 is_one true = refl
 is_one false = refl
 
--- each bit is a test
+-- each bit of the mask of two lists of lanes is the test of two lanes
 compared_bit : (t : ℕ → ℕ → Bool) (xs ys : List ℕ) (k : ℕ) → length xs ≡ 32 → length ys ≡ 32 → k < 32
     → (bit_at (compared t xs ys) k == 1) ≡ t (get_or xs k 0) (get_or ys k 0)
 compared_bit t xs ys k p q lt =
@@ -45,11 +45,11 @@ compared_bit t xs ys k p q lt =
     ∙ is_one (get_or (zip2 t xs ys) k false)
     ∙ get_or-zip2 t xs ys k 0 0 false (omega (arith, p, lt)) (omega (arith, q, lt))
 
--- the mask has 32 bits
+-- the mask of the lanes that are 0 has 32 bits
 pub zeros_small : (xs : List ℕ) → length xs ≡ 32 → compared (λ a b. a == b) xs (replicate 32 0) < 4294967296
 zeros_small xs p = omega (arith, compared_small (λ a b. a == b) xs (replicate 32 0) p (length-replicate {A = ℕ} 32 0))
 
--- each bit says that its lane is 0
+-- each bit of the mask of the lanes that are 0 says whether its lane is
 pub zero_bit : (xs : List ℕ) (k : ℕ) → length xs ≡ 32 → k < 32
     → (bit_at (compared (λ a b. a == b) xs (replicate 32 0)) k == 1) ≡ (get_or xs k 0 == 0)
 zero_bit xs k p lt =

@@ -50,7 +50,7 @@ pub refused_parts : (o file address fault at : List ℕ)
     ≡ o ++ (file ++ (address ++ (string_member (codes "verdict") (codes "refused") ++ (string_member (codes "fault") fault ++ at))))
 refused_parts o file address fault at = simp append_assoc
 
--- one more member whose value is a string
+-- members of an object with one more whose value is a string are members of an object
 pub string_added : (old one two name value : List ℕ) → IsJson InObject old → one ≡ old ++ (codes ",\"" ++ (inner name ++ codes "\":"))
     → two ≡ one ++ (codes "\"" ++ (inner value ++ codes "\"")) → IsJson InObject two
 string_added old one two name value j e f =
@@ -59,7 +59,7 @@ string_added old one two name value j e f =
     subst (IsJson InObject) (sym (f ∙ ap (λ (z : List ℕ). z ++ (codes "\"" ++ (inner value ++ codes "\""))) e ∙ parts))
     (Member j name (Quoted value))
 
--- one more member whose value is an array
+-- members of an object with one more whose value is an array are members of an object
 pub array_added : (old one two three name elements : List ℕ) → IsJson InObject old → IsJson InArray elements
     → one ≡ old ++ (codes ",\"" ++ (inner name ++ codes "\":[")) → two ≡ one ++ drop 1 elements → three ≡ two ++ codes "]"
     → IsJson InObject three
@@ -70,7 +70,7 @@ array_added old one two three name elements j k e f g =
     subst (IsJson InObject)
     (sym (g ∙ ap (λ (z : List ℕ). z ++ codes "]") (f ∙ ap (λ (z : List ℕ). z ++ rest) e) ∙ parts)) (Member j name (Bracketed k))
 
--- one more element that is an object
+-- elements of an array with one more that is an object are elements of an array
 pub object_added : (old one two three members : List ℕ) → IsJson InArray old → IsJson InObject members → one ≡ old ++ codes ",{"
     → two ≡ one ++ drop 1 members → three ≡ two ++ codes "}" → IsJson InArray three
 object_added old one two three members j k e f g =

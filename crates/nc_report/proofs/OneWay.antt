@@ -25,14 +25,14 @@ not_both window i f p =
     (subst (λ (z : List ℕ). Spells z p.instr)
     (ap (λ (z : List ℕ). z ++ p.more) f.parts ∙ append_assoc f.front f.rest p.more) p.spells)))
 
--- an instruction that may stand there isn't one that may not
+-- an instruction that may follow what is masked isn't one that may not
 not_bare : (window : List ℕ) (masked : Option ℕ) (i j : Instr) → IsAtFront window i → (is_indirect i.flow ≡ true → masked ≡ Some i.reg)
     → IsAtFront window j → is_indirect j.flow ≡ true → masked ≢ Some j.reg → ⊥
 not_bare window masked i j f paired g ind none =
     let same = one_at_front window i j f g in
     none (subst (λ (x : Instr). is_indirect x.flow ≡ true → masked ≡ Some x.reg) same paired ind)
 
--- one thing is found
+-- only one thing is found in a window
 same_found : (window : List ℕ) (masked : Option ℕ) (f g : Found) → Finds window masked f → Finds window masked g → f ≡ g
 same_found window masked (Sound i) (Sound j) h k = ap Sound (one_at_front window i j h.0 k.0)
 same_found window masked (Sound i) Bare h k = absurd (not_bare window masked i k.0 h.0 h.1 k.1 k.2 k.3)
@@ -63,7 +63,7 @@ same_goes : (room : ℕ) (s t : Step) (end : Option ℕ) → Goes room s end →
 same_goes room s t None h k = (h.0 ∙ sym k.0, h.1 ∙ sym k.1)
 same_goes room s t (Some n) h k = (h.0 ∙ sym k.0, h.1 ∙ sym k.1)
 
--- one step is made
+-- only one step is made from a place
 same_step : (room : ℕ) (masked : Option ℕ) (rest : List ℕ) (s t : Step) → IsStep room masked rest s → IsStep room masked rest t → s ≡ t
 unfolding step
 same_step room masked rest s t h k =
@@ -71,7 +71,7 @@ same_step room masked rest s t h k =
     ap (λ (f : Found). step f s.len s.whole) (same_found (take room rest) masked s.found t.found h.finds k.finds)
     ∙ ap (λ (n : ℕ). step t.found n s.whole) goes.1 ∙ ap (λ (b : Bool). step t.found t.len b) goes.0
 
--- so from any place on
+-- from any place on, code is read by one list of steps only
 same_steps : (at : ℕ) (masked : Option ℕ) (rest : List ℕ) (steps others : List Step) → ReadsFrom at masked rest steps
     → ReadsFrom at masked rest others → steps ≡ others
 same_steps at masked rest [] [] h k = refl
@@ -84,6 +84,6 @@ same_steps at masked rest (s ∷ steps) (t ∷ others) h k =
     (same_steps (at + t.len) (masked_by at t) (drop t.len rest) steps others
     (subst (λ (x : Step). ReadsFrom (at + x.len) (masked_by at x) (drop x.len rest) steps) same h.2) k.2)
 
--- the law
+-- the law: code is read in one way
 pub one_way : IsReadOneWay
 one_way code steps others h k = same_steps 0 None code steps others h k

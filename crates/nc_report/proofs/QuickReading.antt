@@ -28,7 +28,7 @@ abbrev last_state : ℕ → List ℕ → ℕ
 last_state s [] = s
 last_state s (b ∷ bs) = last_state (next_state s b) bs
 
--- it is the last of the states
+-- the state after all of some bytes is the last of the states after them
 last_of : (s : ℕ) (bs : List ℕ) (k : ℕ) → k + 1 ≡ length bs → get_or (states_after s bs) k 0 ≡ last_state s bs
 last_of s [] k e = absurd (omega (arith, e))
 last_of s (b ∷ []) zero e = refl

@@ -18,7 +18,7 @@ use Rattle.nc_report.specs.machinery.Seen.{is_quiet, counted}
 use Rattle.nc_report.proofs.CountedFaults.{counts_more}
 use Rattle.nc_report.proofs.FurtherTexts.{others_more}
 
--- what fails
+-- a truth value whose negation is true is false
 not_true : (b : Bool) → not b ≡ true → b ≡ false
 not_true true e = absurd cc
 not_true false e = refl
@@ -72,12 +72,12 @@ quiet_none base limit code spots k q =
 abbrev pub AreFaultless : ℕ → ℕ → List ℕ → List Spot → ℕ → ℕ → Type 0
 AreFaultless base limit code spots k next = (j : ℕ) → k ≤ j → j < next → fault_at base limit code spots j ≡ None
 
--- none, whatever the test says
+-- no fault is listed, whatever the test says
 no_others : (b : Bool) → cond {A = List VetFault} b [] [] ≡ []
 no_others true = refl
 no_others false = refl
 
--- a place without a fault has no other
+-- a place without a fault has no further fault
 none_at : (base limit : ℕ) (code : List ℕ) (spots : List Spot) (own k : ℕ) → fault_at base limit code spots k ≡ None
     → others_at base limit code spots own k ≡ []
 none_at base limit code spots own k e = ap (λ (x : Option VetFault). cond (k == own) [] (listed x)) e ∙ no_others (k == own)

@@ -26,7 +26,7 @@ pub cut_step : (known : Option ℕ) (room : ℕ) → known ≡ None → MatchOpt
 cut_step known room e =
     subst (λ (o : Option ℕ). MatchOption o ((false ≡ false) × (room ≡ room)) (λ n. (false ≡ true) × (room ≡ n))) (sym e) (refl, refl)
 
--- before the first step
+-- before the first step no code has been read
 pub none_read_yet : (code : List ℕ) (spots : List Spot) → spots ≡ [] → HasSeenTo code 0 None spots
 none_read_yet code spots e = record {
   steps = [];
@@ -39,7 +39,7 @@ none_read_yet code spots e = record {
 length-step_spots : (s : Step) → 1 ≤ s.len → length (step_spots s) ≡ s.len
 length-step_spots s some = omega (arith, length-replicate (s.len - 1) (later_spot s.whole), some)
 
--- one step more
+-- after one step more the code has been read up to the end of the step
 pub one_step : (code : List ℕ) (at next room : ℕ) (masked after : Option ℕ) (spots new : List Spot) (s : Step) → HasSeenTo code at masked spots
     → drop at code ≢ [] → IsStep room masked (drop at code) s → room ≡ 32 - at % 32 → 1 ≤ s.len → new ≡ spots ++ step_spots s → after ≡ masked_by at s
     → next ≡ at + s.len → HasSeenTo code next after new
@@ -97,7 +97,7 @@ front_cut bytes i w f long =
       spells = f.spells;
     }
 
--- one more spot of skipped bytes is written
+-- the next spot of some skipped bytes is written
 pub one_skipped : (before after spots : List Spot) (from k count : ℕ) → length before ≡ from → k < count
     → spots ≡ before ++ (replicate k Skipped ++ (replicate (count - k) Inside ++ after))
     → slice_set spots (from + k) Skipped ≡ before ++ (replicate (k + 1) Skipped ++ (replicate (count - (k + 1)) Inside ++ after))

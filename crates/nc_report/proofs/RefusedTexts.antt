@@ -71,11 +71,11 @@ others_told s limit base at code fault text is e h =
     subst (λ (d : Detail). TellsMore d s.format limit base code fault text) (sym is)
     (subst (TellsAt s.format limit base code fault text) (sym e) h)
 
--- more text, and the end
+-- what is told further about the fault, and the end
 abbrev TellsRest : ℕ → ℕ → Style → List ℕ → VetFault → List ℕ → Type 0
 TellsRest limit base s code fault rest = (more : List ℕ) × TellsMore s.detail s.format limit base code fault more × (rest ≡ more ++ end_of s.format)
 
--- with them the text is whole
+-- the text on the fault, what is told further about it, and the end are a whole text on a refused source
 refused : (limit base : ℕ) (s : Style) (name code old out : List ℕ) (fault : VetFault) → HasFault base limit code fault → old ≡ []
     → (fault ≢ OutOfMemory) × Adds old out (TellsFault s.detail s.format base name fault) → (rest : List ℕ) → TellsRest limit base s code fault rest
     → TellsRefused limit base s name code (out ++ rest)
@@ -91,7 +91,7 @@ refused limit base s name code old out fault h none f rest (more, m, e) = record
       ∙ ap (λ (z : List ℕ). z ++ (more ++ end_of s.format)) (f.1.added ∙ ap (λ (z : List ℕ). z ++ f.1.text) none);
 }
 
--- the whole text after that on the fault
+-- what makes the text on a refused source whole after that on the fault
 abbrev TellsFrom : ℕ → ℕ → Style → List ℕ → List ℕ → List ℕ → List ℕ → Type 0
 TellsFrom limit base s name code out rest = TellsRefused limit base s name code (out ++ rest)
 
@@ -108,7 +108,7 @@ ended : (limit base : ℕ) (s : Style) (name code old out : List ℕ) (fault : V
 ended limit base s name code old out fault h none f a b m e =
     refused limit base s name code old out fault h none f (a ++ b) (a, m, ap (λ (z : List ℕ). a ++ z) e)
 
--- a prefix was written before the other faults were told
+-- what is written of the further text after that on the fault is a prefix of a text on a refused source
 pub more_begun : (limit base : ℕ) (s : Style) (name code old out : List ℕ) (fault : VetFault) → HasFault base limit code fault → old ≡ []
     → (fault ≢ OutOfMemory) × Adds old out (TellsFault s.detail s.format base name fault) → (before after : Option (List ℕ))
     → HasBegun (After out (TellsMore s.detail s.format limit base code fault)) before after → HasBegun (TellsRefused limit base s name code) before after
@@ -118,7 +118,7 @@ more_begun limit base s name code old out fault h none f before after b =
     (begun_after before after out (TellsMore s.detail s.format limit base code fault) (TellsFrom limit base s name code out)
     (λ text m. (end_of s.format, ended limit base s name code old out fault h none f text (end_of s.format) m refl)) b)
 
--- or afterwards
+-- once the further text was added, what is written is a prefix of a text on a refused source
 pub refused_begun : (limit base : ℕ) (s : Style) (name code old out kept : List ℕ) (fault : VetFault) → HasFault base limit code fault → old ≡ []
     → (fault ≢ OutOfMemory) × Adds old out (TellsFault s.detail s.format base name fault) → (before after : Option (List ℕ))
     → WritesOn before after out kept (TellsMore s.detail s.format limit base code fault) → HasBegun (TellsRefused limit base s name code) before after
@@ -132,7 +132,7 @@ refused_begun limit base s name code old out kept fault h none f before after w 
 end_added : (s : Style) (kept all : List ℕ) → all ≡ kept ++ end_of s.format → Adds kept all (λ text. text ≡ end_of s.format)
 end_added s kept all e = record { text = end_of s.format; says = refl; added = e }
 
--- all was written
+-- where the further text and the end were written, a text on a refused source was
 pub refused_written : (limit base : ℕ) (s : Style) (name code old out kept all : List ℕ) (fault : VetFault) → HasFault base limit code fault
     → old ≡ [] → (fault ≢ OutOfMemory) × Adds old out (TellsFault s.detail s.format base name fault) → (before mid after : Option (List ℕ))
     → WritesOn before mid out kept (TellsMore s.detail s.format limit base code fault) → all ≡ kept ++ end_of s.format → Appends mid after all
@@ -146,7 +146,7 @@ refused_written limit base s name code old out kept all fault h none f before mi
       written = v.written;
     }
 
--- or a prefix of it
+-- where the further text was added, and a front of what is kept with the end was written, a prefix of a text on a refused source was
 pub refused_cut : (limit base : ℕ) (s : Style) (name code old out kept all : List ℕ) (fault : VetFault) → HasFault base limit code fault
     → old ≡ [] → (fault ≢ OutOfMemory) × Adds old out (TellsFault s.detail s.format base name fault) → (before mid after : Option (List ℕ)) (n : ℕ)
     → WritesOn before mid out kept (TellsMore s.detail s.format limit base code fault) → all ≡ kept ++ end_of s.format → Appends mid after (take n all)

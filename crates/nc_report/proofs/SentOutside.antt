@@ -11,7 +11,7 @@ use Rattle.nc_report.specs.Outside.{sent_outside, all_sent}
 use Rattle.nc_report.specs.machinery.Runs.{KnowsSent, HasReadCode, IsSent}
 use Rattle.nc_vet.proofs.Offered.{one_at_front}
 
--- what instructions send, and those after them
+-- what two lists of instructions send outside is what the first sends, and then the second
 sent_append : (base len at : ℕ) (xs ys : List Piece)
     → all_sent base len at (xs ++ ys) ≡ all_sent base len at xs ++ all_sent base len (at + place xs) ys
 sent_append base len at [] ys = ap (λ (n : ℕ). all_sent base len n ys) (omega arith)
@@ -23,17 +23,17 @@ sent_append base len at (p ∷ ps) ys =
     ∙ ap (λ (n : ℕ). all_sent base len next ps ++ all_sent base len n ys) (omega (arith, length-append p.bytes (code_of ps))))
     ∙ sym (append_assoc sent (all_sent base len next ps) (all_sent base len (at + place (p ∷ ps)) ys))
 
--- before the first instruction nothing is known
+-- before the first instruction no target outside is known
 pub none_read : (base : ℕ) (code : List ℕ) → HasReadCode base code 0 []
 none_read base code = λ pieces s e. record { before = []; after = pieces; parts = refl; here = refl; known = refl }
 
--- what is left of the code
+-- what is left of the code from a place on is the code of the instructions from there on
 left_is : (code : List ℕ) (at : ℕ) (before after : List Piece) → code ≡ code_of (before ++ after) → place before ≡ at
     → drop at code ≡ code_of after
 left_is code at before after e here =
     ap (λ (z : List ℕ). drop at z) (e ∙ code_of-append before after) ∙ drop_at (code_of before) (code_of after) at here
 
--- one more instruction is read
+-- the targets outside that are known go on by those of the next instruction
 pub read_more : (base at : ℕ) (code sent new : List ℕ) (i : Instr) → HasReadCode base code at sent → IsAtFront (drop at code) i
     → new ≡ sent ++ sent_outside base (length code) i (base + at) → HasReadCode base code (at + i.len) new
 read_more base at code sent new i has f e = λ pieces s parts. let r = has pieces s parts in go pieces s parts r r.after r.parts
@@ -63,7 +63,7 @@ read_more base at code sent new i has f e = λ pieces s parts. let r = has piece
               ∙ sym (sent_append base (length code) base r.before (p ∷ []));
         }
 
--- where no instruction is left, all is known
+-- where no instruction is left, all targets outside are known
 pub all_known : (base at : ℕ) (code sent : List ℕ) → HasReadCode base code at sent → ((i : Instr) → IsAtFront (drop at code) i → ⊥)
     → IsSent base code sent
 all_known base at code sent has none = λ pieces s parts. let r = has pieces s parts in go pieces s parts r r.after r.parts

@@ -8,7 +8,7 @@ use Rattle.nc_report.specs.Shown.{detail_line}
 use Rattle.nc_report.specs.Totals.{kinds_from}
 use Rattle.nc_report.specs.machinery.Seen.{kind_words}
 
--- one kind and the others, by whether its number is 0
+-- the words for the first kind and the others, by whether its number is 0
 kind_by : (zero begun : Bool) (rest : Bool → List ℕ) (digits name : List ℕ)
     → (if zero then rest begun else ((if begun then codes ", " else []) ++ (digits ++ (codes " " ++ (name ++ rest true)))))
     ≡ (if zero then [] else ((if begun then codes ", " else []) ++ (digits ++ (codes " " ++ name)))) ++ rest (begun || not zero)
@@ -17,7 +17,7 @@ kind_by true false rest digits name = refl
 kind_by false true rest digits name = simp append_assoc
 kind_by false false rest digits name = simp append_assoc
 
--- one kind and the others
+-- the words for some kinds are those for the first and those for the others
 kind_first : (begun : Bool) (n : ℕ) (name : List ℕ) (kinds : List (ℕ × List ℕ))
     → kinds_from begun ((n, name) ∷ kinds) ≡ kind_words begun n name ++ kinds_from (begun || not (n == 0)) kinds
 kind_first begun n name kinds = kind_by (n == 0) begun (λ (b : Bool). kinds_from b kinds) (decimal n) name

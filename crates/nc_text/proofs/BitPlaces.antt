@@ -5,10 +5,11 @@ use Rattle.std.proofs.lemmas.Nat.{and_le_l, pow-add}
 use Rattle.std.proofs.Math.Nat.{div-div-eq-div-mul}
 use Rattle.std.proofs.lemmas.Nat.Bits.{bit_at-suc, bit_at_lowest, bit_at-trailing_zeros, bit_at_clear_same, bit_at_clear_other}
 
--- twice a number and one bit: the bit, and then those of the number
+-- the lowest bit of twice a number and one bit is that bit
 pub doubled_low : (n b : ℕ) → b < 2 → bit_at (2 * n + b) 0 ≡ b
 doubled_low n b small = bit_at_lowest (2 * n + b) ∙ omega (arith, small)
 
+-- the further bits of twice a number and one bit are those of the number
 pub doubled_high : (n b k : ℕ) → b < 2 → bit_at (2 * n + b) (suc k) ≡ bit_at n k
 doubled_high n b k small = bit_at-suc (2 * n + b) k ∙ ap (λ (m : ℕ). bit_at m k) {x = (2 * n + b) / 2} {y = n} (omega (arith, small))
 

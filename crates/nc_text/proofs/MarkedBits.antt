@@ -20,7 +20,7 @@ either_bit (suc zero) (suc zero) register a b = refl
 either_bit (suc zero) (suc (suc n)) register a b = absurd (omega (arith, b))
 either_bit (suc (suc n)) second register a b = absurd (omega (arith, a))
 
--- in a bundle that no chunk uses, its start alone
+-- in a bundle that no chunk uses, its start alone is marked
 pub unused_bit : (k : ℕ) → k < 32 → bit_at 1 k ≡ mark_bit (unused_mark k)
 unused_bit k lt = elim (cases_eq k 0) [
   | inl e ↦ subst (λ (n : ℕ). bit_at 1 n ≡ mark_bit (unused_mark n)) (sym e) refl

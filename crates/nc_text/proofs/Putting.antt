@@ -83,7 +83,7 @@ marks_spanned old lent new size at marks now loan view fits within others =
     (λ k out. others k out ∙ ap (λ (ps : List Slot). mark_in_pages ps k) loan)
     ∙ ap (λ (t : TextState). with_span t.marked.marks (at - 65536) marks) view
 
--- where no mark of a table that was lent was changed, they are seen as before
+-- where no mark of a table that was lent was changed, the marks are seen as before
 pub same_marks : (old lent new : List Slot) (size : ℕ) (now : TextState) → lent ≡ old → text_of old size ≡ now
     → ((k : ℕ) → mark_in_pages new k ≡ mark_in_pages lent k) → (text_of new size).marked.marks ≡ now.marked.marks
 same_marks old lent new size now loan view marks =

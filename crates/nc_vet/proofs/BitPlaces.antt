@@ -11,7 +11,7 @@ use Rattle.nc_decode.specs.declared.bundle.Bundle.{Bundle}
 use Rattle.nc_decode.specs.Bits.{starts_instruction, is_second, no_bits}
 use Rattle.nc_vet.specs.machinery.Judged.{short_to, near_to, IsGood, AreGoodShorts, AreGoodNears, IsJudged, AreJudged}
 
--- a start, by the word that is shifted by one
+-- a place whose bit is set in the ends shifted by one is the start of an instruction
 pub start_bit : (w : Bundle) (k starts : ℕ) → starts ≡ 2 * w.ends + 1 → bit_and (starts / 2 ^ k) 1 ≡ 1 → starts_instruction w k ≡ true
 start_bit w zero starts is e = refl
 start_bit w (suc j) starts is e =
@@ -26,7 +26,7 @@ start_bit w (suc j) starts is e =
     or_right true b h = refl
     or_right false b h = h
 
--- no second half
+-- a place whose bit isn't set in the shifted word of pairs is no second half
 pub second_bit : (w : Bundle) (k : ℕ) → bit_and (w.pairs / 2 / 2 ^ k) 1 ≡ 0 → is_second w k ≡ false
 second_bit w k e =
     let bit : bit_at w.pairs (k + 1) ≡ 0 = ap (λ (j : ℕ). bit_at w.pairs j) {x = k + 1} {y = suc k} (omega arith) ∙ bit_at-suc w.pairs k
@@ -35,20 +35,20 @@ second_bit w k e =
 
 -- ---- the lowest bit
 
--- the lowest bit is set
+-- the lowest bit of a word that isn't 0 is set
 pub lowest_set : (n : ℕ) → 0 < n → n < 2 ^ 64 → bit_at n (trailing_zeros w64 n) ≡ 1
 lowest_set n some fits = (bit_at-trailing_zeros w64 n some fits).1
 
--- it is one of the 64
+-- the lowest bit of a word is one of the 64
 pub lowest_place : (n : ℕ) → 0 < n → n < 2 ^ 64 → trailing_zeros w64 n < 64
 lowest_place n some fits = (bit_at-trailing_zeros w64 n some fits).0
 
--- clearing it leaves the others
+-- clearing the lowest bit of a word leaves the others
 pub others_left : (n : ℕ) → 0 < n → n < 2 ^ 64 → (i : ℕ) → i < 64 → i ≢ trailing_zeros w64 n
     → bit_at (bit_and n (bit_not w64 (1 * 2 ^ trailing_zeros w64 n % 2 ^ 64))) i ≡ bit_at n i
 others_left n some fits i lt ne = bit_at_clear_other w64 n (trailing_zeros w64 n) (lowest_place n some fits) i lt ne
 
--- and the number is smaller then
+-- clearing the lowest bit of a word makes it smaller
 pub fewer_left : (n : ℕ) → 0 < n → n < 2 ^ 64 → bit_and n (bit_not w64 (1 * 2 ^ trailing_zeros w64 n % 2 ^ 64)) < n
 fewer_left n some fits =
     let clear : bit_at (bit_and n (bit_not w64 (1 * 2 ^ trailing_zeros w64 n % 2 ^ 64))) (trailing_zeros w64 n) ≡ 0 =
@@ -63,7 +63,7 @@ fewer_left n some fits =
     below : (a b : ℕ) → a ≤ b → a ≢ b → a < b
     below a b le ne = omega (arith, le, ne)
 
--- one of the bits is done
+-- once one of the bits is cleared and done, each bit is still left or done
 pub one_done : (G : ℕ → Type 0) (left rest at k : ℕ) → k < 64 → ((i : ℕ) → i < 64 → i ≢ at → bit_at rest i ≡ bit_at left i) → G at
     → (bit_at left k ≡ 1) ⊎ G k → (bit_at rest k ≡ 1) ⊎ G k
 one_done G left rest at k lt others done (inr good) = inr good
@@ -74,11 +74,11 @@ one_done G left rest at k lt others done (inl bit) = elim (true_or_false (k == a
 
 -- ---- two bundles
 
--- the low half of two words is the first
+-- the low bits of two words, one behind the other, are those of the first
 pub first_of_two : (first second k : ℕ) → k < 32 → bit_at (second * 2 ^ 32 + first) k ≡ bit_at first k
 first_of_two first second k lt = bit_at_cat_low second 32 first k lt
 
--- the high half is the second
+-- the high bits of two words, one behind the other, are those of the second
 pub second_of_two : (first second k : ℕ) → first < 2 ^ 32 → bit_at (second * 2 ^ 32 + first) (32 + k) ≡ bit_at second k
 second_of_two first second k small = bit_at_cat_high second 32 first (32 + k) small (omega arith)
     ∙ ap (λ (j : ℕ). bit_at second j) (omega arith)

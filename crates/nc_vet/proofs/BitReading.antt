@@ -94,7 +94,7 @@ mask_ends front rest code at r parts spelled here f =
     (omega (arith, here, end, len))
     ∙ get_or-append-add (code_of f.earlier) (mask r ++ rest) 2 0
 
--- no register is masked after the bundles that were read
+-- no register is masked after instructions that end where a bundle does
 none_masked : (pieces : List Piece) (at r : ℕ) → AreSpelled pieces → place pieces ≡ at → at % 32 ≡ 0 → FollowsMask pieces r → ⊥
 none_masked pieces at r spelled here start f =
     let one = piece_some pieces f.earlier [] f.mask spelled f.last in
@@ -102,7 +102,7 @@ none_masked pieces at r spelled here start f =
     ∙ place-push f.earlier f.mask in
     omega (arith, here, end, one.0, one.1, f.together, start)
 
--- so the front is sound instructions, and no register is masked after it
+-- a front after which reading may continue is sound instructions, and no register is masked after it
 pub read_front : (code : List ℕ) (bundles : List Bundle) (at : ℕ) → ((k : ℕ) → Fits w8 (get_or code k 0)) → length code % 32 ≡ 0
     → EndsFront code bundles at → HasReadTo code at None
 read_front code bundles at fits even e =
@@ -127,7 +127,7 @@ read_front code bundles at fits even e =
 
 -- ---- marks
 
--- a test by a bit that isn't there
+-- a word of 32 bits has no bit at 32
 no_bit : (n k : ℕ) → n < 2 ^ 32 → k ≡ 32 → (bit_at n k == 1) ≡ false
 no_bit n k small is = ap (λ (b : ℕ). b == 1) (bit_at_above n 32 k small (omega (arith, is)))
 
@@ -150,7 +150,7 @@ second_told code bundles k w = elim (cases_lt (k % 32) 31) [
         go true e = absurd (omega (arith, le, ltb-true a b e))
         go false e = e
 
--- so does the bit of a start
+-- the bit of a start tells what the states do
 start_told : (code : List ℕ) (bundles : List Bundle) (k : ℕ) → TellsBundle code (32 * (k / 32)) (get_or bundles (k / 32) no_bits)
     → starts_instruction (get_or bundles (k / 32) no_bits) (k % 32) ≡ nat_le END (state_before (state_after code) k)
 start_told code bundles k w = elim (true_or_false (k % 32 == 0)) [
@@ -160,7 +160,7 @@ start_told code bundles k w = elim (true_or_false (k % 32 == 0)) [
       rw inner (w.ends (k % 32 - 1) (omega arith) ∙ ap (λ (j : ℕ). nat_le END (state_after code j)) (omega (arith, some))))
 ]
 
--- so the mark by the bits is that by the states
+-- the mark by the bits is that by the states
 mark_told : (code : List ℕ) (bundles : List Bundle) (k : ℕ) → TellsBundle code (32 * (k / 32)) (get_or bundles (k / 32) no_bits)
     → mark_by_bits code bundles k ≡ mark_by (state_after code) code k
 mark_told code bundles k w = rw (second_told code bundles k w, start_told code bundles k w) refl
@@ -211,11 +211,11 @@ good_target base limit code bundles to r g =
     outside out = target_outside base limit to r.pieces (marks_in code bundles) r.marks_are r.sound.spelled
         (λ low lt. out low (omega (arith, lt, length-marks_in code bundles))) (g.outside out).0 (g.outside out).1
 
--- a bit that is set
+-- where the state is that after a displacement of one byte, the place's bit is set
 set_bit : (n s k : ℕ) → (bit_at n k == 1) ≡ (s == AFTER_SHORT) → s ≡ AFTER_SHORT → bit_at n k ≡ 1
 set_bit n s k e is = eqb-true _ 1 (e ∙ eq-eqb s AFTER_SHORT is)
 
--- the same of a displacement of four bytes
+-- where the state is that after a displacement of four bytes, the place's bit is set
 set_near : (n s k : ℕ) → (bit_at n k == 1) ≡ (s == AFTER_NEAR) → s ≡ AFTER_NEAR → bit_at n k ≡ 1
 set_near n s k e is = eqb-true _ 1 (e ∙ eq-eqb s AFTER_NEAR is)
 

@@ -29,18 +29,18 @@ abbrev pub ArePut : List ℕ → ℕ → ℕ → List ℕ → List ℕ → Type 
 ArePut before p m [] after = after ≡ before
 ArePut before p m (v ∷ vs) after = (next : List ℕ) × (next ≡ slice_set before (32 * m + p) v) × ArePut next p (m + 1) vs after
 
--- what one step has stored
+-- what one step has stored, by an equal value and an equal place
 pub put_at : (before after : List ℕ) (place q v w : ℕ) → after ≡ slice_set before place v → w ≡ v → place ≡ q → after ≡ slice_set before q w
 put_at before after place q v w e same here =
     e ∙ ap (λ (x : ℕ). slice_set before place x) (sym same) ∙ ap (λ (j : ℕ). slice_set before j w) here
 
--- the list is as long
+-- a list with values put into it is as long as before
 put_long : (before after : List ℕ) (p m : ℕ) (vs : List ℕ) → ArePut before p m vs after → length after ≡ length before
 put_long before after p m [] h = ap (λ (z : List ℕ). length z) h
 put_long before after p m (v ∷ vs) h =
     put_long h.0 after p (m + 1) vs h.2 ∙ ap (λ (z : List ℕ). length z) h.1 ∙ length-set before (32 * m + p) v
 
--- at other places it is the same
+-- a list with values put into it is the same at other places
 put_other : (before after : List ℕ) (p m : ℕ) (vs : List ℕ) (q : ℕ) → ((n : ℕ) → q ≢ 32 * n + p) → ArePut before p m vs after
     → get_or after q 0 ≡ get_or before q 0
 put_other before after p m [] q other h = ap (λ (z : List ℕ). get_or z q 0) h
@@ -48,7 +48,7 @@ put_other before after p m (v ∷ vs) q other h =
     put_other h.0 after p (m + 1) vs q other h.2 ∙ ap (λ (z : List ℕ). get_or z q 0) h.1
     ∙ get_or-set_other before (32 * m + p) q v 0 (other m)
 
--- so it is in earlier bundles
+-- a list with values put into it from a bundle on is the same in earlier bundles
 put_before : (before after : List ℕ) (p m : ℕ) (vs : List ℕ) (n : ℕ) → n < m → ArePut before p m vs after
     → get_or after (32 * n + p) 0 ≡ get_or before (32 * n + p) 0
 put_before before after p m [] n lt h = ap (λ (z : List ℕ). get_or z (32 * n + p) 0) h
@@ -56,7 +56,7 @@ put_before before after p m (v ∷ vs) n lt h =
     put_before h.0 after p (m + 1) vs n (omega (arith, lt)) h.2 ∙ ap (λ (z : List ℕ). get_or z (32 * n + p) 0) h.1
     ∙ get_or-set_other before (32 * m + p) (32 * n + p) v 0 (λ e. omega (arith, e, lt))
 
--- at these places it has the values
+-- a list with values put into it has them at their places
 put_here : (before after : List ℕ) (p m : ℕ) (vs : List ℕ) (n : ℕ) → n < length vs → 32 * (m + length vs) ≤ length before → p < 32
     → ArePut before p m vs after → get_or after (32 * (m + n) + p) 0 ≡ get_or vs n 0
 put_here before after p m [] n lt long low h = absurd (omega (arith, lt))
@@ -75,7 +75,7 @@ put_here before after p m (v ∷ vs) (suc n) lt long low h =
 pub next_by : (code : List ℕ) (s r j k : ℕ) → r ≡ next_state s (get_or code j 0) → j ≡ k → r ≡ next_state s (get_or code k 0)
 next_by code s r j k e same = e ∙ ap (λ (x : ℕ). next_state s (get_or code x 0)) same
 
--- the states after one more byte of each
+-- the states of eight bundles after one more byte of each
 pub have_stepped : (code : List ℕ) (at i : ℕ) (now states next after : List ℕ) → at % 32 ≡ 0 → i < 32 → at + 256 ≤ length code
     → HaveRun code at i now states → length next ≡ 8
     → ((n : ℕ) → n < 8 → get_or next n 0 ≡ next_state (get_or now n 0) (get_or code (at + 32 * n + i) 0))

@@ -42,12 +42,12 @@ marks_grow before i at n len some long =
 abbrev some_mask : ℕ → Option ℕ
 some_mask r = Some r
 
--- a register is masked after an instruction where it masks it and no bundle begins there
+-- a register that is masked after an instruction is one that it masks, and no bundle begins there
 masked_from : (b : Bool) (m : Option ℕ) (r : ℕ) → cond b None m ≡ Some r → (b ≡ false) × (m ≡ Some r)
 masked_from true m r e = absurd cc
 masked_from false m r e = (refl, e)
 
--- and the other way round
+-- a register that an instruction masks is masked after it, unless a bundle begins there
 masked_by : (b : Bool) (m : Option ℕ) (r : ℕ) → b ≡ false → m ≡ Some r → cond b None m ≡ Some r
 masked_by true m r e f = absurd cc
 masked_by false m r e f = f
@@ -93,7 +93,7 @@ mask_left front p at r here some inside = (
     there : place (front ++ p ∷ []) ≡ at + length p.bytes
     there = place-push front p ∙ ap (λ (k : ℕ). k + length p.bytes) here
 
--- one more instruction is read
+-- the code is read up to the end of one more instruction
 pub grown : (code : List ℕ) (at w n : ℕ) (masked : Option ℕ) (marks : List Mark) (i : Instr) → HasRead code at masked marks
     → w + at % 32 ≡ 32 → at ≤ length code → MayFollow (take w (drop at code)) masked i → n ≡ i.len
     → HasRead code (at + n) (masked_after i (at + n)) (set marks at (mark_of i))
@@ -138,7 +138,7 @@ pub grown_in : (code : List ℕ) (at w n : ℕ) (masked : Option ℕ) (i : Instr
     → MayFollow (take w (drop at code)) masked i → n ≡ i.len → at + n ≤ length code
 grown_in code at w n masked i h f len = omega (arith, f.inside, length-take w (drop at code), length-drop at code)
 
--- all has been read
+-- code that has been read up to its end has all been read
 pub read_all : (code : List ℕ) (at : ℕ) (masked : Option ℕ) (marks : List Mark) → HasRead code at masked marks → at ≡ length code
     → HasReadAll code marks
 read_all code at masked marks h end =

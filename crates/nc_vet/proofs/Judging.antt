@@ -52,7 +52,7 @@ byte_at code marks at d r before after p e here direct = go p.bytes refl
         ∙ get_or_at (code_of before) b (bytes ++ code_of after) d at here in
         subst (λ (k : ℕ). may_transfer k ≡ true) (sym here_is) (direct_begins b bytes p.instr spells direct)
 
--- another byte begins none
+-- a place goes well where no direct transfer begins with its byte
 pub other_byte : (base limit : ℕ) (code : List ℕ) (marks : List Mark) (at d : ℕ) (r : HasReadAll code marks)
     → may_transfer (get_or code at d) ≡ false → GoesWellAt base limit r.pieces at
 other_byte base limit code marks at d r none before after p e here direct =
@@ -78,7 +78,7 @@ other_mark base limit code marks at d r other before after p e here direct =
     ∙ mark_at r.pieces before after p d r.sound.spelled e
     ∙ first_plain (is_indirect p.instr.flow) p.instr.reg (not_indirect p.instr.flow direct)))
 
--- where nothing is read, nothing begins
+-- a place goes well where no instruction is read
 pub none_read : (base limit : ℕ) (code : List ℕ) (marks : List Mark) (at w : ℕ) (r : HasReadAll code marks) → w + at % 32 ≡ 32
     → ((i : Instr) → IsAtFront (take w (drop at code)) i → ⊥) → GoesWellAt base limit r.pieces at
 none_read base limit code marks at w r w-is none before after p e here direct =
@@ -86,7 +86,7 @@ none_read base limit code marks at w r w-is none before after p e here direct =
 
 -- ---- what is read there
 
--- it goes well where it is no direct transfer, or has a good target
+-- a place goes well where an instruction is read that is no direct transfer, or has a good target
 pub good_at : (base limit : ℕ) (code : List ℕ) (marks : List Mark) (at w : ℕ) (i : Instr) (r : HasReadAll code marks) → w + at % 32 ≡ 32
     → IsAtFront (take w (drop at code)) i → (IsTrue (is_direct i.flow) → IsTarget base limit r.pieces (target i (base + at)))
     → GoesWellAt base limit r.pieces at
@@ -94,7 +94,7 @@ good_at base limit code marks at w i r w-is f good before after p e here direct 
     let same : i ≡ p.instr = one_at_front (take w (drop at code)) i p.instr f (front_at code marks at w r before after p e here w-is) in
     subst (λ (j : Instr). IsTrue (is_direct j.flow) → IsTarget base limit r.pieces (target j (base + at))) same good direct
 
--- and astray otherwise
+-- a place goes astray where a direct transfer is read that has no good target
 pub astray_at : (base limit : ℕ) (code : List ℕ) (marks : List Mark) (at w : ℕ) (d : Mark) (i : Instr) (r : HasReadAll code marks)
     → w + at % 32 ≡ 32 → at < length marks → get_or marks at d ≡ Plain → IsAtFront (take w (drop at code)) i → IsTrue (is_direct i.flow)
     → (IsTarget base limit r.pieces (target i (base + at)) → ⊥) → GoesAstrayAt base limit r.pieces at
@@ -117,7 +117,7 @@ astray_at base limit code marks at w d i r w-is lt plain f direct bad =
 
 -- ---- place by place
 
--- one more place is judged
+-- with one more place that goes well, all places up to it are judged
 pub judged_more : (base limit : ℕ) (code : List ℕ) (marks : List Mark) (at : ℕ) (h : HasJudged base limit code marks at)
     → GoesWellAt base limit h.read.pieces at → HasJudged base limit code marks (at + 1)
 judged_more base limit code marks at h well = record {
@@ -136,7 +136,7 @@ lower pieces before b a after p q s e f =
     let one = piece_some pieces b (a ++ q ∷ after) p s parts in
     (parts, omega (arith, one.0, one.1, ap (λ (z : List Piece). place z) f, place-append b (p ∷ a), length-append p.bytes (code_of a)))
 
--- the first that goes astray
+-- the first place that goes astray has a transfer with a bad target (`IsMistargeted`)
 pub mistargeted : (base limit : ℕ) (code : List ℕ) (marks : List Mark) (at : ℕ) (h : HasJudged base limit code marks at)
     → GoesAstrayAt base limit h.read.pieces at → IsMistargeted base limit code (base + at)
 mistargeted base limit code marks at h g = record {
@@ -156,7 +156,7 @@ mistargeted base limit code marks at h g = record {
       (h.good (place b) (omega (arith, w.1, g.here)) b (a ++ g.piece ∷ g.after) p w.0 refl direct));
 }
 
--- all have been judged
+-- once all places of the code have been judged, each direct transfer has a good target
 pub judged_all : (base limit : ℕ) (code : List ℕ) (marks : List Mark) (at : ℕ) → HasJudged base limit code marks at → length code ≤ at
     → HasJudgedAll base limit code marks
 judged_all base limit code marks at h end = record {

@@ -32,7 +32,7 @@ others_stay p n k set low here other =
     bit_at_and n (n - 1) k ∙ ap (λ (x : ℕ). min x (bit_at (n - 1) k)) here
     ∙ ap (λ (x : ℕ). min 1 x) (above_lowest p n k set low above ∙ here)
 
--- one bit fewer is set
+-- a number without its lowest set bit has one set bit fewer
 fewer_in : (d n : ℕ) → n ≤ d → count_ones (bit_and n (n - 1)) ≡ count_ones n - 1
 fewer_in zero n le =
     let none : n ≡ 0 = omega (arith, le) in
@@ -57,7 +57,7 @@ fewer_in (suc d) n le = elim (cases_lt (n % 2) 1) [
 pub one_fewer : (n : ℕ) → count_ones (bit_and n (n - 1)) ≡ count_ones n - 1
 one_fewer n = fewer_in n n (omega arith)
 
--- the program's form, where the number before 0 is the greatest
+-- a number is cleared of its lowest set bit in the program's form, where the number before 0 is the greatest
 pub one_less : (n : ℕ) → n < 2 ^ 64 → bit_and n ((n + (2 ^ 64 - 1)) % 2 ^ 64) ≡ bit_and n (n - 1)
 one_less zero fits = refl
 one_less (suc m) fits = ap (λ (x : ℕ). bit_and (suc m) x) (omega (arith, fits))
@@ -86,7 +86,7 @@ own_lowest n p k p-lt found low lt set = (own, below)
       ]
     ]
 
--- so the lowest set bit is found although the highest is set too
+-- the lowest set bit of a word, if it has one, is found although the highest is set too
 pub lowest_found : (n k : ℕ) → n < 2 ^ 64 → k < 64 → bit_at n k ≡ 1
     → (bit_at n (trailing_zeros w64 (bit_or n (2 ^ 63))) ≡ 1)
     × ((i : ℕ) → i < trailing_zeros w64 (bit_or n (2 ^ 63)) → bit_at n i ≡ 0)

@@ -67,12 +67,12 @@ plain_first : (b : Bool) (r : ℕ) → Plain ≡ cond b (After r) Plain → b �
 plain_first true r e = absurd cc
 plain_first false r e = refl
 
--- and the other way round
+-- the mark of an instruction that is no indirect transfer is plain
 pub first_plain : (b : Bool) (r : ℕ) → b ≡ false → cond b (After r) Plain ≡ Plain
 first_plain true r e = absurd cc
 first_plain false r e = refl
 
--- a plain mark stands exactly at the start of an instruction that is no second half
+-- where a plain mark stands, an instruction begins that is no second half
 pub plain_entry : (pieces : List Piece) → AreSpelled pieces → (k : ℕ) → k < length (marks_of pieces)
     → get_or (marks_of pieces) k Unmarked ≡ Plain → IsEntry pieces k
 plain_entry pieces s k lt is =
@@ -87,7 +87,7 @@ plain_entry pieces s k lt is =
           (is_indirect b.piece.instr.flow) b.piece.instr.reg b.mark;
     }
 
--- and the other way round
+-- where an instruction begins that is no second half, a plain mark stands
 pub entry_plain : (pieces : List Piece) → AreSpelled pieces → (k : ℕ) → IsEntry pieces k → get_or (marks_of pieces) k Unmarked ≡ Plain
 entry_plain pieces s k e =
     ap (λ (j : ℕ). get_or (marks_of pieces) j Unmarked) (sym e.here)
@@ -96,7 +96,7 @@ entry_plain pieces s k e =
 
 -- ---- the target rule, by marks
 
--- an address in the chunk may be a target where its mark is plain, and nowhere else
+-- an address in the chunk may be a target where its mark is plain
 pub target_inside : (base limit to : ℕ) (pieces : List Piece) (marks : List Mark) → marks ≡ marks_of pieces → AreSpelled pieces
     → base ≤ to → to - base < length marks → get_or marks (to - base) Unmarked ≡ Plain → IsTarget base limit pieces to
 target_inside base limit to pieces marks is s low lt plain =
@@ -109,7 +109,7 @@ target_inside base limit to pieces marks is s low lt plain =
           (ap (λ (z : List Mark). get_or z (to - base) Unmarked) (sym is) ∙ plain),
     )
 
--- and the other way round
+-- an address in the chunk that may be a target has a plain mark
 pub plain_inside : (base limit to : ℕ) (pieces : List Piece) (marks : List Mark) → marks ≡ marks_of pieces → AreSpelled pieces → base ≤ to
     → to - base < length marks → IsTarget base limit pieces to → get_or marks (to - base) Unmarked ≡ Plain
 plain_inside base limit to pieces marks is s low lt (inl t) =
@@ -119,7 +119,7 @@ plain_inside base limit to pieces marks is s low lt (inr (inl under, start, belo
 plain_inside base limit to pieces marks is s low lt (inr (inr past, start, below)) = absurd
     (omega (arith, past, ap (λ (z : List Mark). length z) is, length-marks_of pieces s))
 
--- an address outside may be one where it is a bundle start below the limit, and nowhere else
+-- an address outside the chunk may be a target where it is a bundle start below the limit
 pub target_outside : (base limit to : ℕ) (pieces : List Piece) (marks : List Mark) → marks ≡ marks_of pieces → AreSpelled pieces
     → (base ≤ to → to - base < length marks → ⊥) → to % 32 ≡ 0 → to < limit → IsTarget base limit pieces to
 target_outside base limit to pieces marks is s outside start below =
@@ -135,7 +135,7 @@ target_outside base limit to pieces marks is s outside start below =
       below,
     )
 
--- and the other way round
+-- an address outside the chunk that may be a target is a bundle start below the limit
 pub starts_outside : (base limit to : ℕ) (pieces : List Piece) (marks : List Mark) → marks ≡ marks_of pieces → AreSpelled pieces
     → (base ≤ to → to - base < length marks → ⊥) → IsTarget base limit pieces to → (to % 32 ≡ 0) × (to < limit)
 starts_outside base limit to pieces marks is s outside (inl t) =

@@ -56,13 +56,13 @@ none_valid base limit code marks OutOfMemory v f = refl
 
 -- ---- the first three faults are given exactly when they are due
 
--- a fault is one of the three exactly when it is due
+-- the fault is each of the first three exactly when that one is due
 pub record AreDue (base limit len : ℕ) (fault : VetFault) : Type 0 where
   pub bad_base : (fault ≡ BadBase) ↔ ¬ IsBase base
   pub bad_length : (fault ≡ BadLength) ↔ (IsBase base × ¬ IsLength len)
   pub out_of_range : (fault ≡ OutOfRange) ↔ (IsBase base × IsLength len × ¬ IsInRange base limit len)
 
--- any other fault comes only where the span is good
+-- where the span is good and the fault is none of the first three, none of these is due
 none_due : (base limit len : ℕ) (fault : VetFault) → HasGoodSpan base limit len → fault ≢ BadBase → fault ≢ BadLength → fault ≢ OutOfRange
     → AreDue base limit len fault
 none_due base limit len fault g a b c = record {
@@ -71,7 +71,7 @@ none_due base limit len fault g a b c = record {
   out_of_range = (λ e. absurd (c e), λ n. absurd (n.2 (g.lawful, g.high)));
 }
 
--- so it is of each fault of a chunk
+-- each fault of a chunk is one of the first three exactly when that one is due
 pub due : (base limit : ℕ) (code : List ℕ) (fault : VetFault) → HasFault base limit code fault → AreDue base limit (length code) fault
 due base limit code BadBase f = record {
   bad_base = (λ e. f, λ n. refl);

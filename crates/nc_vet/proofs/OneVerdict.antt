@@ -33,7 +33,7 @@ same_front code rest others front other s t e =
         (omega (arith, g, ap (λ (z : List Piece). place z) f, place-append us more)))
         ∙ append-nil us
 
--- one thing stands after a front
+-- only one fault stands after a front
 one_after : (base : ℕ) (front : List Piece) (rest : List ℕ) (f g : VetFault) → StandsAfter base front rest f
     → StandsAfter base front rest g → f ≡ g
 one_after base front rest (Bare a) (Bare b) s t = ap (λ (k : ℕ). Bare k) (s.0 ∙ sym t.0)

@@ -52,7 +52,7 @@ pub piece_some : (pieces before after : List Piece) (p : Piece) → AreSpelled p
     → (p.instr.len ≡ length p.bytes) × (0 < p.instr.len)
 piece_some pieces before after p s e = spells_some p.bytes p.instr (s before after p e)
 
--- there is a mark for each byte
+-- instructions have a mark for each byte
 pub length-marks_of : (pieces : List Piece) → AreSpelled pieces → length (marks_of pieces) ≡ length (code_of pieces)
 length-marks_of [] s = refl
 length-marks_of (p ∷ ps) s =
@@ -74,7 +74,7 @@ pub valid_len : (c : MarkedChunk) → IsValid c → length c.marks ≡ length c.
 valid_len c v = ap (λ (z : List Mark). length z) v.marks_are ∙ length-marks_of v.pieces v.sound.spelled
     ∙ ap (λ (z : List ℕ). length z) (sym v.parts)
 
--- so has code that has been read
+-- code that has been read has a mark for each byte
 pub read_len : (code : List ℕ) (marks : List Mark) → HasReadAll code marks → length marks ≡ length code
 read_len code marks r = ap (λ (z : List Mark). length z) r.marks_are ∙ length-marks_of r.pieces r.sound.spelled
     ∙ ap (λ (z : List ℕ). length z) (sym r.parts)

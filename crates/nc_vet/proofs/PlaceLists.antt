@@ -29,12 +29,12 @@ some_ones n other = elim (cases_lt 0 (count_ones n)) [
   | inr none ↦ absurd (other (zero_from_ones n (omega (arith, none))))
 ]
 
--- a set bit counts
+-- a word in which a bit is set has at least one set bit
 some_set : (n k : ℕ) → bit_at n k ≡ 1 → 0 < count_ones n
 some_set n k set = some_ones n (λ is.
     (let f : 0 ≡ 1 = sym (bit_at-zero k) ∙ ap (λ (m : ℕ). bit_at m k) (sym is) ∙ set in omega (arith, f)))
 
--- one more place is added, that of one of the bits that are left
+-- the place of one of the bits that are left is added
 pub one_added : (old new : List ℕ) (start from bits done next left rest at index : ℕ) → index ≡ start + done → next ≡ done + 1
     → index < length new → at < 64 → ((i : ℕ) → i < 64 → bit_at left i ≡ 1 → i ≢ at → bit_at rest i ≡ 1)
     → count_ones rest ≡ count_ones left - 1 → HasAdded old new start from bits done left
@@ -67,7 +67,7 @@ one_added old new start from bits done next left rest at index there more room l
   ];
 }
 
--- where none is left, more places change nothing
+-- where no bit is left, as many places are added as bits were set
 pub all_added : (old new : List ℕ) (start from bits done : ℕ) → HasAdded old new start from bits done 0
     → HasAdded old new start from bits (count_ones bits) 0
 all_added old new start from bits done h = record {

@@ -17,7 +17,7 @@ use Rattle.nc_decode.specs.declared.bundle.Bundle.{Bundle}
 use Rattle.nc_decode.specs.Bits.{no_bits}
 use Rattle.nc_vet.specs.machinery.Running.{run, state_after, state_before, TellsStates, entered, HasRun, TellsBundle, AreTold, EndsFront}
 
--- one more byte of a run
+-- a run over some bytes and one more leads to the next state by that byte
 run_more : (s : ℕ) (bs : List ℕ) (b : ℕ) → run s (bs ++ b ∷ []) ≡ next_state (run s bs) b
 run_more s [] b = refl
 run_more s (c ∷ bs) b = run_more (next_state s c) bs b
@@ -34,7 +34,7 @@ run_before code k = elim (true_or_false (k % 32 == 0)) [
       ∙ ap (λ (n : ℕ). run END (take ((k - 1) % 32 + 1) (drop n code))) {x = k - k % 32} {y = k - 1 - (k - 1) % 32} (omega (arith, some))))
 ]
 
--- each state is the next
+-- the state after a byte is the next one of the state before it
 pub state_next : (code : List ℕ) (k : ℕ) → k < length code → state_after code k ≡ next_state (state_before (state_after code) k)
     (get_or code k 0)
 unfolding state_after
@@ -75,7 +75,7 @@ entered_some code at i some = elim (true_or_false (i == 0)) [
   | inr other ↦ rw other refl
 ]
 
--- one more byte
+-- a run goes on by one more byte of its bundle
 pub run_on : (code : List ℕ) (at i state byte : ℕ) (states : List ℕ) → at % 32 ≡ 0 → i < 32 → at + i < length code
     → HasRun code at i state states → byte ≡ get_or code (at + i) 0
     → HasRun code at (i + 1) (next_state state byte) (slice_set states i (next_state state byte))
@@ -97,7 +97,7 @@ run_on code at i state byte states start lt in_code h is =
       long = length-set states i (next_state state byte) ∙ h.long;
     }
 
--- the same of what a step has left
+-- a run goes on by one more byte of its bundle, by what a step has left
 pub run_stepped : (code : List ℕ) (at i state byte after : ℕ) (states more : List ℕ) → at % 32 ≡ 0 → i < 32 → at + i < length code
     → HasRun code at i state states → byte ≡ get_or code (at + i) 0
     → after ≡ next_state state byte → more ≡ slice_set states i (next_state state byte)
@@ -107,7 +107,7 @@ run_stepped code at i state byte after states more start lt in_code h is to set_
     subst (λ (z : List ℕ). HasRun code at (i + 1) after z) (sym set_is)
     (subst (λ (s : ℕ). HasRun code at (i + 1) s (slice_set states i (next_state state byte))) (sym to) w)
 
--- all of a bundle
+-- a run over all of a bundle tells the bundle's bits
 pub run_told : (code : List ℕ) (at i state : ℕ) (states : List ℕ) (w : Bundle) → i ≡ 32 → HasRun code at i state states
     → TellsStates states w → TellsBundle code at w
 run_told code at i state states w end h t = record {
@@ -118,7 +118,7 @@ run_told code at i state states w end h t = record {
   small = t.small;
 }
 
--- the same place
+-- a bundle told at a place is told at an equal place
 pub moved : (code : List ℕ) (j k : ℕ) (w : Bundle) → j ≡ k → TellsBundle code j w → TellsBundle code k w
 moved code j k w e i = subst (λ (m : ℕ). TellsBundle code m w) e i
 
@@ -174,7 +174,7 @@ told_more code bundles more items count t is le f whole = (
           (tells, whole_told code (32 * n) (get_or more (n - length bundles) no_bits) tells (whole (n - length bundles) m-lt)))
     ]
 
--- one more bundle after those that were read, which is whole
+-- the bundles that were read, and one more that is whole, are told
 pub told_next : (code : List ℕ) (bundles items : List Bundle) (w : Bundle) → AreTold code bundles → items ≡ bundles ++ w ∷ []
     → TellsBundle code (32 * length bundles) w → bit_at w.ends 31 ≡ 1 → AreTold code items × (length items ≡ length bundles + 1)
 told_next code bundles items w t is tells last = told_more code bundles (w ∷ []) items 1 t is (omega arith) told whole
@@ -187,7 +187,7 @@ told_next code bundles items w t is tells last = told_more code bundles (w ∷ [
     whole zero lt = last
     whole (suc n) lt = absurd (omega (arith, lt))
 
--- where it is the last of the code, all has been read
+-- where the last bundle of the code is read and whole, all of the code has been read
 pub told_last : (code : List ℕ) (bundles items : List Bundle) (w : Bundle) → AreTold code bundles → items ≡ bundles ++ w ∷ []
     → TellsBundle code (32 * length bundles) w → bit_at w.ends 31 ≡ 1 → 32 * length bundles + 32 ≡ length code
     → EndsFront code items (length code)
@@ -220,7 +220,7 @@ stopped code bundles w at end told here room t low near ended = record {
       ));
 }
 
--- the highest bit
+-- the bit below the leading zeros of a number is set
 pub top_bit : (n len : ℕ) → n < 2 ^ 32 → len + leading_zeros w32 n ≡ 32 → len ≢ 0 → bit_at n (len - 1) ≡ 1
 top_bit zero len fits is some = absurd (some (omega (arith, is, leading_of_zero 32)))
 top_bit (suc m) len fits is some =

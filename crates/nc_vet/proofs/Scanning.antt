@@ -38,11 +38,11 @@ before_inner S k h = go (k % 32 == 0) refl
 before_first : (S : ℕ → ℕ) (k : ℕ) → k % 32 ≡ 0 → state_before S k ≡ END
 before_first S k h = rw h refl
 
--- each state is small
+-- the state after each place is one of the states
 state_small : (code : List ℕ) (to : ℕ) (S : ℕ → ℕ) (k : ℕ) → AreStates code to S → k < length code → S k < STATES
 state_small code to S k a lt = omega (arith, a.next k lt, next_small (state_before S k) (get_or code k 0))
 
--- so is the state before each place
+-- the state before each place is one of the states
 before_small : (code : List ℕ) (to : ℕ) (S : ℕ → ℕ) (k : ℕ) → AreStates code to S → k < length code → state_before S k < STATES
 before_small code to S k a lt = go (k % 32 == 0) refl
   where
@@ -78,7 +78,7 @@ second_inside code to S k a lt e =
 
 -- ---- one instruction
 
--- one more byte before a run
+-- a byte inside an instruction, in front of bytes that lead to its end, leads there with them
 leads_more : (s c e : ℕ) (bs : List ℕ) → next_state s c < END → LeadsToEnd (next_state s c) bs e → LeadsToEnd s (c ∷ bs) e
 leads_more s c e [] lt l = absurd l
 leads_more s c e (b ∷ bs) lt l = (lt, l)
@@ -146,7 +146,7 @@ record Read (code : List ℕ) (S : ℕ → ℕ) (b at : ℕ) : Type 0 where
 abbrev AllInside : (ℕ → ℕ) → ℕ → ℕ → Type 0
 AllInside S b at = (k : ℕ) → b ≤ k → k < at → S k < END
 
--- what ends there is an instruction
+-- the bytes from where an instruction begins to where it ends, by the states, are read as one
 read_from : (code : List ℕ) (to : ℕ) (S : ℕ → ℕ) (b at : ℕ) → AreStates code to S → b ≤ at → at < to → AllInside S b at → END ≤ state_before S b
     → END ≤ S at → Read code S b at
 read_from code to S b at a le lt inner begins ended =
@@ -178,16 +178,16 @@ read_from code to S b at a le lt inner begins ended =
       ];
     }
 
--- a byte of it
+-- a byte of an instruction is that of the code at its place
 read_byte : (code : List ℕ) (b n k : ℕ) → k < n → get_or (take n (drop b code)) k 0 ≡ get_or code (b + k) 0
 read_byte code b n k lt = get_or-take n (drop b code) k 0 lt ∙ get_or-drop b code k 0
 
--- four bytes are a number
+-- bytes with the same first four denote the same number of four bytes
 four_bytes : (xs ys : List ℕ) → get_or xs 0 0 ≡ get_or ys 0 0 → get_or xs 1 0 ≡ get_or ys 1 0 → get_or xs 2 0 ≡ get_or ys 2 0
     → get_or xs 3 0 ≡ get_or ys 3 0 → from_le_bytes w32 xs ≡ from_le_bytes w32 ys
 four_bytes xs ys p q r s = rw (p, q, r, s) refl
 
--- its displacement, where it is a direct transfer
+-- where a direct transfer ends, its displacement is the last byte or the last four
 displaced : (code : List ℕ) (S : ℕ → ℕ) (b at : ℕ) → b ≤ at → (r : Read code S b at) → IsTrue (is_direct r.instr.flow)
     → IsDisplaced S code (b + suc (at - b)) r.instr
 displaced code S b at le r d =
@@ -227,15 +227,15 @@ not_true : (b : Bool) → (b ≡ true → ⊥) → b ≡ false
 not_true true h = absurd (h refl)
 not_true false h = refl
 
--- a mark by the states is plain
+-- a mark by the states is plain where an instruction begins that is no second half
 plain_by : (S : ℕ → ℕ) (code : List ℕ) (k : ℕ) → second S k ≡ false → END ≤ state_before S k → mark_by S code k ≡ Plain
 plain_by S code k e low = rw (e, le-leb END (state_before S k) low) refl
 
--- or there is none
+-- a mark by the states is none where no instruction begins
 unmarked_by : (S : ℕ → ℕ) (code : List ℕ) (k : ℕ) → second S k ≡ false → state_before S k < END → mark_by S code k ≡ Unmarked
 unmarked_by S code k e low = rw (e, not_true (nat_le END (state_before S k)) (λ h. omega (arith, leb-true END (state_before S k) h, low))) refl
 
--- or it is that of a second half
+-- a mark by the states is that of a second half where one begins
 after_by : (S : ℕ → ℕ) (code : List ℕ) (k : ℕ) → second S k ≡ true → mark_by S code k ≡ After (get_or code (k + 1) 0 % 8)
 after_by S code k e = rw e refl
 
@@ -262,7 +262,7 @@ second_only code to S b at k a le lt inner ended r lo hi e =
     let two : length (take (suc (at - b)) (drop b code)) ≡ 2 = (r.ends.paired pair).1 in
     (omega (arith, two, r.long, at_is), omega (arith, two, r.long, le), pair)
 
--- where it begins
+-- the mark of an instruction is that by the states where it begins
 first_mark : (code : List ℕ) (to : ℕ) (S : ℕ → ℕ) (b at : ℕ) → AreStates code to S → b ≤ at → at < to → AllInside S b at → END ≤ state_before S b
     → END ≤ S at → (r : Read code S b at) → mark_of r.instr ≡ mark_by S code b
 first_mark code to S b at a le lt inner begins ended r =
@@ -284,7 +284,7 @@ first_mark code to S b at a le lt inner begins ended r =
           ∙ sym (plain_by S code b none begins))
     ]
 
--- inside it
+-- inside an instruction the marks by the states are none
 later_mark : (code : List ℕ) (to : ℕ) (S : ℕ → ℕ) (b at k : ℕ) → AreStates code to S → b ≤ at → at < to → AllInside S b at → END ≤ S at
     → (r : Read code S b at) → b < k → k ≤ at → Unmarked ≡ mark_by S code k
 later_mark code to S b at k a le lt inner ended r lo hi =
@@ -294,7 +294,7 @@ later_mark code to S b at k a le lt inner ended r lo hi =
     let low : state_before S k < END = omega (arith, before_inner S k not_first, inner (k - 1) (omega (arith, lo)) (omega (arith, lo, hi))) in
     sym (unmarked_by S code k none low)
 
--- the mark of each of its places
+-- the mark at each place of an instruction is that by the states
 mark_here : (code : List ℕ) (to : ℕ) (S : ℕ → ℕ) (b at k : ℕ) → AreStates code to S → b ≤ at → at < to → AllInside S b at
     → END ≤ state_before S b → END ≤ S at → (r : Read code S b at)
     → r.instr.len ≡ length (take (suc (at - b)) (drop b code)) → b ≤ k → k < at + 1
@@ -311,7 +311,7 @@ mark_here code to S b at k a le lt inner begins ended r len lo hi =
           ∙ ap (λ (j : ℕ). mark_by S code j) {x = b} {y = k} (omega (arith, here, lo))
     ]
 
--- the mask that it leaves
+-- a register that is masked by the states after an instruction was masked by it
 masked_next : (code : List ℕ) (S : ℕ → ℕ) (at : ℕ) (front : List Piece) (r : Read code S (place front) at) → place front ≤ at → (q : ℕ)
     → masked_at (state_before S (at + 1)) ≡ Some q
     → FollowsMask (front ++ (record { bytes = take (suc (at - place front)) (drop (place front) code); instr = r.instr }) ∷ []) q
@@ -346,7 +346,7 @@ masked_next code S at front r le q e =
 
 -- ---- the step
 
--- one more instruction
+-- with an instruction that ends at a place, code is scanned up to behind the place
 pushed : (code : List ℕ) (to : ℕ) (S : ℕ → ℕ) (at : ℕ) → AreStates code to S → at < to → (h : Scanned code S at) → END ≤ S at
     → Scanned code S (at + 1)
 pushed code to S at a lt h ended =
@@ -402,7 +402,7 @@ pushed code to S at a lt h ended =
       | inr e ↦ rw e low
     ]
 
--- one more place
+-- code is scanned up to one more place
 scanned_more : (code : List ℕ) (to : ℕ) (S : ℕ → ℕ) (at : ℕ) → AreStates code to S → at < to → Scanned code S at → Scanned code S (at + 1)
 scanned_more code to S at a lt h = elim (cases_lt (S at) END) [
   | inl inside ↦ record {
@@ -422,7 +422,7 @@ scanned_more code to S at a lt h = elim (cases_lt (S at) END) [
   | inr ended ↦ pushed code to S at a lt h ended
 ]
 
--- all places up to one
+-- code is scanned up to each place
 scanned_to : (code : List ℕ) (to : ℕ) (S : ℕ → ℕ) → AreStates code to S → (n : ℕ) → n ≤ to → Scanned code S n
 scanned_to code to S a zero le = none_scanned code S
 scanned_to code to S a (suc n) le =

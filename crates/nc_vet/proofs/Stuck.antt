@@ -17,7 +17,7 @@ use Rattle.nc_vet.specs.machinery.Steps.{NoneMayFollow, HasRead, EndsReading}
 use Rattle.nc_vet.proofs.Pieces.{code_of-append, place-append, rest_is, front_within}
 use Rattle.nc_vet.proofs.OneReading.{agree, one_at_front}
 
--- an instruction at the front of bytes that are only the beginning of one
+-- bytes that are only the beginning of an instruction have none at their front
 pub none_cut : (bytes : List ℕ) (i : Instr) → IsAtFront bytes i → IsProperFront bytes → ⊥
 none_cut bytes i f cut =
     let whole : bytes ++ cut.more ≡ f.front ++ (f.rest ++ cut.more) = ap (λ (z : List ℕ). z ++ cut.more) f.parts

@@ -21,7 +21,7 @@ set_each P (x ∷ xs) zero y d h p (suc k) = h (suc k)
 set_each P (x ∷ xs) (suc i) y d h p zero = h zero
 set_each P (x ∷ xs) (suc i) y d h p (suc k) = set_each (λ j. P (suc j)) xs i y d (λ j. h (suc j)) p k
 
--- what is put into its place is the answer on that job
+-- answers in their places stay so with the answer on a job put into the place of the job
 pub answers_set : (jobs : List Job) (answers : List (Option (Result Marks VetFault))) (at : ℕ) (answer : Option (Result Marks VetFault))
     → AreAnswers jobs answers → FitsPlace jobs at answer → AreAnswers jobs (set answers at answer)
 answers_set jobs answers at answer h p = record { each = set_each (FitsPlace jobs) answers at answer None h.each p }

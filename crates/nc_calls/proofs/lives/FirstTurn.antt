@@ -85,13 +85,13 @@ own_created v =
     own_before (create_first v) (Enters 0 v.base ∷ create_second v) (create_first_text v)
     ∙ (ap (λ (z : List Event). create_first v ++ z) (own_of_text (create_second v) (create_second_text v)) ∙ sym (create_parts v))
 
--- the world before the thread enters
+-- the world of the creation's turn before the thread enters
 stage_first : (v : MarkedChunk) → Stage v.limit (first_keeper_numbers 1) first_seat (world_after (first_world v.limit 1) (create_first v))
 stage_first v =
     stage_of_text v.limit (first_keeper_numbers 1) first_seat (first_world v.limit 1) (create_first v) (create_first_text v)
     (first_stage v.limit)
 
--- the world when the thread has entered
+-- the world of the creation's turn when the thread has entered
 stage_inside : (v : MarkedChunk)
     → Stage v.limit (first_keeper_numbers 1) (seat_in (start_of v)) (world_after (first_world v.limit 1) (until_entered v))
 stage_inside v =
@@ -99,11 +99,11 @@ stage_inside v =
     (sym (after_append (first_world v.limit 1) (create_first v) (Enters 0 v.base ∷ [])))
     (stage_entered v.limit (first_keeper_numbers 1) v.base (world_after (first_world v.limit 1) (create_first v)) (stage_first v))
 
--- the events in two parts
+-- the events of the creation's turn are those up to the thread's entering and those after it
 creation_parts : (v : MarkedChunk) → creation_events v ≡ until_entered v ++ create_second v
 creation_parts v = sym (append_assoc (create_first v) (Enters 0 v.base ∷ []) (create_second v))
 
--- the world after the turn
+-- the world after the creation's turn
 pub stage_created : (v : MarkedChunk)
     → Stage v.limit (first_keeper_numbers 1) (seat_in (start_of v)) (world_after (first_world v.limit 1) (creation_events v))
 stage_created v =

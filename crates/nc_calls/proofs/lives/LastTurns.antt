@@ -54,7 +54,7 @@ pub record Ended (v : MarkedChunk) (before : List Event) (old : Region) (path : 
   pub no_chunk : reclaim.region.chunks ≡ []
   pub unused : reclaim.region.marked ≡ unused_text v.limit
 
--- the world in which they begin, after these events: the thread is at the chunk's base, and the text has these bytes
+-- the world in which the last turns begin, after these events: the thread is at the chunk's base, and the text has these bytes
 pub record Begun (v : MarkedChunk) (before : List Event) (text : List ℕ) : Type 0 where
   pub stage : Stage v.limit (first_keeper_numbers 1) (seat_in (start_of v)) (world_after (first_world v.limit 1) before)
   pub text_is : (world_after (first_world v.limit 1) before).marked.bytes ≡ text
@@ -107,7 +107,7 @@ abbrev deletion_turn : MarkedChunk → KeeperState → MarkedText → List Bool 
 deletion_turn v keeper marked made logged path =
     record { events = gone_and_deleted v path marked.marks; region = deleted_of v keeper marked made logged }
 
--- what the deletion does to the region
+-- the deletion leaves the region with the chunk deleted (`IsDeleted`)
 abbrev deletes_of : (v : MarkedChunk) (keeper : KeeperState) (marked : MarkedText) (made : List Bool) (logged : List Entry)
     → IsDeleted (with_live v keeper marked made logged) (deleted_of v keeper marked made logged) v.base 1
 deletes_of v keeper marked made logged = deleted_at (with_live v keeper marked made logged) 0 (live_chunk v) refl refl (omega arith)
@@ -150,7 +150,7 @@ deletion_is_turn v keeper marked made logged before path b joined =
 abbrev pub third_numbers : KeeperNumbers
 third_numbers = record { generation = 1; bounds = 1 ∷ []; looks = 1 ∷ [] }
 
--- the events of its turn
+-- the events of the reclaim's turn
 abbrev pub last_events : MarkedChunk → List Event
 last_events v = Exits 0 ∷ Takes 0 ∷ Stores 0 ∷ Looks 0 ∷ Frees (span_of v) ∷ []
 
@@ -174,7 +174,7 @@ has_looked : (keeper : KeeperState) → HasLooked (record keeper { numbers = sec
 has_looked keeper =
     record { table = refl; generation = refl; looks = (refl, one_more); counted = refl; raised = (refl, not_lower) }
 
--- what the reclaim does
+-- the reclaim leaves the region reclaimed (`IsReclaimed`)
 abbrev reclaims_of : (v : MarkedChunk) (keeper : KeeperState) (marked : MarkedText) (made : List Bool) (logged : List Entry)
     → IsReclaimed (deleted_of v keeper marked made logged) (reclaimed_of v keeper marked made logged) 1
 reclaims_of v keeper marked made logged =

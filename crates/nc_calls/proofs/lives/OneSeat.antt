@@ -104,7 +104,7 @@ pub own_gone : (path : List State) (more : List Event) → writers (map (Steps 0
 own_gone [] more = refl
 own_gone (next ∷ rest) more = own_gone rest more
 
--- the thread may take them where the text is the one that the path goes through
+-- the thread may take the steps of a path where the text is the one that the path goes through
 pub may_go : (limit : ℕ) (keeper : KeeperNumbers) (text : List ℕ) (now : State) (w : World) (path : List State) (more : List Event)
     → Stage limit keeper (seat_in now) w → w.marked.bytes ≡ text → Joined text now path
     → ThreadsMay (world_after w (map (Steps 0) path)) more → ThreadsMay w (map (Steps 0) path ++ more)

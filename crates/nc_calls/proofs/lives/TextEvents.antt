@@ -14,7 +14,7 @@ use Rattle.nc_calls.proofs.Turning.{puts_keep, patch_keeps}
 
 -- ---- events that change only the text
 
--- each is a put, a settling or a marking
+-- each of the events is a put, a settling or a marking
 abbrev pub AreOfText : List Event → Type 0
 AreOfText [] = ⊤
 AreOfText (Puts at byte ∷ events) = AreOfText events

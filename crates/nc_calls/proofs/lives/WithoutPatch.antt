@@ -21,7 +21,7 @@ use Rattle.nc_calls.proofs.lives.LastTurns.{Ended, Begun, ended}
 use Rattle.nc_calls.proofs.lives.FirstTurn.{creation_events, stage_created, fresh, same_created, creation_turn, creation_is_turn, creates_around}
 use Rattle.nc_calls.proofs.lives.FirstTurn.{lies_in, bytes_back, marks_back}
 
--- along each path through this text that begins at the chunk's base
+-- the chunk has a life along each path through this text that begins at its base
 abbrev pub HasLives : MarkedChunk → KeeperState → Turn → List Turn → List ℕ → Type 0
 HasLives v keeper creation between text = (path : List State) → Joined text (start_of v) path → IsLife v keeper creation between path
 

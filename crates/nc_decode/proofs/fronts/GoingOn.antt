@@ -17,7 +17,7 @@ abbrev goes_on : Flow → Bool
 goes_on Next = true
 goes_on _ = false
 
--- so it is Next
+-- a flow that goes on is Next
 is_next : (f : Flow) → goes_on f ≡ true → f ≡ Next
 is_next Next h = refl
 is_next Branch h = absurd cc
@@ -33,19 +33,19 @@ is_next Stop h = absurd cc
 abbrev shares : PrefixRow → Row → ℕ → Bool
 shares line row o = same line.escaped row.escaped && (within o line.opcodes && within o row.opcodes)
 
--- both have this reg field
+-- a line of the prefix table and a row both have this reg field
 abbrev shares_reg : PrefixRow → Row → ℕ → Bool
 shares_reg line row reg = within reg line.regs && within reg row.regs
 
--- where they share an opcode, they share no reg field
+-- where a line of the prefix table and a row share this opcode, the row has an operand, and they share no reg field
 abbrev apart_at : PrefixRow → Row → ℕ → Bool
 apart_at line row o = elim (shares line row o) [ true ↦ row.operand && each_below (λ reg. not (shares_reg line row reg)) 8 | false ↦ true ]
 
--- the row goes on, or the line stands before none of its instructions
+-- the row goes on, or the line of the prefix table stands before none of its instructions
 abbrev apart : PrefixRow → Row → Bool
 apart line row = elim (goes_on row.flow) [ true ↦ true | false ↦ each_below (apart_at line row) 256 ]
 
--- so it is for each line and each row
+-- each row goes on, or no line of the prefix table stands before its instructions
 lines_go_on : each (λ line. each (apart line) rows) prefix_rows ≡ true
 unfolding rows first_rows later_rows prefix_rows first_prefix_rows later_prefix_rows
 lines_go_on = refl
@@ -88,25 +88,25 @@ prefixed_goes_on p (Some b) fit lt allows some = line_goes_on p b allows.0 fit l
 
 -- ---- what masks
 
--- the row of the opcode 83 goes on
+-- the row goes on, if it lists 83 as an opcode of one byte
 abbrev row_goes_on : Row → Bool
 row_goes_on row = elim row.escaped [ true ↦ true | false ↦ elim (within 0x83 row.opcodes) [ true ↦ goes_on row.flow | false ↦ true ] ]
 
--- so for each row
+-- each row that lists 83 as an opcode of one byte goes on
 rows_go_on : each row_goes_on rows ≡ true
 unfolding rows first_rows later_rows
 rows_go_on = refl
 
--- no prefix is the byte 83
+-- the prefix of the line isn't the byte 83
 abbrev is_other : PrefixRow → Bool
 is_other line = elim (line.prefix == 0x83) [ true ↦ false | false ↦ true ]
 
--- so for each line
+-- no line of the prefix table has the byte 83 as its prefix
 lines_are_other : each is_other prefix_rows ≡ true
 unfolding prefix_rows first_prefix_rows later_prefix_rows
 lines_are_other = refl
 
--- the byte of a line isn't 83
+-- the prefix of a line of the prefix table isn't 83
 other_byte : (line : PrefixRow) (b : ℕ) → Contains prefix_rows line → line.prefix ≡ b → b ≢ 0x83
 other_byte line b c same is =
     chosen (line.prefix == 0x83) (ap (λ (n : ℕ). n == 0x83) (same ∙ is)) (each-Contains is_other prefix_rows line lines_are_other c)
@@ -115,7 +115,7 @@ other_byte line b c same is =
     chosen true e h = absurd cc
     chosen false e h = absurd cc
 
--- nor is the prefix of a spelling
+-- a prefix that some line of the prefix table allows before a spelling isn't 83
 prefix_other : (p : Parts) (o : Option ℕ) → IfSome o (λ b. (line : PrefixRow) × Contains prefix_rows line × Allows line b p)
     → IfSome o (λ b. b ≢ 0x83)
 prefix_other p None h = tt
@@ -127,7 +127,7 @@ pub record Begins83 (o : Option ℕ) (escaped : Bool) (opcode : ℕ) : Type 0 wh
   pub one : escaped ≡ false
   pub opcode_is : opcode ≡ 0x83
 
--- so it is
+-- bytes whose first one is 83 have no prefix, and 83 is their opcode, if 83 isn't their prefix
 begins_83 : (o : Option ℕ) (escaped : Bool) (opcode : ℕ) (rest : List ℕ) → IfSome o (λ b. b ≢ 0x83)
     → get_or ((option_to_list o ++ cond escaped (0x0F ∷ opcode ∷ []) (opcode ∷ [])) ++ rest) 0 0 ≡ 0x83 → Begins83 o escaped opcode
 begins_83 (Some b) escaped opcode rest other e = absurd (other e)

@@ -7,7 +7,7 @@ use Rattle.nc_decode.specs.Rows.{Row, PrefixRow, rows, first_rows, later_rows, p
 use Rattle.nc_decode.specs.Profiles.{Profile, first_profile, profile}
 use Rattle.nc_decode.specs.Spelling.{Parts, Allows, SpellsBy}
 
--- each row and each line of the first is one of the second, and so is each size of a region
+-- each row and each line of the first profile is one of the second, and so is each size of a region
 pub record IsPartOf (v w : Profile) : Type 0 where
   pub rows : (row : Row) → Contains v.rows row → Contains w.rows row
   pub prefix_rows : (line : PrefixRow) → Contains v.prefix_rows line → Contains w.prefix_rows line

@@ -11,23 +11,23 @@ use Rattle.nc_decode.proofs.reading.EntryReads.{IsBytes}
 leading_more : (b : ℕ) (rest : List ℕ) → b < 256 → leading_bytes (b ∷ rest) ≡ b ∷ leading_bytes rest
 leading_more b rest lt = cond_is_true (nat_lt b 256) (b ∷ leading_bytes rest) [] (lt-ltb _ _ lt)
 
--- they are bytes
+-- bytes with a number in front that is a byte, or else no bytes, are bytes
 fit_by : (t : Bool) (b : ℕ) (rest : List ℕ) → nat_lt b 256 ≡ t → IsBytes rest → IsBytes (cond t (b ∷ rest) [])
 fit_by true b rest is fits zero = ltb-true _ _ is
 fit_by true b rest is fits (suc i) = fits i
 fit_by false b rest is fits i = omega arith
 
--- they are bytes
+-- the leading bytes of a list of numbers are bytes
 pub leading_fit : (xs : List ℕ) → IsBytes (leading_bytes xs)
 leading_fit [] i = omega arith
 leading_fit (b ∷ rest) i = fit_by (nat_lt b 256) b (leading_bytes rest) refl (leading_fit rest) i
 
--- they are a front of the numbers
+-- the leading bytes of this list of numbers are a front of it
 pub record IsLed (xs : List ℕ) : Type 0 where
   pub more : List ℕ
   pub parts : xs ≡ leading_bytes xs ++ more
 
--- they are a front
+-- the leading bytes of each list of numbers are a front of it
 pub leading_front : (xs : List ℕ) → IsLed xs
 leading_front [] = record { more = []; parts = refl }
 leading_front (b ∷ rest) =

@@ -61,7 +61,7 @@ each-among t (y ∷ ys) x e h =
 abbrev refused : Result Shape DecodeFault
 refused = Err NotPermitted
 
--- nothing is read
+-- the answer is no shape
 abbrev Refuses : Result Shape DecodeFault → Type 0
 Refuses x = (s : Shape) → x ≡ Ok s → ⊥
 
@@ -92,7 +92,7 @@ escape_dead p n (o ∷ rest) d s h =
           (Ok s) may_not h in cc)
     ]
 
--- FF /3 and FF /5 are no forms of FF
+-- FF /3 is no form of FF, after any prefix or none
 far_3 : (p : Prefix) (b : Bool) → permits_at (forms_of p (opcode_entry false 0xFF)) 3 b ≡ false
 unfolding opcode_entry forms_of
 far_3 Unprefixed true = refl
@@ -106,7 +106,7 @@ far_3 RepeatNot false = refl
 far_3 Lock true = refl
 far_3 Lock false = refl
 
--- nor does FF /5
+-- FF /5 is no form of FF, after any prefix or none
 far_5 : (p : Prefix) (b : Bool) → permits_at (forms_of p (opcode_entry false 0xFF)) 5 b ≡ false
 unfolding opcode_entry forms_of
 far_5 Unprefixed true = refl
@@ -200,11 +200,11 @@ barred_plain o rest d =
           ∙ far_plain
     ]
 
--- a byte that is a prefix is no segment override
+-- the byte is no segment override, if it is a prefix
 abbrev no_override : ℕ → Bool
 no_override b = implies (not (coded_plain (prefix_of b))) (not (among overrides b))
 
--- so it is for each leading byte
+-- no leading byte that is a prefix is a segment override
 prefixes_override_nothing : each no_override leading ≡ true
 unfolding prefix_of
 prefixes_override_nothing = refl

@@ -14,7 +14,7 @@ use Rattle.nc_decode.proofs.reading.SpelledIsRead.{opcode-lt}
 use Rattle.nc_decode.proofs.reading.SpellingParts.{prefix_at}
 use Rattle.nc_decode.proofs.fronts.FrontLaws.{goes_on_after_prefix}
 
--- the opcodes of a row of direct transfers are among those bytes, or the escape stands before them
+-- if the row is of direct transfers, each of its opcodes is a byte with which one may begin, or the escape stands before it
 abbrev row_begins : Row → Bool
 row_begins row = elim (is_direct row.flow) [
   | true ↦ elim row.escaped [
@@ -25,7 +25,7 @@ row_begins row = elim (is_direct row.flow) [
   | false ↦ true
 ]
 
--- so for each row
+-- each opcode of each row of direct transfers is a byte with which one may begin, or the escape stands before it
 rows_begin : each row_begins rows ≡ true
 unfolding rows first_rows later_rows
 rows_begin = refl
@@ -47,7 +47,7 @@ no_prefix bytes i s direct = go s.parts.prefix refl
         let next = (goes_on_after_prefix bytes i s (λ none. (let f : s.parts.prefix ≡ Some b = e in cc))).0 in
         let f : true ≡ false = sym direct ∙ ap is_direct next in cc)
 
--- what an opcode of a row of direct transfers begins with
+-- the first byte of an opcode of a row of direct transfers is one with which a direct transfer may begin
 opcode_begins : (d e : Bool) (w : Bool) (test : Bool) (opcode : ℕ) → d ≡ true → w ≡ true
     → (e ≡ false → test ≡ true → w ≡ true → may_transfer opcode ≡ true)
     → (elim d [ true ↦ elim e [ true ↦ true | false ↦ test ] | false ↦ true ]) ≡ true → may_transfer (cond e 0x0F opcode) ≡ true
@@ -55,7 +55,7 @@ opcode_begins true true w test opcode p q f h = refl
 opcode_begins true false w test opcode p q f h = f refl h q
 opcode_begins false e w test opcode p q f h = absurd cc
 
--- no direct transfer begins with another byte
+-- the first byte of a direct transfer is one with which it may begin (`may_transfer`)
 pub direct_begins : BeginsAsTransfer
 direct_begins byte rest i s direct =
     let p = prefix_at s.parts s.parts.prefix s.fit.prefix in

@@ -130,18 +130,18 @@ row_is p e escaped o reg row c l a =
     let b = both (same row.escaped escaped) (within o row.opcodes) l in
     record { listed = c; escaped_is = same_is _ _ b.0; opcode = b.1; agreed = a }
 
--- the test with an operand
+-- where an entry with an operand passes the test of what it permits, each of its forms does
 sound_prefix-operand : (p : Prefix) (e : Entry) (forms : ℕ) (rs : List Row) (lines : List PrefixRow) → e.operand ≡ true
     → sound_prefix p e forms rs lines ≡ true → each_form (sound_form p e forms rs lines) ≡ true
 sound_prefix-operand p e forms rs lines operand h = chosen_true e.operand _ _ true operand h
 
--- the test of a permitted form
+-- where a permitted form passes the test, a row fits it and the lines allow it
 sound_form-permitted : (p : Prefix) (e : Entry) (forms : ℕ) (rs : List Row) (lines : List PrefixRow) (reg : ℕ) (b : Bool)
     → permits_at forms reg b ≡ true → sound_form p e forms rs lines reg b ≡ true → some (fits_form p e reg b) rs
     && allowed_form p lines reg b ≡ true
 sound_form-permitted p e forms rs lines reg b permitted h = chosen_true (permits_at forms reg b) _ _ true permitted h
 
--- the test without operand
+-- where an entry without operand passes the test of what it permits, a row fits it and the lines allow its prefix
 sound_prefix-bare : (p : Prefix) (e : Entry) (forms : ℕ) (rs : List Row) (lines : List PrefixRow) → e.operand ≡ false
     → (forms == 0) ≡ false → sound_prefix p e forms rs lines ≡ true → some (fits_bare p e) rs && allowed_bare p lines ≡ true
 sound_prefix-bare p e forms rs lines operand some_form h = chosen_false (forms == 0) _ _ true some_form
@@ -207,7 +207,7 @@ form_allowed : (byte : ℕ) (escaped : Bool) (o reg : ℕ) (b : Bool)
 form_allowed byte escaped o reg b w = finds-Contains (line_form reg b) (line_lists (Some byte) escaped o) prefix_rows w.0 w.1.listed
     (line_listed byte escaped o w.0 w.1) (both_made (within reg w.0.regs) (place_at w.0.place b) w.2 w.3)
 
--- where the lines allow a form, the test holds
+-- where the lines allow a form after a prefix, the test of it (`allowed_form`) holds
 pub form_is_allowed : (p : Prefix) (escaped : Bool) (o reg : ℕ) (b : Bool) → AllowsForm p escaped o reg b
     → allowed_form p (lines_of p escaped o) reg b ≡ true
 form_is_allowed Unprefixed escaped o reg b w = refl
@@ -222,7 +222,7 @@ bare_allowed : (byte : ℕ) (escaped : Bool) (o : ℕ) → ((line : PrefixRow) �
 bare_allowed byte escaped o w = finds-Contains (λ (line : PrefixRow). true)
     (line_lists (Some byte) escaped o) prefix_rows w.0 w.1.listed (line_listed byte escaped o w.0 w.1) refl
 
--- where the lines allow the prefix there, the test holds
+-- where the lines allow a prefix before an opcode without operand, the test of it (`allowed_bare`) holds
 pub bare_is_allowed : (p : Prefix) (escaped : Bool) (o : ℕ) → AllowsBare p escaped o → allowed_bare p (lines_of p escaped o) ≡ true
 bare_is_allowed Unprefixed escaped o w = refl
 bare_is_allowed Word escaped o w = bare_allowed 0x66 escaped o w
@@ -237,12 +237,12 @@ complete_parts row o =
     && implies (not row.escaped) (not (o == 0x0F) && coded_plain (prefix_of o)))
     && each_prefix (λ p. permits_prefix p (opcode_entry row.escaped o) (forms_of p (opcode_entry row.escaped o)) row (lines_of p row.escaped o))
 
--- the test at an opcode that the row lists
+-- where a row and an opcode that it lists pass the test, they pass its parts (`complete_parts`)
 complete_at-within : (row : Row) (o : ℕ) → within o row.opcodes ≡ true → complete_at row o ≡ true → complete_parts row o ≡ true
 unfolding complete_at
 complete_at-within row o listed h = chosen_true (within o row.opcodes) _ _ true listed h
 
--- the test holds of each row
+-- each row passes the parts of the test at each opcode that it lists
 complete_row : (row : Row) (o : ℕ) → Contains rows row → o < 256 → within o row.opcodes ≡ true → complete_parts row o ≡ true
 complete_row row o c lt listed =
     complete_at-within row o listed (each_below-at (complete_at row) 256 o
@@ -262,19 +262,19 @@ opcode_stands row o c lt listed one =
     let b = both (not (o == 0x0F)) (coded_plain (prefix_of o)) a in
     (not_is _ b.0, b.1)
 
--- the test with an operand
+-- where a row with an operand passes the test of what it lists, each of its forms does
 permits_prefix-operand : (p : Prefix) (e : Entry) (forms : ℕ) (row : Row) (lines : List PrefixRow) → row.operand ≡ true
     → permits_prefix p e forms row lines ≡ true → each_form (permits_form p e forms row lines) ≡ true
 permits_prefix-operand p e forms row lines operand h = chosen_true row.operand _ _ true operand h
 
--- the test of a form that is allowed
+-- where a form that is listed passes the test, the entry permits it and agrees with the row
 permits_form-allowed : (p : Prefix) (e : Entry) (forms : ℕ) (row : Row) (lines : List PrefixRow) (reg : ℕ) (b : Bool)
     → ((within reg row.regs && place_at row.place b) && allowed_form p lines reg b) ≡ true → permits_form p e forms row lines reg b ≡ true
     → (permits_at forms reg b && not (forms == 0)) && (agrees p e reg row && implies row.escaped (escapes p)) ≡ true
 permits_form-allowed p e forms row lines reg b allowed h = chosen_true
     ((within reg row.regs && place_at row.place b) && allowed_form p lines reg b) _ _ true allowed h
 
--- the test without operand
+-- where a row without operand that is listed passes the test, the entry permits it and agrees with the row
 permits_prefix-bare : (p : Prefix) (e : Entry) (forms : ℕ) (row : Row) (lines : List PrefixRow) → row.operand ≡ false
     → allowed_bare p lines ≡ true → permits_prefix p e forms row lines ≡ true
     → (not (forms == 0) && not e.indirect) && (agrees p e 0 row && implies row.escaped (escapes p)) ≡ true

@@ -11,16 +11,16 @@ use Rattle.nc_decode.proofs.reading.PrefixAndOpcode.{plain_is, header_read}
 abbrev stands : ℕ → Bool
 stands b = coded_plain (prefix_of b) && not (b == 0x0F)
 
--- so it is where it has forms
+-- the byte is no prefix and no escape, if it has forms as an opcode
 abbrev lone : ℕ → Bool
 lone b = elim (forms_of Unprefixed (opcode_entry false b) == 0) [ true ↦ true | false ↦ stands b ]
 
--- so at each byte
+-- each byte that has forms as an opcode is no prefix and no escape
 each_lone : each_below lone 256 ≡ true
 unfolding opcode_entry forms_of prefix_of
 each_lone = refl
 
--- such a byte is read by its entry
+-- a byte that has forms as an opcode is read by its entry
 pub lone_read : (b : ℕ) → b < 256 → (forms_of Unprefixed (opcode_entry false b) == 0) ≡ false → (rest : List ℕ)
     → shape_of (b ∷ rest) ≡ entry_shape Unprefixed 1 (opcode_entry false b) rest
 lone_read b lt has rest =

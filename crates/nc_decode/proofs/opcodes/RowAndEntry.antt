@@ -45,7 +45,7 @@ numbered IndirectJump = refl
 numbered IndirectCall = refl
 numbered Stop = refl
 
--- the computed test of agreement says so
+-- where the computed test of agreement holds, a row and an entry agree
 pub agreed_is : (p : Prefix) (e : Entry) (reg : ℕ) (row : Row) → agrees p e reg row ≡ true → Agreed p e reg row
 agreed_is p e reg row h =
     let a = both (((number_len (prefix_byte p) row.number == coded_len p e.number reg) && (row_kind row.number == coded_kind e.number))
@@ -94,12 +94,12 @@ rel_near Offset ys e = absurd (omega arith)
 rel_near TestByte ys e = absurd (omega arith)
 rel_near TestSized ys e = absurd (omega arith)
 
--- the first byte doesn't depend on what follows
+-- the only byte of a list is still its first with more bytes behind it
 short_front : (xs r : List ℕ) → length xs ≡ 1 → slice_index xs 0 ≡ slice_index (xs ++ r) 0
 short_front [] r e = absurd (omega arith)
 short_front (a ∷ xs) r e = refl
 
--- nor does the number of the first four
+-- the number of four bytes is still that of the first four with more bytes behind them
 near_front : (xs r : List ℕ) → length xs ≡ 4 → from_le_bytes w32 xs ≡ from_le_bytes w32 (xs ++ r)
 near_front [] r e = absurd (omega arith)
 near_front (a ∷ []) r e = absurd (omega arith)
@@ -142,7 +142,7 @@ same_reg f e modrm tail h =
     register_if f (modrm ∷ tail) ∙ ap (λ (b : Bool). cond b (rm_of modrm) 0) h
     ∙ sym (nested e.indirect (reg_of modrm == 2) (reg_of modrm == 4) (rm_of modrm))
 
--- an opcode without operand names none
+-- an opcode without operand names no register
 pub no_reg : (f : Flow) (i : Bool) → is_indirect f ≡ (i && false) → register_of f [] ≡ 0
 no_reg f i h = register_if f [] ∙ ap (λ (b : Bool). cond b (rm_of 0) 0) (h ∙ and_false i) ∙ refl
   where

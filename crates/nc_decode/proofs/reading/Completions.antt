@@ -42,22 +42,22 @@ has_plain escaped o =
       ]
     ])
 
--- so for each opcode of two bytes
+-- each entry of an opcode of two bytes that permits an operand permits one without SIB
 has_plain_escaped : each_below (has_plain true) 256 ≡ true
 unfolding has_plain opcode_entry forms_of
 has_plain_escaped = refl
 
--- so for each opcode of one byte
+-- each entry of an opcode of one byte that permits an operand permits one without SIB
 has_plain_bare : each_below (has_plain false) 256 ≡ true
 unfolding has_plain opcode_entry forms_of
 has_plain_bare = refl
 
--- so for each opcode
+-- the entry of an opcode of one or two bytes that permits an operand permits one without SIB
 has_plain-true : (escaped : Bool) (o : ℕ) → o < 256 → has_plain escaped o ≡ true
 has_plain-true true o lt = each_below-at (has_plain true) 256 o has_plain_escaped lt
 has_plain-true false o lt = each_below-at (has_plain false) 256 o has_plain_bare lt
 
--- where some element passes, there is one
+-- where some element passes, there is one that does
 some_is : {A : Type 0} (t : A → Bool) (xs : List A) → some t xs ≡ true → (x : A) × (t x ≡ true)
 some_is t [] e = absurd cc
 some_is t (x ∷ xs) e =
@@ -72,7 +72,7 @@ pub record IsPlainForm (forms m : ℕ) : Type 0 where
   pub no_sib : has_sib m ≡ false
   pub small : m < 256
 
--- an entry that permits an operand has one
+-- an entry that permits an operand permits a ModRM byte without SIB
 plain_form : (p : Prefix) (escaped : Bool) (o : ℕ) → o < 256 → (forms_of p (opcode_entry escaped o) == 0) ≡ false
     → (opcode_entry escaped o).operand ≡ true → (m : ℕ) × IsPlainForm (forms_of p (opcode_entry escaped o)) m
 unfolding has_plain
@@ -125,12 +125,12 @@ is_ok_of : (x : Result Shape DecodeFault) → is_ok x ≡ true → (s : Shape) �
 is_ok_of (Ok s) e = (s, refl)
 is_ok_of (Err d) e = absurd cc
 
--- one byte
+-- a list of one byte is bytes
 byte_list : (x : ℕ) → x < 256 → IsBytes (x ∷ [])
 byte_list x lt zero = lt
 byte_list x lt (suc i) = omega arith
 
--- one byte more gives the operand its length
+-- where bytes are missing for the length of an operand, one byte more gives it
 sized_cut : (modrm : ℕ) (b : List ℕ) → sized_operand modrm b ≡ Err Truncated → (k : ℕ) × (sized_operand modrm (b ++ 0 ∷ []) ≡ Ok k)
 unfolding sized_operand
 sized_cut modrm [] e =
@@ -144,7 +144,7 @@ sized_cut modrm (sib ∷ b) e =
       | inr is_not ↦ (operand_len modrm 0, rw is_not refl)
     ]
 
--- without SIB nothing is missing
+-- without SIB no byte after ModRM is needed for the length of an operand
 sized_plain : (modrm : ℕ) → has_sib modrm ≡ false → sized_operand modrm [] ≡ Ok (operand_len modrm 0)
 unfolding sized_operand
 sized_plain modrm h = rw h refl
@@ -177,7 +177,7 @@ operand_completes p head e (modrm ∷ b) m is h =
       | inr may_not ↦ absurd (let f : refused ≡ cut = cond_false (permits (forms_of p e) modrm) _ refused cut may_not h in cc)
     ]
 
--- so can what stands after an opcode
+-- bytes after an opcode that are cut short can be completed
 entry_completes : (p : Prefix) (head : ℕ) (escaped : Bool) (o : ℕ) (b : List ℕ) → o < 256
     → entry_shape p head (opcode_entry escaped o) b ≡ Err Truncated → Completes (entry_shape p head (opcode_entry escaped o)) b
 unfolding entry_shape
@@ -208,17 +208,17 @@ entry_completes p head escaped o b lt h =
 by_test : (f : List ℕ → Result Shape DecodeFault) (b m : List ℕ) → IsBytes m → is_ok (f (b ++ m)) ≡ true → Completes f b
 by_test f b m fits t = let w = is_ok_of (f (b ++ m)) t in record { more = m; shape = w.0; fits = fits; done = w.1 }
 
--- two bytes
+-- a list of two bytes is bytes
 two_bytes : (x y : ℕ) → x < 256 → y < 256 → IsBytes (x ∷ y ∷ [])
 two_bytes x y p q zero = p
 two_bytes x y p q (suc zero) = q
 two_bytes x y p q (suc (suc i)) = omega arith
 
--- the first of some bytes
+-- the first of some bytes is a byte
 first_byte : (x : ℕ) (b : List ℕ) → IsBytes (x ∷ b) → x < 256
 first_byte x b fits = fits 0
 
--- the others
+-- the others after the first of some bytes are bytes
 later_bytes : (x : ℕ) (b : List ℕ) → IsBytes (x ∷ b) → IsBytes b
 later_bytes x b fits = λ i. fits (suc i)
 
@@ -282,7 +282,7 @@ opcode_completes p head (o ∷ b) fits h =
           })
     ]
 
--- so can what stands after a prefix
+-- bytes after a prefix that are cut short can be completed
 prefixed_completes : (p : Prefix) (first : ℕ) (b : List ℕ) → IsBytes (first ∷ b) → prefixed_shape p (first ∷ b) b ≡ Err Truncated
     → (m : List ℕ) × (s : Shape) × IsBytes m × (prefixed_shape p (first ∷ (b ++ m)) (b ++ m) ≡ Ok s)
 unfolding prefixed_shape

@@ -47,7 +47,7 @@ operand_some modrm x =
       | inr one ↦ (displacement_len modrm x, rw one (omega arith))
     ]
 
--- with SIB it has at least two
+-- an operand with SIB has at least two bytes
 operand_two : (modrm x : ℕ) → has_sib modrm ≡ true → (j : ℕ) × (operand_len modrm x ≡ j + 2)
 operand_two modrm x two = (displacement_len modrm x, rw two (omega arith))
 

@@ -155,7 +155,7 @@ plain_reads Repeat first rest s e h = absurd cc
 plain_reads RepeatNot first rest s e h = absurd cc
 plain_reads Lock first rest s e h = absurd cc
 
--- so it is of all that was read
+-- all bytes from which a shape was read begin with a prefix and an opcode
 pub begins : (bytes : List ℕ) (s : Shape) → shape_of bytes ≡ Ok s → Begins bytes s
 unfolding shape_of
 begins [] s e = absurd cc

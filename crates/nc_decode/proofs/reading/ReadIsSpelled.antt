@@ -58,7 +58,7 @@ formed_parts p row o modrm tail k j = record {
   number = take j (drop k tail);
 }
 
--- its bytes are a front
+-- the bytes that were read with an operand are those that its parts spell
 formed_spelled : (p : Prefix) (row : Row) (escaped : Bool) (o modrm : ℕ) (tail : List ℕ) (k j : ℕ) → row.escaped ≡ escaped
     → take (length (header p escaped o) + (k + 1) + j) (header p escaped o ++ modrm ∷ tail) ≡ spelled (formed_parts p row o modrm tail k j)
 formed_spelled p row escaped o modrm tail k j is =
@@ -136,7 +136,7 @@ bare_front h rest j = take-append-add h rest j ∙ ap (λ (xs : List ℕ). xs ++
 abbrev bare_parts : Prefix → Row → ℕ → List ℕ → ℕ → Parts
 bare_parts p row o rest j = record { prefix = prefix_byte p; row = row; opcode = o; operand = []; number = take j rest }
 
--- its bytes are a front
+-- the bytes that were read without operand are those that its parts spell
 bare_spelled : (p : Prefix) (row : Row) (escaped : Bool) (o : ℕ) (rest : List ℕ) (j : ℕ) → row.escaped ≡ escaped
     → take (length (header p escaped o) + j) (header p escaped o ++ rest) ≡ spelled (bare_parts p row o rest j)
 bare_spelled p row escaped o rest j is =
@@ -148,11 +148,11 @@ pub flow_bare : (e : Entry) → e.indirect ≡ false → flow_of e 0 ≡ e.flow
 unfolding flow_of
 flow_bare e h = rw h refl
 
--- it names no register
+-- an opcode without operand names no register
 pub no_register : (f : Flow) (i : Bool) → is_indirect f ≡ (i && ((0 == 2) || (0 == 4))) → register_of f [] ≡ 0
 no_register f i h = no_reg f i h
 
--- it has no operand
+-- no row is both without operand and with one
 operand_free : (row : Row) → row.operand ≡ false → IsTrue row.operand → ⊥
 operand_free row h t = let f : true ≡ false = sym t ∙ h in cc
 
@@ -206,7 +206,7 @@ bare_spells p escaped o rest o-lt fits operand some_form long =
 
 -- ---- both
 
--- the numbers of a front and of a rest
+-- the rest of a list of bytes is bytes
 pub bytes_of_rest : (h rest : List ℕ) → IsBytes (h ++ rest) → IsBytes rest
 bytes_of_rest [] rest fits = fits
 bytes_of_rest (x ∷ h) rest fits = bytes_of_rest h rest (λ i. fits (suc i))

@@ -39,7 +39,7 @@ pub record IsWhole (bytes : List ℕ) (i : Instr) : Type 0 where
   pub long : shape.head + shape.number_len ≤ length bytes
   pub is : i ≡ instr_at bytes shape
 
--- it is that of the shape
+-- an instruction that was read by a shape has all its bytes there, and is that of the shape
 whole_is : (bytes : List ℕ) (s : Shape) (i : Instr) → whole_of bytes s ≡ Ok i → (s.head + s.number_len ≤ length bytes)
     × (i ≡ instr_at bytes s)
 unfolding whole_of
@@ -98,7 +98,7 @@ spells_read x r i s =
       ap (λ (y : Instr). y.len) s.says ∙ ap (λ (y : List ℕ). length y) (sym s.whole),
     )
 
--- what is cut short is read as that
+-- a proper front of an instruction is read as cut short
 pub front_read : (bytes : List ℕ) → IsProperFront bytes → reading bytes ≡ Err Truncated
 front_read bytes f =
     let p = parts_read f.spells.parts [] f.spells.fit in
@@ -117,12 +117,12 @@ front_read bytes f =
 
 -- ---- a completion
 
--- so many zero bytes
+-- a list of n zero bytes
 zeros : ℕ → List ℕ
 zeros zero = []
 zeros (suc n) = 0 ∷ zeros n
 
--- so many they are
+-- a list of n zero bytes has n elements
 length-zeros : (n : ℕ) → length (zeros n) ≡ n
 unfolding zeros
 length-zeros zero = refl
@@ -135,7 +135,7 @@ zeros_fit zero i = omega arith
 zeros_fit (suc n) zero = omega arith
 zeros_fit (suc n) (suc i) = zeros_fit n i
 
--- bytes, and bytes after them
+-- bytes with bytes after them are bytes
 both_fit : (a b : List ℕ) → IsBytes a → IsBytes b → IsBytes (a ++ b)
 both_fit [] b p q i = q i
 both_fit (x ∷ a) b p q zero = p 0
@@ -176,17 +176,17 @@ shape_err d = Err d
 abbrev shape_cut : Result Shape DecodeFault
 shape_cut = Err Truncated
 
--- the two say the same
+-- where an instruction is said to be cut short, its shape is too
 err_is : (d : DecodeFault) (x : Instr → Result Instr DecodeFault) → instr_err d ≡ cut → shape_err d ≡ shape_cut
 err_is d x h = let e : d ≡ Truncated = cc in ap shape_err e
 
--- a reading cut short has its shape, or is cut short before it
+-- where an answer that comes of a shape is cut short, there is a shape, or the shape is cut short
 by_shape : (b : List ℕ) (x : Result Shape DecodeFault) → shape_of b ≡ x → (x >>= whole_of b) ≡ cut
     → ((s : Shape) × (shape_of b ≡ Ok s)) ⊎ (shape_of b ≡ Err Truncated)
 by_shape b (Ok s) e h = inl (s, e)
 by_shape b (Err d) e h = inr (e ∙ err_is d ok h)
 
--- so it is of each reading
+-- where a reading is cut short, there is a shape, or the shape is cut short
 read_or_cut : (b : List ℕ) → reading b ≡ Err Truncated → ((s : Shape) × (shape_of b ≡ Ok s)) ⊎ (shape_of b ≡ Err Truncated)
 unfolding reading
 read_or_cut b h = by_shape b (shape_of b) refl h
@@ -237,12 +237,12 @@ found_by bytes i f = ap reading f.parts ∙ (spells_read f.front f.rest i f.spel
 abbrev refused : Result Instr DecodeFault
 refused = Err NotPermitted
 
--- what is refused is neither
+-- bytes that are refused have no instruction at their front, and are no proper front
 pub refused_from : (bytes : List ℕ) → reading bytes ≡ Err NotPermitted → ((i : Instr) → IsAtFront bytes i → ⊥) × (IsProperFront bytes → ⊥)
 refused_from bytes h =
     (λ i f. (let g : refused ≡ ok i = sym h ∙ found_by bytes i f in cc), λ f. (let g : refused ≡ cut = sym h ∙ front_read bytes f in cc))
 
--- what is neither is refused
+-- bytes that have no instruction at their front, and are no proper front, are refused
 pub refused_by : (bytes : List ℕ) → IsBytes bytes → ((i : Instr) → IsAtFront bytes i → ⊥) × (IsProperFront bytes → ⊥)
     → reading bytes ≡ Err NotPermitted
 refused_by bytes fits none = go (reading bytes) refl
@@ -272,7 +272,7 @@ pub reading_sized : (bytes : List ℕ) (i : Instr) → IsBytes bytes → reading
 reading_sized bytes i fits h =
     let s = reading_spells bytes i fits h in ((spells_some (take i.len bytes) i s.1).1, s.0)
 
--- so it is of an answer
+-- an instruction that a reading answers has a byte, and no more than there are
 pub result_sized : (bytes : List ℕ) (x : Result Instr DecodeFault) → IsBytes bytes → x ≡ reading bytes
     → IfOk x (λ i. (0 < i.len) × (i.len ≤ length bytes))
 result_sized bytes (Ok i) fits h = reading_sized bytes i fits (sym h)

@@ -40,7 +40,7 @@ header_bytes q p fit is = subst IsBytes (sym (append-nil (spelled q)) ∙ header
 pub opcode-lt : (q : Parts) (p : Prefix) → AreParts q → prefix_byte p ≡ q.prefix → q.opcode < 256
 opcode-lt q p fit is = opcode_is_byte p q.row.escaped q.opcode _ (header_bytes q p fit is)
 
--- and so is its ModRM
+-- the ModRM of a spelling is a byte
 modrm-lt : (q : Parts) (p : Prefix) (modrm : ℕ) (tail : List ℕ) → AreParts q → prefix_byte p ≡ q.prefix → q.operand ≡ modrm ∷ tail
     → modrm < 256
 modrm-lt q p modrm tail fit is operand =
@@ -55,11 +55,11 @@ pub record IsRead (q : Parts) (r : List ℕ) : Type 0 where
   pub len : shape.head + shape.number_len ≡ length (spelled q)
   pub says : instr_at (spelled q ++ r) shape ≡ instr_of q
 
--- the line that allows the prefix
+-- the line that allows the prefix of a spelling
 line_from : (q : Parts) (b : ℕ) (v : Allowed q b) → IsLine b q.row.escaped q.opcode v.0
 line_from q b v = record { listed = v.1; byte_is = v.2.same; escaped_is = v.2.escaped; opcode = v.2.opcode }
 
--- that line has the form of the operand
+-- the line that allows the prefix of a spelling has the form of its operand
 form_from : (q : Parts) (modrm b : ℕ) (v : Allowed q b) → q.row.operand ≡ true → slice_index q.operand 0 ≡ modrm → modrm < 256
     → (within (reg_of modrm) v.0.regs ≡ true) × (place_at v.0.place (mod_of modrm == 3) ≡ true)
 form_from q modrm b v operand is lt =
@@ -173,7 +173,7 @@ read_bare q p r fit is operand =
           (ap (λ (xs : List ℕ). masks_of xs) front);
     }
 
--- either is
+-- a spelling with an operand, or without one, is read
 by_operand : (q : Parts) (p : Prefix) (r xs : List ℕ) → AreParts q → prefix_byte p ≡ q.prefix → q.operand ≡ xs → IsRead q r
 by_operand q p r [] fit is operand = read_bare q p r fit is operand
 by_operand q p r (modrm ∷ tail) fit is operand = read_formed q p modrm tail r fit is operand

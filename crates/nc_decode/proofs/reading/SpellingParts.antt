@@ -85,12 +85,12 @@ sized_front modrm (sib ∷ tail) r lt len =
 abbrev known : PrefixRow → Bool
 known line = ((line.prefix == 0x66) || (line.prefix == 0xF3)) || ((line.prefix == 0xF2) || (line.prefix == 0xF0))
 
--- so for each line
+-- the byte of each line of the prefix table is one of the four prefixes
 all_known : each known prefix_rows ≡ true
 unfolding prefix_rows first_prefix_rows later_prefix_rows
 all_known = refl
 
--- the prefix of a line
+-- the byte of each line of the prefix table is that of a prefix
 prefix_known : (line : PrefixRow) → Contains prefix_rows line → (p : Prefix) × (prefix_byte p ≡ Some line.prefix)
 prefix_known line c =
     elim (either ((line.prefix == 0x66) || (line.prefix == 0xF3)) ((line.prefix == 0xF2) || (line.prefix == 0xF0))

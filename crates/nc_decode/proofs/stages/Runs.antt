@@ -40,11 +40,11 @@ tells (ended by_near) e = e == AFTER_NEAR
 tells (ended paired) e = e == AFTER_PAIR
 tells _ e = false
 
--- the states below END are those inside an instruction
+-- each state below END is inside an instruction
 numbered_inside : each_below (λ s. inside (stage_of s)) END ≡ true
 numbered_inside = refl
 
--- the states from END on are those after one
+-- each state from END on is an end, and its number tells which
 numbered_ends : each_below (λ j. tells (stage_of (END + j)) (END + j)) 11 ≡ true
 numbered_ends = refl
 
@@ -73,11 +73,11 @@ end_from : (e : ℕ) (x : Stage) → stage_of e ≡ x → tells x e ≡ true →
 end_from e (ended k) is t = record { kind = k; is = is; told = t }
 end_from e _ is t = absurd cc
 
--- so for each state from END on
+-- a state from END on is an end, and its number tells which
 end_at : (e : ℕ) → END ≤ e → e < STATES → EndsAt e
 end_at e low high = end_from e (stage_of e) refl (tells_at e low high)
 
--- a register that the test finds is the one
+-- a register that the test finds is the one that is there
 named : (o : Option ℕ) (r : ℕ) → names o r ≡ true → o ≡ Some r
 named (Some t) r e = ap some_reg (eqb-true t r e)
   where
@@ -103,7 +103,7 @@ spelled_whole : (bytes : List ℕ) (i : Instr) → All (λ b. b < 256) bytes →
 spelled_whole bytes i fits read len = subst (λ (z : List ℕ). Spells z i) (take_all i.len bytes (omega (arith, len)))
     (reading_spells bytes i (bytes_from_all bytes fits) read).1
 
--- no flow is both
+-- no truth value is both false and true
 never : (b : Bool) → b ≡ false → IsTrue b → ⊥
 never true e t = absurd cc
 never false e t = absurd cc
@@ -183,11 +183,11 @@ finished_ends m e bytes paired fits t f =
 
 -- ---- the run
 
--- the bytes after the first
+-- the bytes after the first of some bytes are bytes
 behind_first : (b : ℕ) (bs : List ℕ) → All (λ x. x < 256) (b ∷ bs) → All (λ x. x < 256) bs
 behind_first b bs fits k d lt = fits (suc k) d (omega (arith, lt))
 
--- the first byte is a byte
+-- the first of some bytes is a byte
 first_fits : (b : ℕ) (bs : List ℕ) → All (λ x. x < 256) (b ∷ bs) → b < 256
 first_fits b bs fits = fits 0 0 (omega arith)
 

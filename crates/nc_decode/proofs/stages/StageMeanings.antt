@@ -34,11 +34,11 @@ use Rattle.nc_decode.proofs.stages.Stages.{mask_number, transfer_after_mask, sib
 abbrev pub ok : Shape → Result Shape DecodeFault
 ok s = Ok s
 
--- the bytes fix this shape, with so many more after them
+-- the bytes fix this shape, with at least n more after them
 abbrev pub Fixed : List ℕ → ℕ → Shape → Type 0
 Fixed pre n s = (rest : List ℕ) → n ≤ length rest → shape_of (pre ++ rest) ≡ Ok s
 
--- so many bytes more end an instruction that is no transfer
+-- n bytes more end an instruction that is no transfer
 pub record WaitsFor (n : ℕ) (pre : List ℕ) : Type 0 where
   pub shape : Shape
   pub fixed : Fixed pre n shape
@@ -46,7 +46,7 @@ pub record WaitsFor (n : ℕ) (pre : List ℕ) : Type 0 where
   pub direct : is_direct shape.flow ≡ false
   pub indirect : is_indirect shape.flow ≡ false
 
--- so many bytes more end a transfer whose displacement has four bytes
+-- n bytes more end a transfer whose displacement has four bytes
 pub record WaitsForNear (n : ℕ) (pre : List ℕ) : Type 0 where
   pub shape : Shape
   pub fixed : Fixed pre n shape
@@ -64,7 +64,7 @@ pub record WaitsForShort (pre : List ℕ) : Type 0 where
   pub number_len : shape.number_len ≡ 1
   pub indirect : is_indirect shape.flow ≡ false
 
--- ModRM comes next, of these forms at least, and so many bytes of a number where its reg is 0 and where it isn't
+-- ModRM comes next, of these forms at least, and a number of `initial` bytes where its reg is 0 and of `other` bytes where it isn't
 pub record WaitsForOperand (forms initial other : ℕ) (pre : List ℕ) : Type 0 where
   pub prefix : Prefix
   pub entry : Entry
@@ -110,19 +110,19 @@ Meant o (ended k) pre = Finished o k pre
 
 -- ---- bytes alone
 
--- one more byte, and the rest
+-- one byte more at the end of some bytes, and then the rest, are the bytes, and then that byte in front of the rest
 pub more : (pre rest : List ℕ) (b : ℕ) → (pre ++ b ∷ []) ++ rest ≡ pre ++ b ∷ rest
 more pre rest b = append_assoc pre (b ∷ []) rest
 
--- what was fixed still is
+-- a shape that bytes fix with n more after them is fixed by them and one byte more, with one fewer after them
 fixed_more : (pre : List ℕ) (b n m : ℕ) (s : Shape) → n ≡ m + 1 → Fixed pre n s → Fixed (pre ++ b ∷ []) m s
 fixed_more pre b n m s e f rest long = ap shape_of (more pre rest b) ∙ f (b ∷ rest) (omega (arith, e, long))
 
--- the bytes are all there
+-- where the bytes that fix a shape are as many as it has, they are read as its instruction
 fixed_whole : (pre : List ℕ) (s : Shape) → Fixed pre 0 s → s.head + s.number_len ≡ length pre → reading pre ≡ Ok (instr_at pre s)
 fixed_whole pre s f total = reads_whole pre s (ap shape_of (sym (append-nil pre)) ∙ f [] (omega arith)) (omega (arith, total))
 
--- one byte of those that are waited for
+-- where n bytes are waited for, one fewer is after one byte more
 pub waits_more : (pre : List ℕ) (b n m : ℕ) → n ≡ m + 1 → WaitsFor n pre → WaitsFor m (pre ++ b ∷ [])
 waits_more pre b n m e w = record {
   shape = w.shape;
@@ -141,7 +141,7 @@ finished o pre w = record {
   kind = (w.direct, w.indirect);
 }
 
--- the stage that waits for so many bytes means that
+-- the stage that waits for n bytes means that n bytes are waited for
 pub numbers_meant : (o : Option ℕ) (n : ℕ) (pre : List ℕ) → WaitsFor n pre → Meant o (numbers n) pre
 numbers_meant o zero pre w = finished o pre w
 numbers_meant o (suc n) pre w = (omega arith, w)
@@ -165,7 +165,7 @@ short_ends o pre b w =
       );
     }
 
--- one byte of a displacement of four
+-- where n bytes of a displacement of four are waited for, one fewer is after one byte more
 near_more : (pre : List ℕ) (b n m : ℕ) → n ≡ m + 1 → WaitsForNear n pre → WaitsForNear m (pre ++ b ∷ [])
 near_more pre b n m e w = record {
   shape = w.shape;
@@ -190,7 +190,7 @@ near_ends o pre w = record {
   );
 }
 
--- one more byte of a displacement of four
+-- after one byte more of a displacement of four the next stage means what has been read
 pub near_step : (o : Option ℕ) (pre : List ℕ) (b n : ℕ) → 0 < n → WaitsForNear n pre → Meant o (after (near n) b) (pre ++ b ∷ [])
 near_step o pre b n some w =
     elim (true_or_false (n == 1)) [
@@ -227,7 +227,7 @@ coded_by p k reg initial other z o = elim (true_or_false (reg == 0)) [
     by RepeatNot TestSized e = rw e refl
     by Lock TestSized e = rw e refl
 
--- SIB without a displacement of its own
+-- where mod is 0, an operand with SIB has two bytes, and four more where SIB says so
 sib_len : (b c : ℕ) → has_sib b ≡ true → (mod_of b == 0) ≡ true → operand_len b c ≡ 2 + (if c % 8 == 5 then 4 else 0)
 sib_len b c two first =
     let rm : (rm_of b == 4) ≡ true = (both (rm_of b == 4) (nat_lt (mod_of b) 3) two).0 in
@@ -235,7 +235,7 @@ sib_len b c two first =
     let r : rm_of b ≡ 4 = eqb-true (rm_of b) 4 rm in
     rw (m, r) refl
 
--- SIB elsewhere doesn't count
+-- where mod isn't 0, SIB doesn't count for the length of an operand
 sib_free : (b c : ℕ) → (mod_of b == 0) ≡ false → operand_len b c ≡ operand_len b 0
 sib_free b c other = rw other refl
 
@@ -246,7 +246,7 @@ operand_some b = elim (true_or_false ((rm_of b == 4) && nat_lt (mod_of b) 3)) [
   | inr one ↦ rw one (omega arith)
 ]
 
--- an operand with SIB has two
+-- an operand with SIB has at least two bytes
 operand_two : (b : ℕ) → has_sib b ≡ true → 2 ≤ operand_len b 0
 operand_two b two = rw two (omega arith)
 

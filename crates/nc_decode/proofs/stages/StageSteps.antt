@@ -38,7 +38,7 @@ abbrev given : Bool → Bool → Bool
 given true b = b
 given false b = true
 
--- a form that no indirect transfer has
+-- a ModRM that the forms without indirect transfer permit is permitted, and makes no transfer
 abbrev calm_form : Prefix → Entry → ℕ → Bool
 calm_form p e b = given (permits (calm (forms_of p e)) b) (permits (forms_of p e) b && not (is_direct (flow_of e (reg_of b)))
     && not (is_indirect (flow_of e (reg_of b))))
@@ -52,7 +52,7 @@ tame p e =
     && given e.operand (coded_kind e.number == 0)
     && (elim e.indirect [ true ↦ each_below (calm_form p e) 256 | false ↦ not (forms_of p e == 0x5743) ])
 
--- so each is
+-- each opcode of one byte, or each one after 0F, is tame with each prefix
 abbrev all_tame : Bool → Bool
 all_tame two = each_below (λ o. each_prefix (λ p. tame p (opcode_entry two o))) 256
 
@@ -66,14 +66,14 @@ tame_two : all_tame true ≡ true
 unfolding opcode_entry forms_of permits flow_of
 tame_two = refl
 
--- so for one opcode
+-- an opcode of one byte or after 0F is tame with any prefix
 pub tame_at : (two : Bool) (o : ℕ) (p : Prefix) → o < 256 → tame p (opcode_entry two o) ≡ true
 tame_at false o p lt = each_prefix-at (λ q. tame q (opcode_entry false o)) p
     (each_below-at (λ x. each_prefix (λ q. tame q (opcode_entry false x))) 256 o tame_one lt)
 tame_at true o p lt = each_prefix-at (λ q. tame q (opcode_entry true o)) p
     (each_below-at (λ x. each_prefix (λ q. tame q (opcode_entry true x))) 256 o tame_two lt)
 
--- what that comes to
+-- what it comes to that an entry is tame with a prefix
 pub record IsTame (p : Prefix) (e : Entry) : Type 0 where
   pub indirect : is_indirect e.flow ≡ false
   pub direct : (coded_kind e.number == 0) ≡ true → is_direct e.flow ≡ false
@@ -85,12 +85,12 @@ given_is : (a b : Bool) → given a b ≡ true → a ≡ true → b ≡ true
 given_is true b e h = e
 given_is false b e h = absurd cc
 
--- the flow of an entry that isn't marked
+-- the flow of an entry that isn't marked as indirect is its own
 own_flow : (e : Entry) (reg : ℕ) → e.indirect ≡ false → flow_of e reg ≡ e.flow
 unfolding flow_of
 own_flow e reg h = rw h refl
 
--- what the test of an entry says
+-- an entry that passes the test is tame (`IsTame`)
 is_tame : (p : Prefix) (e : Entry) → tame p e ≡ true → IsTame p e
 is_tame p e h =
     let a = both (not (is_indirect e.flow) && given (coded_kind e.number == 0) (not (is_direct e.flow))
@@ -207,7 +207,7 @@ after_opcode_meant o p e pre t shapes =
       ]
     ]
 
--- the opcode itself
+-- after an opcode, or after 0F, the next stage means what has been read
 opcode_meant : (o : Option ℕ) (p : Prefix) (pre : List ℕ) (b : ℕ) → b < 256
     → ((rest : List ℕ) → shape_of (pre ++ b ∷ rest) ≡ opcode_shape p (length pre) (b ∷ rest)) → Meant o (opcode p b) (pre ++ b ∷ [])
 unfolding opcode_shape
@@ -228,7 +228,7 @@ opcode_meant o p pre b lt shapes =
           ∙ ap (λ (n : ℕ). entry_shape p n (opcode_entry false b) rest) (sym (length_push pre b))))
     ]
 
--- the opcode after 0F
+-- after an opcode that stands behind 0F the next stage means what has been read
 escaped_meant : (o : Option ℕ) (p : Prefix) (pre : List ℕ) (b : ℕ) → b < 256
     → ((rest : List ℕ) → shape_of (pre ++ rest) ≡ escaped_shape p (length pre) rest)
     → Meant o (after_opcode p (opcode_entry true b)) (pre ++ b ∷ [])
@@ -243,7 +243,7 @@ plain_shapes : (b : ℕ) (rest : List ℕ) → prefix_of b ≡ Unprefixed → sh
 unfolding shape_of prefixed_shape
 plain_shapes b rest e = ap (λ (p : Prefix). prefixed_shape p (b ∷ rest) rest) e
 
--- a mask's ModRM, and that of FF
+-- after 83, ModRM of any form and one byte of a number are waited for
 mask_operand : (o : Option ℕ) → Meant o (opcode Unprefixed 0x83) (0x83 ∷ []) → WaitsForOperand 0xFFFF 1 1 (0x83 ∷ [])
 unfolding opcode_entry forms_of coded_len
 mask_operand o m = m
@@ -307,7 +307,7 @@ mask_number_next : (b : ℕ) → b < 256 → masks_there b ≡ true → modrm 0x
 mask_number_next b lt e = stage_same _ _ (given_is _ _ (each_below-at
     (λ x. given (masks_there x) (same_stage (modrm 0xFFFF 1 1 x) (number 1))) 256 b mask_numbers lt) e)
 
--- what such a ModRM is
+-- the ModRM of a mask is one from E0 to E7, but not E4
 mask_bounds : (b : ℕ) → masks_there b ≡ true → (0xE0 ≤ b) × (b < 0xE8) × (b ≢ 0xE4)
 mask_bounds b e = grind (arith, nat_tests)
 
@@ -322,7 +322,7 @@ unfolding reading whole_of shape_of prefixed_shape prefix_of opcode_shape entry_
     coded_len permits flow_of reg_if
 paired_reads = refl
 
--- so for one register
+-- FF and ModRM that are read as an indirect transfer on the masked register are a finished one
 paired_at : (o : Option ℕ) (r b : ℕ) → r < 8 → o ≡ Some r → b % 8 ≡ r → (x : Result Instr DecodeFault) → reading (0xFF ∷ b ∷ []) ≡ x
     → pairs r x ≡ true → Finished o paired (0xFF ∷ b ∷ [])
 paired_at o r b lt is last (Err e) h p = absurd cc
@@ -361,7 +361,7 @@ abbrev pub IsInside : Stage → Type 0
 IsInside (ended k) = ⊥
 IsInside _ = Unit {0}
 
--- one more byte: the next stage means what has been read
+-- after one byte more the next stage means what has been read
 pub step : (o : Option ℕ) (x : Stage) (b : ℕ) (pre : List ℕ) → b < 256 → IsInside x → Meant o x pre → Meant o (after x b) (pre ++ b ∷ [])
 step o dead b pre lt inside m = tt
 step o (prefixed p) b pre lt inside m = opcode_meant o p pre b lt

@@ -29,7 +29,7 @@ pub data Ended : Type 0 where
 
 -- what the automaton waits for: nothing any more; an opcode after a prefix, or after 0F; ModRM of these forms, with the
 -- bytes of the number where reg is 0 and where it isn't; ModRM after 83, and the number after that of a register; ModRM of
--- FF after a mask; SIB where mod is 0; so many bytes; a displacement; and an instruction
+-- FF after a mask; SIB where mod is 0; n bytes of a number; a displacement; and an instruction
 pub data Stage : Type 0 where
   dead : Stage
   prefixed : Prefix → Stage
@@ -44,7 +44,7 @@ pub data Stage : Type 0 where
   near : ℕ → Stage
   ended : Ended → Stage
 
--- so many bytes more
+-- n bytes more come next, or the instruction has ended
 abbrev pub numbers : ℕ → Stage
 numbers zero = ended plain
 numbers (suc n) = number (suc n)
@@ -70,7 +70,7 @@ after_opcode p e =
 abbrev pub opcode : Prefix → ℕ → Stage
 opcode p b = if b == 0x0F then (if escapes p then escaped p else dead) else after_opcode p (opcode_entry false b)
 
--- no prefix stands before it
+-- a first byte: a prefix, or an opcode that no prefix stands before
 abbrev pub unprefixed : Prefix → ℕ → Stage
 unprefixed Unprefixed b = if b == 0x83 then masking else opcode Unprefixed b
 unprefixed p b = prefixed p
@@ -99,7 +99,7 @@ masks_there b = nat_le 0xE0 b && nat_lt b 0xE8 && (if b == 0xE4 then false else 
 abbrev pub goes_by : ℕ → ℕ → Bool
 goes_by r b = (b == 0xD0 + r) || (b == 0xE0 + r)
 
--- one more byte
+-- the stage after one byte more
 abbrev pub after : Stage → ℕ → Stage
 after dead b = dead
 after (prefixed p) b = opcode p b
@@ -215,7 +215,7 @@ numbered_first t k x xs e = elim (true_or_false (t k x)) [
   | inr not ↦ absurd (let f : false ≡ true = chosen_false (t k x) (each_numbered t (suc k) xs) false true not e in cc)
 ]
 
--- the test at one of them
+-- a test of each element with its place, at one of them
 numbered-at : (t : ℕ → ℕ → Bool) (k : ℕ) (xs : List ℕ) (b n : ℕ) → each_numbered t k xs ≡ true → b < length xs → n ≡ k + b
     → t n (get_or xs b 0) ≡ true
 numbered-at t k [] b n e lt is = absurd (omega arith)
@@ -227,12 +227,12 @@ numbered-at t k (x ∷ xs) (suc b) n e lt is = numbered-at t (suc k) xs b n (num
 abbrev agrees : List ℕ → Stage → Bool
 agrees row x = (length row == 257) && each_numbered (λ b p. same_stage (stage_of (p / 257)) (after x b)) 0 (take 256 row)
 
--- the table agrees
+-- each row of the table agrees with the stage of its state
 tabled : each_below (λ s. agrees (get_or ROWS s []) (stage_of s)) STATES ≡ true
 unfolding opcode_entry forms_of prefix_of coded_len permits
 tabled = refl
 
--- so at a state and a byte
+-- the next state by the table has the stage that comes after the byte
 pub next_stage : (s b : ℕ) → s < STATES → b < 256 → stage_of (next_state s b) ≡ after (stage_of s) b
 unfolding next_state
 next_stage s b s-lt b-lt =
@@ -245,14 +245,14 @@ next_stage s b s-lt b-lt =
     ap (λ (p : ℕ). stage_of (p / 257)) (sym here)
     ∙ stage_same _ _ (numbered-at test 0 (take 256 row) b b h.1 (omega (arith, length-take-le 256 row (omega (arith, long)), b-lt)) (omega arith))
 
--- each number of the table is the place of a state's row
+-- the number is the place of a state's row in the table
 abbrev is_place : ℕ → Bool
 is_place p = (p % 257 == 0) && nat_lt (p / 257) STATES
 
 placed : each (λ row. each is_place row) ROWS ≡ true
 placed = refl
 
--- each row is as long
+-- each row of the table has 257 numbers
 long_rows : each (λ row. length row == 257) ROWS ≡ true
 long_rows = refl
 
@@ -263,13 +263,13 @@ each_first t x xs e = elim (true_or_false (t x)) [
   | inr not ↦ absurd (let f : false ≡ true = chosen_false (t x) (each t xs) false true not e in cc)
 ]
 
--- each number of a row is such a place
+-- where each number of a row is the place of a state's row, the one at an index is
 row_placed : (row : List ℕ) (b : ℕ) → each is_place row ≡ true → is_place (get_or row b 0) ≡ true
 row_placed [] b e = refl
 row_placed (s ∷ row) zero e = (each_first is_place s row e).0
 row_placed (s ∷ row) (suc b) e = row_placed row b (each_first is_place s row e).1
 
--- each number of the table is such a place
+-- where each number of each row is the place of a state's row, the one at an index of a row is
 table_placed : (rows : List (List ℕ)) (s b : ℕ) → each (λ row. each is_place row) rows ≡ true → is_place (get_or (get_or rows s []) b 0) ≡ true
 table_placed [] s b e = refl
 table_placed (row ∷ rows) zero b e = row_placed row b (each_first (λ r. each is_place r) row rows e).0
@@ -282,7 +282,7 @@ place_lawful s b =
     let h = both (p % 257 == 0) (nat_lt (p / 257) STATES) (table_placed ROWS s b placed) in
     (eqb-true (p % 257) 0 h.0, ltb-true (p / 257) STATES h.1)
 
--- the next state is one
+-- the next state is one of the states
 pub next_small : (s b : ℕ) → next_state s b < STATES
 unfolding next_state
 next_small s b = (place_lawful s b).1

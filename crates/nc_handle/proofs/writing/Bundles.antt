@@ -76,7 +76,7 @@ start_put at bytes initial from start long room =
     (subst (λ (k : ℕ). HasPutUpTo is_start at bytes initial from 1 (set initial from (act_of (Put k (get_or bytes 0 0)))) (from + 1))
     {x = at + 0} {y = at} (omega arith) one)
 
--- where only the others are put, it is passed over
+-- where only the other bytes of a bundle are put, its first byte is passed over
 pub start_passed : (at : ℕ) (bytes : List ℕ) (initial : List NcAct) (from : ℕ) → at % 32 ≡ 0 → length bytes ≡ 32
     → HasPutUpTo is_inside at bytes initial from 1 initial from
 start_passed at bytes initial from start long =

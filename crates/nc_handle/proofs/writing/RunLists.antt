@@ -58,7 +58,7 @@ put_entries chosen base code i bits le h =
     ∙ ap (λ (z : List Act). unsettled z)
     (by_bits chosen (base + 32 * i) 32 bits (take 32 (drop (32 * i) code)) h (bundle_long i code le))
 
--- a bundle of stops is 32 of them
+-- a bundle of a chunk's stops is 32 stops
 pub stops_there : (n i : ℕ) → 32 * i + 32 ≤ n → take 32 (drop (32 * i) (replicate {A = ℕ} n 244)) ≡ replicate {A = ℕ} 32 244
 stops_there n i le =
     ap (λ (z : List ℕ). take 32 z) (drop-replicate (32 * i) n 244) ∙ take-replicate 32 (n - 32 * i) 244 (omega (arith, le))

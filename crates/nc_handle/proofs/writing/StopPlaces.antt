@@ -115,7 +115,7 @@ stopping_next places left at initial from acts count s k lt is below room others
           (stop_fits places left at initial from acts count s k lt is below room));
     }
 
--- once none is left, all are
+-- once no bit is left, the stops of all whose bits are set are written
 pub stopping_all : (places left at : ℕ) (initial : List NcAct) (from : ℕ) (acts : List NcAct) (count : ℕ) → left ≡ 0
     → Stopping places left at initial from acts count → HasPutUpTo (is_among places at) at stops initial from 32 acts count
 stopping_all places left at initial from acts count e s =

@@ -16,7 +16,7 @@ pub record AgreesOutside (old new : MarkedText) (base len : ℕ) : Type 0 where
 abbrev pub LiesBeside : Chunk → Chunk → Type 0
 LiesBeside c d = (d.base + d.length ≤ c.base) ⊎ (c.base + c.length ≤ d.base)
 
--- a place of one is outside the other
+-- a place of one of two chunks that lie beside each other is outside the other
 pub beside : (c d : Chunk) (at : ℕ) → LiesBeside c d → IsInChunk d at → (at < c.base) ⊎ (c.base + c.length ≤ at)
 beside c d at apart inside = elim apart [ inl l ↦ inl (omega (arith, l, inside.1)) | inr b ↦ inr (omega (arith, b, inside.0)) ]
 

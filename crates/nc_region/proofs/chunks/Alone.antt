@@ -23,13 +23,13 @@ empty_bytes marked = omega (arith, length-replicate {A = ℕ} (limit_of marked.b
 pub empty_marks : (marked : MarkedText) → length (unused_text (limit_of marked.bytes)).marks ≡ length marked.bytes
 empty_marks marked = omega (arith, length-map-range_with_len unused_mark 65536 (limit_of marked.bytes - 65536))
 
--- the chunk fits into its bytes
+-- a chunk that is closed by itself fits into the bytes of the unused text
 pub alone_fits_bytes : (marked : MarkedText) (base : ℕ) (bytes : List ℕ) (marks : List Mark)
     → IsClosedChunk base (limit_of marked.bytes) bytes marks
     → base + length bytes ≤ 65536 + length (unused_text (limit_of marked.bytes)).bytes
 alone_fits_bytes marked base bytes marks j = omega (arith, empty_bytes marked, j.placed.high)
 
--- the chunk fits into its marks
+-- a chunk that is closed by itself fits into the marks of the unused text
 pub alone_fits_marks : (marked : MarkedText) (base : ℕ) (bytes : List ℕ) (marks : List Mark)
     → IsClosedChunk base (limit_of marked.bytes) bytes marks
     → base + length marks ≤ 65536 + length (unused_text (limit_of marked.bytes)).marks

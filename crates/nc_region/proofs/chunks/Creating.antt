@@ -52,7 +52,7 @@ final_but_closed final now marks from to order closed f =
       | Behind p ↦ inr (λ i is fits k lt. f.behind (s.place + k) (omega arith))
     ])
 
--- when no stop is left, it is the final text
+-- once no bundle start is left to put, the text is the final one
 pub final_all : (final now : List ℕ) (at : ℕ) → IsFinalBut final now at at → now ≡ final
 final_all final now at f =
     ext_get_or 0 now final f.as_long (λ i lt.

@@ -19,7 +19,7 @@ use Rattle.nc_region.specs.Each.{Each}
 use Rattle.nc_region.specs.Region.{IsNew, IsLive, IsInChunk, IsRising, HoldsValid, IsRegion, IsAboveAll, IsBelowAll}
 use Rattle.nc_region.proofs.SpanPlaces.{place_of, Before, Within, Behind, span_before, span_within, span_behind}
 
--- of all members but the inserted one
+-- what holds of each member of a list with an element inserted holds of the element and of each member of the list
 each_but : {X : Type 0} (P : X → Type 0) (xs : List X) (k : ℕ) (x : X) → Each P (insert xs k x) → P x × Each P xs
 each_but P xs k x h =
     let r = each_split P (take k xs) (x ∷ drop k xs) h in

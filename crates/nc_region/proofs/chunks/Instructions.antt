@@ -27,7 +27,7 @@ FollowsMask IndirectJump register before at = (before ≡ Some register) × (at 
 FollowsMask IndirectCall register before at = (before ≡ Some register) × (at % 32 ≢ 0)
 FollowsMask _ register before at = ⊤
 
--- before is what the instruction in front of these has masked
+-- each indirect transfer of these instructions follows its mask; `before` is what the instruction in front of them has masked
 abbrev pub PairsHold : Option ℕ → ℕ → List Instr → Type 0
 PairsHold before at [] = ⊤
 PairsHold before at (i ∷ rest) = FollowsMask i.flow i.reg before at × PairsHold i.masks (at + i.len) rest
@@ -50,7 +50,7 @@ abbrev pub BeginsAt : ℕ → ℕ → List Instr → Type 0
 BeginsAt place at [] = ⊥
 BeginsAt place at (i ∷ rest) = ((place ≡ at) × (IsIndirect i.flow → ⊥)) ⊎ BeginsAt place (at + i.len) rest
 
--- a direct transfer may lead there
+-- a direct transfer of the chunk may lead to this place
 abbrev pub IsTarget : ℕ → ℕ → ℕ → List Instr → ℕ → Type 0
 IsTarget base limit len chunk place =
     ((base ≤ place) × (place < base + len) × BeginsAt place base chunk)

@@ -38,7 +38,7 @@ may_from_mark IndirectJump register masked m = m
 may_from_mark IndirectCall register masked m = m
 may_from_mark Stop register masked m = tt
 
--- what follows its mask is admitted by its mark
+-- the mark of an instruction that follows the mask it needs admits what is masked
 mark_from_pair : (flow : Flow) (register : ℕ) (before : Option ℕ) (at : ℕ) → FollowsMask flow register before at
     → Admits (mark_by flow register) before
 mark_from_pair Next register before at m = tt

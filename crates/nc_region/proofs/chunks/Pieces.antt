@@ -168,7 +168,7 @@ target_of c v t good =
       | inr outside ↦ inr (elim outside.0 [ inl l ↦ inl l | inr p ↦ inr (omega (arith, p, long)) ], outside.1, outside.2)
     ]
 
--- each direct transfer goes to one
+-- each direct transfer of a valid chunk goes to a good target
 targets_of : (c : vet.MarkedChunk) (v : vet.IsValid c) (done rest : List Piece) → v.pieces ≡ done ++ rest
     → TargetsHold (IsTarget c.base c.limit (length c.code) (instrs v.pieces)) (c.base + place done) (instrs rest)
 targets_of c v done [] e = tt

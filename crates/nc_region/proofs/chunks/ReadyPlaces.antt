@@ -56,7 +56,7 @@ pub ready_held : (made : List Bool) (chunks : List Chunk) (c : Chunk) → AreChu
     → AreReady made c.base c.length
 ready_held made chunks c ready is = ready_listed made chunks is.0 c ready is.1 c is.2
 
--- what holds of each holds of each that is kept
+-- what holds of a chunk and of each of the others holds of each of those that are kept, whether that chunk is or isn't
 kept_when : (P : Chunk → Type 0) (b : Bool) (c : Chunk) (rest : List Chunk) → P c → Each P rest → Each P (cond b (c ∷ rest) rest)
 kept_when P true c rest here others = (here, others)
 kept_when P false c rest here others = others

@@ -56,7 +56,7 @@ only_next at chunks c d rising n has =
     )))
     has
 
--- a span from there to its base or below is free
+-- a span from a place to the base of its next chunk, or to below that, is free
 pub next_free : (base len : ℕ) (chunks : List Chunk) (c : Chunk) → IsRising 65536 chunks → IsNextChunk chunks base c → base + len ≤ c.base
     → Meets base len chunks → ⊥
 next_free base len chunks c rising n le =

@@ -134,7 +134,7 @@ fits_marks base limit code chunk v = omega (
   length-map-range_with_len unused_mark 65536 (limit - 65536),
 )
 
--- how long that text is
+-- how long the text with only the chunk is
 text_long : (base limit : ℕ) (code : List ℕ) (chunk : List Instr) → IsValid base limit code chunk
     → limit_of (text_of base limit code) ≡ limit
 text_long base limit code chunk v =
@@ -167,7 +167,7 @@ within_mark base limit code chunk at v a b =
     span_within (unused_marks 65536 (limit - 65536)) base (marks_of chunk) at Unmarked v.placed.low (fits_marks base limit code chunk v) a
     (omega (arith, b, marks_long chunk code v.reading))
 
--- outside the chunk: unused, and stops
+-- outside the chunk's span the marks are unused ones
 outside_mark : (base limit : ℕ) (code : List ℕ) (chunk : List Instr) (at : ℕ) → IsValid base limit code chunk → 65536 ≤ at → at < limit
     → (at < base) ⊎ (base + length code ≤ at) → mark_at (alone_marks base limit chunk) at ≡ unused_mark at
 outside_mark base limit code chunk at v low high out =

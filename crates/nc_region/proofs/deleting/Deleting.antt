@@ -19,7 +19,7 @@ admits_is_mark Unmarked masked m = absurd m
 admits_is_mark Plain masked m = refl
 admits_is_mark (After register) masked m = refl
 
--- each byte is a stop
+-- each byte of a span of stops is a stop
 stop_byte : (base len at : ℕ) → base ≤ at → at < base + len → get_or (replicate {A = ℕ} len 244) (at - base) 0 ≡ 244
 stop_byte base len at low high = get_or-replicate len (at - base) 244 0 (omega arith)
 

@@ -33,7 +33,7 @@ one_more : (least : ℕ) (c : Chunk) (rest : List Chunk) (b : Bool) → is_due l
 one_more least c rest true is e = rw is (omega (arith, e))
 one_more least c rest false is e = rw is (omega (arith, e))
 
--- each chunk is kept or freed
+-- the chunks that are kept and those that are freed are together as many as all
 pub kept_and_freed : (least : ℕ) (chunks : List Chunk) → length (kept least chunks) + length (freed least chunks) ≡ length chunks
 kept_and_freed least [] = refl
 kept_and_freed least (c ∷ rest) = one_more least c rest (is_due least c.state) refl (kept_and_freed least rest)

@@ -89,7 +89,7 @@ first_due least (d ∷ front) c rest is = go (is_due least d.state) refl is (fir
           others = rw not_due r.others;
         }
 
--- the list with that chunk at the seam
+-- two lists together, the first of which is parted at a chunk, are parted there
 at_seam : (before after back : List Chunk) (c : Chunk) → (before ++ c ∷ after) ++ back ≡ before ++ c ∷ (after ++ back)
 at_seam before after back c = append_assoc before (c ∷ after) back
 
@@ -140,7 +140,7 @@ taken_more taken i c lt is =
 stays_whole : (least : ℕ) (chunks : List Chunk) → [] ≡ freed least chunks → kept least chunks ≡ chunks
 stays_whole least chunks none = all_stay least chunks (sym none)
 
--- once all are unmarked, what is left is a region
+-- once all chunks that were taken out are unmarked, what is left is a region
 pub none_taken : (least : ℕ) (marked : MarkedText) (left : List Chunk) → AreTakenOut least marked left [] → IsRegion marked left
 none_taken least marked left out =
     subst (IsRegion marked) (sym (out.left_are ∙ ap (λ (z : List Chunk). z ++ out.back) (stays_whole least out.front out.taken_are))) out.region

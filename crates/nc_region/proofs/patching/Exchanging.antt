@@ -145,7 +145,7 @@ same_marks before after o n len same reg =
 abbrev pub exchanged : MarkedChunk → List Piece → List Piece → Piece → MarkedChunk
 exchanged c before after n = record { base = c.base; limit = c.limit; code = code_of (before ++ n ∷ after); marks = c.marks }
 
--- the code is as long
+-- the code with the new instruction is as long
 pub code_long : (c : MarkedChunk) (before after : List Piece) (o n : Piece) → Exchanges c before after o n
     → length (code_of (before ++ n ∷ after)) ≡ length c.code
 code_long c before after o n x = sym (same_place before after o n x.as_long)
@@ -162,7 +162,7 @@ later_parts : (c : MarkedChunk) (before after m a : List Piece) (o n p : Piece) 
 later_parts c before after m a o n p x g = x.parts
     ∙ (ap (λ (z : List Piece). before ++ o ∷ z) g ∙ sym (append_assoc before (o ∷ m) (p ∷ a)))
 
--- the mask directly before what follows stays one
+-- a mask directly before what follows stays one where it is exchanged for one of the same register
 mask_kept : (before : List Piece) (o n : Piece) (reg : ℕ) → length o.bytes ≡ length n.bytes → n.instr.masks ≡ o.instr.masks
     → FollowsMask (before ++ o ∷ []) reg → FollowsMask (before ++ n ∷ []) reg
 mask_kept before o n reg len masks f =
@@ -178,7 +178,7 @@ mask_kept before o n reg len masks f =
       | Later k a b ↦ absurd (none_here k f.mask [] b)
     ]
 
--- a later pair stays one
+-- a pair behind the exchanged instruction stays one
 paired_later : (c : MarkedChunk) (before after m a : List Piece) (o n p : Piece) (x : Exchanges c before after o n) → after ≡ m ++ p ∷ a
     → IsTrue (is_indirect p.instr.flow) → FollowsMask (before ++ n ∷ m) p.instr.reg
 paired_later c before after [] a o n p x g indirect =

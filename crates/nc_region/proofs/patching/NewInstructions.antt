@@ -11,20 +11,20 @@ use Rattle.nc_vet.specs.Chunk.{Piece, code_of, AreSpelled}
 use Rattle.nc_vet.proofs.Offered.{spelled_after, split_none, none_after}
 use Rattle.nc_region.specs.Patch.{AreBytesOf, AreInstructions}
 
--- no bytes are no instructions
+-- the empty list of bytes is that of no instructions
 pub no_bytes : AreBytesOf [] []
 no_bytes = record { spelled = λ before after p e. absurd (split_none before after p e); parts = refl }
 
--- a list of no length
+-- a list of length 0 is empty
 pub empty_list : {X : Type 0} (xs : List X) → length xs ≡ 0 → xs ≡ []
 empty_list [] e = refl
 empty_list (x ∷ xs) e = absurd (omega arith)
 
--- no bytes are no instructions
+-- where there are no bytes there are no instructions
 pub none_of_none : (bytes : List ℕ) (news : List Piece) → length bytes ≡ 0 → AreBytesOf bytes news → news ≡ []
 none_of_none bytes news none b = none_after news b.spelled (sym (ap (λ (z : List ℕ). length z) b.parts) ∙ none)
 
--- no bytes are whole instructions
+-- the empty list of bytes is a list of whole instructions
 pub instructions_none : (bytes : List ℕ) → length bytes ≡ 0 → AreInstructions bytes
 instructions_none bytes none = ([], subst (λ (z : List ℕ). AreBytesOf z []) (sym (empty_list bytes none)) no_bytes)
 

@@ -27,12 +27,12 @@ patching_closed marked at new now patch p =
           ])
     ])
 
--- the text stays as long
+-- the text with the new instruction is as long
 patch_long : (marked : MarkedText) (at : ℕ) (new : List ℕ) → IsReplacing marked at new
     → length (with_span marked.bytes (at - 65536) new) ≡ length marked.bytes
 patch_long marked at new patch = length-with_span marked.bytes (at - 65536) new (omega (arith, patch.low, patch.high))
 
--- with a stop at the start
+-- the text with a stop at the start of the instruction is on its way to the one with the new instruction (`IsInterim`)
 pub patch_started : (marked : MarkedText) (at : ℕ) (new : List ℕ) → IsReplacing marked at new
     → IsInterim (with_span marked.bytes (at - 65536) new) (set marked.bytes (at - 65536) 244) at (length new)
 patch_started marked at new patch =

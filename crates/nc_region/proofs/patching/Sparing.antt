@@ -57,7 +57,7 @@ stands_if text at (b ∷ rest) there =
     ∙ stands_if text (at + 1) rest (λ k lt. (let e : at + 1 + k ≡ at + suc k = omega arith in ap (byte_at text) e
     ∙ there (suc k) (omega (arith, lt))))
 
--- no new instruction touches none
+-- the empty list of new instructions spares pairs
 pub spares_none : (rest news : List Piece) → news ≡ [] → SparesPairs rest news
 spares_none rest news e = rw e tt
 

@@ -169,7 +169,7 @@ pub runs_to : (rest news : List Piece) (p n : Piece) (others more : List Piece) 
 runs_to rest news p n others more e f runs =
     subst (λ (z : List Piece). RunsAlong (p ∷ others) z) f (subst (λ (z : List Piece). RunsAlong z news) e runs)
 
--- no list runs along any
+-- the empty list of instructions runs along any list
 pub runs_none : (rest news : List Piece) → news ≡ [] → RunsAlong rest news
 runs_none rest news e = rw e tt
 

@@ -187,7 +187,7 @@ both_true : (a b : Bool) → (a && b) ≡ true → (a ≡ true) × (b ≡ true)
 both_true true b e = (refl, e)
 both_true false b e = absurd cc
 
--- the bytes that stand there
+-- bytes that pass the test that they stand at a place stand there
 pub stands_bytes : (text : List ℕ) (at : ℕ) (bytes : List ℕ) → stands_there text at bytes ≡ true → (k : ℕ) → k < length bytes
     → byte_at text (at + k) ≡ get_or bytes k 0
 stands_bytes text at [] e k lt = absurd (omega arith)

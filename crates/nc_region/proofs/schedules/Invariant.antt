@@ -28,7 +28,7 @@ pub record SeatKeeps (marks : List Mark) (retired : List RetiredSpan) (generatio
   pub found : seat.found_left ≡ true → seat.has_left ≡ true
   pub bound_is : seat.found_left ≡ false → bound ≤ seat.pass.since
 
--- any two of the spans that aren't the same have no place in common
+-- any two of the retired spans that aren't the same have no place in common
 abbrev pub OthersApart : List RetiredSpan → Type 0
 OthersApart retired =
     All (λ (one : RetiredSpan). All (λ (other : RetiredSpan). is_same_span one other ≡ false → AreApart one other) retired) retired

@@ -13,7 +13,7 @@ use Rattle.nc_region.specs.schedules.Events.{Looks, after}
 pub as_it_stands : (text : List ℕ) (earlier : List (List ℕ)) → IsView text earlier text
 as_it_stands text earlier = record { as_long = refl; seen = λ at inside. inl refl }
 
--- where nothing was put since the last settling, it is the only one
+-- where nothing was put since the last settling, the text as it stands is the only view
 pub only_as_it_stands : (text view : List ℕ) → IsView text [] view → view ≡ text
 only_as_it_stands text view v =
     same_number_lists view text v.as_long (λ k lt.
@@ -31,14 +31,14 @@ seen_beside text earlier at byte place seen low from other (inl now) =
     inl (sym (get_or-set_other text (at - 65536) (place - 65536) byte 0 (λ e. other (omega (arith, e, low, from)))) ∙ now)
 seen_beside text earlier at byte place seen low from other (inr before) = before
 
--- what was seen there was put now, or seen before
+-- what was seen where a byte was put is that byte, or was seen before
 seen_here : (text : List ℕ) (earlier : List (List ℕ)) (at byte seen : ℕ) → InRegion text at → seen ≢ byte
     → WasSeen (set text (at - 65536) byte ∷ text ∷ earlier) at seen → WasSeen (text ∷ earlier) at seen
 seen_here text earlier at byte seen inside other (inl now) =
     absurd (other (sym now ∙ get_or-set_same text (at - 65536) byte 0 (omega (arith, inside.0, inside.1))))
 seen_here text earlier at byte seen inside other (inr before) = before
 
--- a view after a put in which another byte stands there was one before
+-- a view after a put that has another byte at the place of the put was one before
 still_view : (text : List ℕ) (earlier : List (List ℕ)) (at byte : ℕ) (view : List ℕ) → InRegion text at
     → IsView (set text (at - 65536) byte) (text ∷ earlier) view → byte_at view at ≢ byte → IsView text earlier view
 still_view text earlier at byte view inside v other =
@@ -55,7 +55,7 @@ still_view text earlier at byte view inside v other =
           ];
     }
 
--- with the byte that stood there before it is a view as before
+-- a view after a put, with the byte that stood at the place of the put before, is a view as before
 undone_view : (text : List ℕ) (earlier : List (List ℕ)) (at byte : ℕ) (view : List ℕ) → InRegion text at
     → IsView (set text (at - 65536) byte) (text ∷ earlier) view → IsView text earlier (set view (at - 65536) (byte_at text at))
 undone_view text earlier at byte view inside v =
@@ -111,7 +111,7 @@ pub settled_view : (text : List ℕ) (earlier : List (List ℕ)) (view : List �
 settled_view text earlier view v =
     record { as_long = v.as_long; seen = λ at inside. elim (v.seen at inside) [ inl here ↦ inl here | inr none ↦ absurd none ] }
 
--- what was seen there in one of two views was seen there
+-- a byte that one of two views has at a place was seen there if those of both were
 seen_in_either : (texts : List (List ℕ)) (at one other byte : ℕ) → WasSeen texts at one → WasSeen texts at other
     → (byte ≡ one) ⊎ (byte ≡ other) → WasSeen texts at byte
 seen_in_either texts at one other byte a b (inl is) = subst (WasSeen texts at) (sym is) a

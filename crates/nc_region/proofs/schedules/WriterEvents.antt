@@ -144,7 +144,7 @@ not_true : (b : Bool) → not b ≡ true → b ≡ false
 not_true true is = absurd (false≢true is)
 not_true false is = refl
 
--- places in common are so both ways
+-- spans that are apart are so both ways
 apart_sym : (one other : RetiredSpan) → AreApart one other → AreApart other one
 apart_sym one other apart = elim apart [ inl below ↦ inr below | inr above ↦ inl above ]
 

@@ -47,7 +47,7 @@ bytes_at-apart bytes code base from len low high from_low from_high apart =
     (λ above. get_or-with_span_above bytes (base - 0x10000) code (at - 0x10000) 0 (omega arith) (omega (arith, above, inside))) apart
     ∙ sym (get_or-bytes_at bytes from len at from_low (omega arith) inside) ∙ ap (λ (i : ℕ). get_or (bytes_at bytes from len) i 0) here)
 
--- in its own span the code stands
+-- code that is put into a span stands in it
 pub bytes_at-itself : (bytes code : List ℕ) (base : ℕ) → 0x10000 ≤ base → base + length code ≤ limit_of bytes
     → bytes_at (with_span bytes (base - 0x10000) code) base (length code) ≡ code
 bytes_at-itself bytes code base low high =

@@ -28,7 +28,7 @@ same_due : (bytes : List ℕ) (base len least generation : ℕ) (s : ChunkState)
 same_due bytes base len least generation Live h = refl
 same_due bytes base len least generation (Retired stamp) h = same_test stamp least generation h
 
--- what a test keeps of both lists
+-- tests that agree keep the same of a list of chunks as of the list made of it
 kept_both : (f : Chunk → script.ScriptChunk) (p : Chunk → Bool) (q : script.ScriptChunk → Bool) (chunks : List Chunk)
     → Each (λ (c : Chunk). q (f c) ≡ p c) chunks → filter q (map f chunks) ≡ map f (filter p chunks)
 kept_both f p q [] h = refl

@@ -54,7 +54,7 @@ next_found bytes at chunks c placed next =
     ∙ first_above bytes at next.before next.after c
     (subst (Each (λ (d : Chunk). HasGoodSpan d.base (limit_of bytes) d.length)) next.parts placed) next.below next.above
 
--- where each chunk ends at or below the address there is none
+-- where each chunk ends at or below the address, there is no next chunk
 pub none_found : (bytes : List ℕ) (at : ℕ) (chunks : List Chunk)
     → Each (λ (d : Chunk). HasGoodSpan d.base (limit_of bytes) d.length) chunks → IsAboveAll at chunks
     → next_chunk at (map (script_chunk bytes) chunks) ≡ None

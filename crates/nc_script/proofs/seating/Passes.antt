@@ -102,14 +102,14 @@ pub met_all : (seat : ℕ) (old : List (Option PassState)) (before : List ℕ) (
 met_all seat old before new after all below =
     record { passes_long = below.passes_long; bounds_long = below.bounds_long; each = λ i l. below.each i (omega (arith, l, all)) }
 
--- where no pass stands at a seat's place there is none
+-- where no pass stands at a seat's place, the seat has none
 pub none_there : (passes : List (Option PassState)) (seat : ℕ) (r : Option PassState) → seat < length passes → r ≡ get_or passes seat r
     → ((p : PassState) → r ≢ Some p) → HasNoPass passes seat
 none_there passes seat r l is none p h =
     let there : Some r ≡ Some (Some p) = ap (λ (o : Option PassState). Some o) is ∙ (sym (slice_get-get_or passes seat r l) ∙ h) in
     none p cc
 
--- past the last seat there is none
+-- a seat past the last one has no pass
 pub none_past : (passes : List (Option PassState)) (seat : ℕ) → length passes ≤ seat → HasNoPass passes seat
 none_past [] seat l p h = absurd cc
 none_past (q ∷ passes) zero l p h = absurd (omega (arith, l))

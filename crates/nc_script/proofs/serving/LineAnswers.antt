@@ -10,13 +10,13 @@ use Rattle.nc_script.proofs.serving.OneAnswer.{request_only, line_only, bad_only
 
 -- what was asked for is the request that was answered
 module _ {T E : Type 0} (r : Result T E) (new old : List ℕ) (asked request : Request) (is : asked ≡ request) where
-  -- by the calls of a region and of its seats
+  -- what was asked for is answered, by the calls of a region and of its seats
   pub served : (before after : SessionState) → OnOk r ((reply : List ℕ) × (new ≡ old ++ reply) × Follows request before reply after)
       → OnOk r ((reply : List ℕ) × (new ≡ old ++ reply) × Follows asked before reply after)
   served before after h =
       subst (λ (named : Request). OnOk r ((reply : List ℕ) × (new ≡ old ++ reply) × Follows named before reply after)) (sym is) h
 
-  -- by the calls of a region, whatever its seats are
+  -- what was asked for is answered, by the calls of a region, whatever its seats are
   pub served_in : (before after : Region) (seats : SeatsState)
       → OnOk r ((reply : List ℕ) × (new ≡ old ++ reply) × FollowsIn request before reply after)
       → OnOk r ((reply : List ℕ) × (new ≡ old ++ reply)

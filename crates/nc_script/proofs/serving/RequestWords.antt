@@ -113,7 +113,7 @@ one_more all text a after front new is longer h =
     ∙ ap (option_and_then (λ (f : ℕ × List (List ℕ)). option_map (λ (rest : List ℕ). f.0 ∷ rest) (addresses_in f.1))) (sym is))
     ∙ one_first front new a (addresses_in after) longer
 
--- the text begins with none
+-- the text begins with no address
 pub none_here : (all : Option (List ℕ)) (text front : List ℕ) → None ≡ first_address_in (words_in text)
     → all ≡ option_map (λ (z : List ℕ). front ++ z) (addresses_in (words_in text)) → None ≡ all
 none_here all text front is h =

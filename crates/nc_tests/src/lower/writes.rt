@@ -93,7 +93,7 @@ static GATHERINGS: [Gathering; 6] = [
     (65_536, 2),
 ];
 
-/// Whether answers of which at most so many bytes are held back make so many writes.
+/// Whether answers make the row's number of writes, if at most its number of bytes are held back.
 fn are_written<R: Read>(alloc: Global, reader: &mut R, row: &Gathering) -> bool {
     let (most, writes) = *row;
     let mut writer = Counting::new();
@@ -112,7 +112,7 @@ fn together(rt: HostRuntime) -> Result<(), Fail> {
     Ok(())
 }
 
-/// The same where each read gives one byte: no answer is held back over a read.
+/// The most bytes that are held back, and the number of writes, where each read gives one byte: no answer is held back over a read.
 #[rattlefmt::skip]
 static SINGLE_READS: [Gathering; 3] = [
     (0, 4),

@@ -112,7 +112,7 @@ fn is_last_retired<C: Calls>(alloc: Global, region: &mut C) -> bool {
     take_steps(alloc, region, LIMIT, &LAST) && region.counted() >= 1
 }
 
-/// So many chunks are reclaimed that with those freed before they are 101, and none is left.
+/// The chunks that are reclaimed are 101 with those freed before, and none is left.
 fn are_all_freed<C: Calls>(region: &mut C, before: u32) -> bool {
     before.wrapping_add(region.reclaimed()) == 101 && region.counted() == 0
 }

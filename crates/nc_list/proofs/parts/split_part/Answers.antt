@@ -54,7 +54,7 @@ index-requires g c =
       c.reserve-2.new.self.ok.0,
     )
 
--- the number before it, and its chunks, are no more than all
+-- the number of chunks before a part plus that in it is less than 2 ^ 32
 bound : (g : Over) (c : goal.After-len g) → c.index.result.now + c.len.result < 2 ^ 32
 bound g c =
     let parts = map g.T.Part.items c.args.parts.now.items in
