@@ -1,4 +1,4 @@
--- The bits that say which of 32 marks are 0, and where they are.
+-- The bits that say which of 32 marks are set, and the places between them.
 use Rattle.std.proofs.Common.{◌≡◌, ℕ, ◌%◌, ◌^◌, ◌<◌, Bool, true, false, List, length, get_or, map, replicate, refl, sym}
 use Rattle.std.proofs.Common.{subst, ap, ◌∙◌, arith, ◌==◌, w8, w32, ◌+◌, cond}
 use Rattle.std.proofs.Common.{◌≤◌, ◌-◌, set, get_or-set_other, get_or-set_same, inl, inr}
@@ -10,55 +10,6 @@ use Rattle.std.proofs.Common.{◌/◌, ◌≢◌}
 use Rattle.std.specs.Simd.Lanes.{zip2, mask_l, top, chunk}
 use Rattle.std.proofs.lemmas.Simd.{length-zip2, get_or-zip2, get_or-chunk, bit_mask_l, mask_l-mod, mask_l-lt, tops_compared}
 use Rattle.std.proofs.lemmas.List.{length-replicate, get_or-replicate}
-
--- the lanes compared, as a mask
-abbrev pub compared : (ℕ → ℕ → Bool) → List ℕ → List ℕ → ℕ
-compared t xs ys = mask_l (map (top 7) (zip2 (λ a b. cond (t a b) 255 0) xs ys)) % 2 ^ 64
-
--- the mask of two lists of lanes is that of the tests of their lanes
-compared_is : (t : ℕ → ℕ → Bool) (xs ys : List ℕ) → length xs ≡ 32 → length ys ≡ 32 → (compared t xs ys ≡ mask_l (zip2 t xs ys))
-    × (length (zip2 t xs ys) ≡ 32)
-compared_is t xs ys p q =
-    let long : length (zip2 t xs ys) ≡ 32 = length-zip2 t xs ys (p ∙ sym q) ∙ p in
-    (ap (λ (z : List Bool). mask_l z % 2 ^ 64) (tops_compared w8 t xs ys) ∙ mask_l-mod (zip2 t xs ys) 64 (omega (arith, long)), long)
-
--- the mask of two lists of lanes has 32 bits
-compared_small : (t : ℕ → ℕ → Bool) (xs ys : List ℕ) → length xs ≡ 32 → length ys ≡ 32 → compared t xs ys < 2 ^ 32
-compared_small t xs ys p q =
-    let w = compared_is t xs ys p q in
-    let P : ℕ → Type 0 = λ n. mask_l (zip2 t xs ys) < 2 ^ n in
-    let lt : mask_l (zip2 t xs ys) < 2 ^ 32 = subst P w.1 (mask_l-lt (zip2 t xs ys)) in
-    omega (arith, w.0, lt)
-
--- a bit that is one where a test holds
-is_one : (b : Bool) → (cond {A = ℕ} b 1 0 == 1) ≡ b
-is_one true = refl
-is_one false = refl
-
--- each bit of the mask of two lists of lanes is the test of two lanes
-compared_bit : (t : ℕ → ℕ → Bool) (xs ys : List ℕ) (k : ℕ) → length xs ≡ 32 → length ys ≡ 32 → k < 32
-    → (bit_at (compared t xs ys) k == 1) ≡ t (get_or xs k 0) (get_or ys k 0)
-compared_bit t xs ys k p q lt =
-    let w = compared_is t xs ys p q in
-    ap (λ (m : ℕ). bit_at m k == 1) w.0
-    ∙ ap (λ (b : ℕ). b == 1) (bit_mask_l (zip2 t xs ys) k)
-    ∙ is_one (get_or (zip2 t xs ys) k false)
-    ∙ get_or-zip2 t xs ys k 0 0 false (omega (arith, p, lt)) (omega (arith, q, lt))
-
--- the mask of the lanes that are 0 has 32 bits
-pub zeros_small : (xs : List ℕ) → length xs ≡ 32 → compared (λ a b. a == b) xs (replicate 32 0) < 4294967296
-zeros_small xs p = omega (arith, compared_small (λ a b. a == b) xs (replicate 32 0) p (length-replicate {A = ℕ} 32 0))
-
--- each bit of the mask of the lanes that are 0 says whether its lane is
-pub zero_bit : (xs : List ℕ) (k : ℕ) → length xs ≡ 32 → k < 32
-    → (bit_at (compared (λ a b. a == b) xs (replicate 32 0)) k == 1) ≡ (get_or xs k 0 == 0)
-zero_bit xs k p lt =
-    compared_bit (λ a b. a == b) xs (replicate 32 0) k p (length-replicate {A = ℕ} 32 0) lt
-    ∙ ap (λ (x : ℕ). get_or xs k 0 == x) (get_or-replicate 32 k 0 0 lt)
-
--- the lanes that are loaded are the list
-pub loaded : (xs : List ℕ) (k : ℕ) → k < 32 → get_or (chunk 0 32 xs) k 0 ≡ get_or xs k 0
-loaded xs k lt = get_or-chunk 0 32 xs k 0 lt ∙ ap (λ (j : ℕ). get_or xs j 0) (omega arith)
 
 -- a mark that isn't 0 is that of a test that holds
 pub not_zero : (b : Bool) (bit mark : ℕ) → bit ≡ 0 → (bit == 1) ≡ (mark == 0) → mark ≡ cond b 1 0 → b ≡ true

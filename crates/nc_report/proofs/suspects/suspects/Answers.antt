@@ -1,5 +1,6 @@
 use Rattle.std.proofs.Common.{ℕ, ap, ◌∙◌, ◌==◌}
-use Rattle.nc_report.proofs.MarkBits.{loaded, not_zero}
+use Rattle.nc_vet.proofs.Offered.{loaded}
+use Rattle.nc_report.proofs.MarkBits.{not_zero}
 use Rattle.nc_report.proofs.suspects.suspects.Goals as goal
 
 pub returns : goal.returns
