@@ -1,32 +1,28 @@
 /* nc_host.h: the calls of Reedbodkin for a host in C or C++.
 
-   They judge untrusted 32-bit x86 code, and write the acts by which a host creates, patches and deletes it in memory that threads
-   execute.
+   They judge untrusted 32-bit x86 code, and write the acts by which a host creates, patches and deletes it in memory that threads execute.
 
-   No verdict protects a host that breaks its duties. docs/EMBEDDING.md, installed below share/doc/reedbodkin, lists them.
-   docs/DEFINITIONS.md explains the terms, and docs/PERFORMANCE.md what each call costs.
+   No verdict protects a host that breaks a duty of docs/EMBEDDING.md, installed below share/doc/reedbodkin. docs/DEFINITIONS.md explains
+   the terms, and docs/PERFORMANCE.md the costs.
 
    How to read the comments
-      [refused]   Proved clauses of these names, in the call's contract in crates/nc_host, promise what the sentence says. Tests compare
-                  only the names.
-      [tested]    Tests try it. No clause promises it.
+      [refused]   Proved clauses of these names in crates/nc_host promise this. Tests compare only the names.
+      [tested]    Only tested.
       (IsValid)   A definition on which the contract rests.
-      Refused     The call returns the first of these faults that holds (see NC_FAULTS), and changes nothing. Other promises are for
-                  NC_OK, unless they name a fault.
+      Refused     The call returns the first of these faults that holds (NC_FAULTS). Other promises are for NC_OK, unless they name a fault.
 
    What every call keeps
-      Threads     The library starts no thread and has no lock. Any thread may call. Calls may overlap if nobody writes what they read
-                  or write. Duty 27 restricts signal handlers and forked children.
-      Arguments   A pointer with a length must point to that many bytes or elements. So the length is below 2^63; no fault reveals one
-                  that has wrapped. With length 0 any pointer will do, even null [tested]. No other may be null. Other numbers may have
-                  any value. A buffer that is written may not overlap another argument. Nobody may change code or buffers during the
-                  call. The library keeps no pointer to them, and never executes them.
-      Results     A refused call changes nothing, except that a creation that ran out of memory may have allocated some for its span's
-                  text. Its results except the fault are 0, unless a comment says otherwise. No call writes more of a buffer than it
-                  says.
+      Threads     The library starts no thread and has no lock. Any thread may call. Calls may overlap if nobody writes what they read or
+                  write. Duty 27 restricts signal handlers and forked children.
+      Arguments   A pointer with a length must point to that many bytes or elements. So the length is below 2^63; no fault reveals one that
+                  has wrapped. With length 0 any pointer will do, even null [tested]. No other may be null. Other numbers may have any
+                  value. A buffer that is written may not overlap another argument. Nobody may change code or buffers during the call. The
+                  library keeps no pointer to them, and never executes them.
+      Results     A refused call changes nothing, but a creation that ran out of memory may have allocated some for its span's text. Its
+                  results except the fault are 0, unless a comment says otherwise. No call writes more of a buffer than it says.
       Memory      malloc, realloc and free belong to one allocator, which aligns a block to each power of two up to 16 that divides its
                   size. NC_OUT_OF_MEMORY is returned exactly where memory runs out [tested]. Calls that can't return it allocate none
-                  [tested]. 64 KiB of stack are enough [tested]. */
+                  [tested]. 64 KiB of stack suffice [tested]. */
 #ifndef NC_HOST_H
 #define NC_HOST_H
 
@@ -51,12 +47,12 @@ extern "C" {
 #define NC_VERSION_PATCH 0u
 #define NC_VERSION (NC_VERSION_MAJOR << 16 | NC_VERSION_MINOR << 8 | NC_VERSION_PATCH)
 
-/* The limit of a region. Check the number first, as others than 2 to 2097152 may wrap around to a lawful limit. */
+/* The limit of a region of 2 to 2097152 bundles. Other numbers may wrap around to a lawful limit. */
 #define NC_LIMIT(bundles) (NC_START + NC_BUNDLE * (uint32_t)(bundles))
 
-/* The faults. A chunk gets the first of 1 to 3, else whichever of 4 to 6 is at the lowest address, else 7 at the lowest address. 8 says
-   of the code only that 1 to 3 don't hold. A patch gets the first of 16 to 21. A file gets the first of 48 to 55, else, of 56 to 61,
-   that of the first loaded segment with a fault, else 62. */
+/* A chunk gets the first of 1 to 3, else whichever of 4 to 6 is at the lowest address, else 7 at the lowest address. 8 says of the code
+   only that 1 to 3 don't hold. A patch gets the first of 16 to 21. A file gets the first of 48 to 55, else, of 56 to 61, that of the first
+   loaded segment with a fault, else 62. */
 #define NC_OK 0u
 #define NC_BAD_BASE 1u
 #define NC_BAD_LENGTH 2u
@@ -81,7 +77,7 @@ extern "C" {
 #define NC_NO_SEAT 36u
 #define NC_UNDER_WAY 37u
 #define NC_NOT_BEGUN 38u
-#define NC_WRONG_LIMIT 39u /* never returned by nc_region_create */
+#define NC_WRONG_LIMIT 39u
 #define NC_OCCUPIED 40u
 #define NC_NO_CHUNK 41u
 #define NC_FULL 42u
@@ -103,7 +99,7 @@ extern "C" {
 #define NC_ELF_UNFILLED_CODE 61u
 #define NC_ELF_NO_CODE 62u
 
-/* When each fault holds, as X(NC_BAD_BASE, "the base .."), for messages. */
+/* When each fault holds, for messages. */
 #define NC_FAULTS(X) \
     X(NC_OK, "no fault") \
     X(NC_BAD_BASE, "the base is not a multiple of 32, or is below the region") \
@@ -153,8 +149,7 @@ extern "C" {
     X(NC_ELF_UNFILLED_CODE, "a loaded segment is executable and has bytes in memory that aren't in the file") \
     X(NC_ELF_NO_CODE, "no loaded segment is executable and has bytes in the file")
 
-/* Where control goes after an instruction. A branch goes to the next one or to its target. The target of a direct transfer is its address
-   plus its length plus `rel`, modulo 2^32. An indirect one goes where `reg` points. */
+/* Where control goes after an instruction. The target of a direct transfer is its address plus its length plus `rel`, modulo 2^32. */
 #define NC_FLOW_NEXT 1u
 #define NC_FLOW_BRANCH 2u
 #define NC_FLOW_JUMP 3u
@@ -169,22 +164,21 @@ extern "C" {
 #define NC_END_BEYOND 3u
 #define NC_END_MORE 4u
 
-/* The marks of bytes: NC_UNMARKED if control is never there; NC_PLAIN at an instruction, or a bundle start without a chunk; NC_MASKED at
-   an indirect transfer by this register. Registers are numbered as in ModRM. */
+/* The marks of bytes: NC_UNMARKED if control is never there; NC_PLAIN at an instruction, or a bundle start without a chunk; NC_MASKED at an
+   indirect transfer by this register. Registers are numbered as in ModRM. */
 #define NC_UNMARKED 0u
 #define NC_PLAIN 1u
 #define NC_MASKED(reg) (16u + (reg))
 
-/* What an NcAct can be: an act, a settling or, below, a run of puts. Fields that aren't named are 0. */
+/* What an NcAct can be. Fields that aren't named are 0. */
 #define NC_PUT 1u    /* put the byte `value` at the address `at` */
 #define NC_MARK 2u   /* the `value` addresses from `at` on get the chunk's marks; for a host that keeps marks */
 #define NC_BUMP 3u   /* draw a stamp */
 #define NC_SETTLE 6u /* make every processor that runs a thread of the host serialize */
 
-/* Runs: for each set bit k of `value`, the lowest first, a put at `at` + k, each a store of its own. Only the two calls for runs write
-   them. */
-#define NC_PUT_RUN 7u  /* put the chunk's byte at each of these addresses */
-#define NC_STOP_RUN 8u /* put NC_STOP at each of these addresses */
+/* Runs: for each set bit k of `value`, the lowest first, a put at `at` + k. Only the two calls for runs write them. */
+#define NC_PUT_RUN 7u  /* put the chunk's bytes there */
+#define NC_STOP_RUN 8u /* put NC_STOP there */
 
 typedef struct NcInstruction {
     uint32_t fault;
@@ -192,7 +186,7 @@ typedef struct NcInstruction {
     uint32_t flow;
     int32_t rel;      /* the displacement of a direct transfer, else 0 */
     uint32_t reg;     /* of an indirect transfer, else 0 */
-    uint32_t masks;   /* for 83 E0+r E0, `and r, -32`, r not ESP: 16 + r; else 0 */
+    uint32_t masks;   /* NC_MASKED(r) for a mask of r, not ESP; else 0 */
 } NcInstruction;
 
 typedef struct NcVerdict {
@@ -200,8 +194,7 @@ typedef struct NcVerdict {
     uint32_t at;  /* the address of a fault from 4 to 7, else 0 */
 } NcVerdict;
 
-/* A loaded segment of an ELF file: p_vaddr, p_offset, p_filesz, p_memsz and p_flags of its program header. Bytes in memory beyond those
-   in the file are 0. */
+/* A loaded segment of an ELF file: p_vaddr, p_offset, p_filesz, p_memsz and p_flags of its program header. */
 typedef struct NcSegment {
     uint32_t address;
     uint32_t offset;
@@ -222,8 +215,8 @@ typedef struct NcAct {
     uint32_t value;
 } NcAct;
 
-/* A handle is a struct of the host's, empty if all zeros. Only the library reads or writes its pointer. The host may move it, and must not
-   copy it. Of two copies only one may ever be passed to a call. */
+/* A handle is a struct of the host's, empty if all zeros. Only the library reads or writes its pointer. The host may move it, but not copy
+   it. Of two copies only one may ever be passed to a call. */
 typedef struct NcRegion {
     void *at;
 } NcRegion;
@@ -275,10 +268,10 @@ typedef struct NcWalk {
 /* Returns NC_VERSION of the linked library's own header [version]. */
 uint32_t nc_host_version(void);
 
-/* ---- Calls on code alone, and on files */
+/* ---- Calls on code alone, and on files
 
-/* They keep nothing between calls, and free what they allocate before they return [tested]. Only the arguments decide an answer, except
-   for NC_OUT_OF_MEMORY, as reading the code shows. */
+   They free what they allocate before they return [tested]. Only the arguments decide an answer, except for NC_OUT_OF_MEMORY, as reading
+   the code shows. */
 
 /* Decodes the instruction at the start of the code, of which it reads at most 12 bytes.
    Promised: the fault is NC_OK exactly for a whole permitted instruction (IsAtFront), which the result describes [found]. It is
@@ -299,36 +292,34 @@ NcVerdict nc_host_vet(uint32_t base, uint32_t limit, const uint8_t *code, size_t
 NcVerdict nc_host_marks(uint32_t base, uint32_t limit, const uint8_t *code, size_t len, uint8_t *marks, size_t marks_len);
 
 /* Judges as nc_host_vet does, for the limit NC_START + `image_len`, and fills `image`.
-   Promised: `image` has the chunk's bytes at `base` - NC_START, and stops elsewhere (unused_text, with_chunk) [filled]. No path through
-   it leaves the region, except to a trampoline (IsConfined) [confined].
+   Promised: `image` has the chunk's bytes at `base` - NC_START, and stops elsewhere (unused_text, with_chunk) [filled]. No path through it
+   leaves the region, except to a trampoline (IsConfined) [confined].
    Refused: as by nc_host_vet [outcome, valid, untouched].
-   Not promised: anything about a thread that is inside meanwhile, since bytes are stored together and in any order. */
+   Not promised: anything about a thread inside meanwhile. */
 NcVerdict nc_host_image(uint32_t base, const uint8_t *code, size_t len, uint8_t *image, size_t image_len);
 
-/* Judges a file, which may be hostile, by the rules of nc_check for linked 32-bit x86 ELF files. Writes its loaded segments, of code and
-   data: those of type PT_LOAD with bytes in memory.
-   Promised: exactly these are written, as their program headers describe them and in their order [written]. The file is well-formed
-   (IsWellFormed) [well_formed]. No segment has a fault from 56 to 61, and each ends at 2^32 or below (IsLoadable, IsLoadedBelow)
-   [loadable, apart].
-   Refused: 48 to 62, exactly if the file has this fault (HasElfFault); NC_NO_ROOM, if the buffer is shorter (MayRefuseLoaded)
-   [refused, exact, untouched].
+/* Judges a file by nc_check's rules for linked 32-bit x86 ELF files, and writes its loaded segments: those of type PT_LOAD with bytes in
+   memory.
+   Promised: exactly these are written, in order, as their program headers say [written]. The file is well-formed (IsWellFormed)
+   [well_formed]. No segment has a fault from 56 to 61, and each ends at 2^32 or below (IsLoadable, IsLoadedBelow) [loadable, apart].
+   Refused: 48 to 62, exactly if the file has this fault (HasElfFault); NC_NO_ROOM, if the buffer is shorter (MayRefuseLoaded) [refused,
+   exact, untouched].
    Not promised: anything about entry point, interpreter, relocations, sections or symbols; that the host has room; that code is valid. */
 NcSegments nc_host_elf(const uint8_t *file, size_t file_len, NcSegment *segments, size_t segments_len);
 
-/* ---- Calls on handles */
+/* ---- Calls on handles
 
-/* What all of them keep
-      Locks       Calls on one region are made one at a time, under the lock of duty 28. Calls on one seat are made by one thread at a
-                  time, without a lock, whatever runs on the region. A handle may pass to another thread, ordered by a lock, a thread's
-                  start or join, or a SeqCst atomic.
-      Handles     An empty handle is refused with NC_NO_HANDLE, before other faults. A call that fills a handle refuses one that isn't
-                  empty with NC_HANDLE_TAKEN, even before that. A call without a result does nothing to an empty handle.
+   What all of them keep
+      Locks       Make calls on one region one at a time, under the lock of duty 28, and calls on one seat by one thread at a time, without
+                  a lock, whatever runs on the region. A handle may pass to another thread, ordered by a lock, a thread's start or join, or
+                  a SeqCst atomic.
+      Handles     An empty handle is refused with NC_NO_HANDLE, before other faults. A call that fills a handle refuses one that isn't empty
+                  with NC_HANDLE_TAKEN, even before that. A call without a result does nothing to an empty handle.
       Changes     A creation or a patch is a call of a history (LogsCall). A change writes its acts, settlings included, which are then
                   pending in the host's memory (TellsPending). Once they are made, and a deletion has ended, the memory has the region's
                   bytes. `at` is 0, except for faults 4 to 7 [at]. A call that reads or writes runs never changes the region [same].
-      Buffers     A buffer is refused with NC_NO_ROOM if a change of this length can need a longer one. But with a length of 0 the
-                  change is made, and its acts aren't told, for a host without memory of its own, or one that asks for runs. So a buffer
-                  that grows begins with a length above 0.
+      Buffers     A buffer is refused with NC_NO_ROOM if a change of this length can need a longer one. But with a length of 0 the change is
+                  made, and its acts aren't told, for a host without memory, or one that asks for runs. So begin a growing buffer above 0.
       Memory      nc_region_free, nc_vetted_free and nc_seat_leave free all that was allocated for the handle [tested]. Only the table of
                   stamps and check-ins, which a region shares with its seats, is freed with the last of them, in any order [tested]. */
 
@@ -340,14 +331,14 @@ uint32_t nc_region_new(uint32_t bundles, uint32_t seats, NcRegion *region);
    Promised: seats that were given stay usable [tested]. */
 void nc_region_free(NcRegion *region);
 
-/* Gives a seat that has never been given (HasGiven) to an empty handle [given]. Until its first check-in it also holds back the
-   deletions since the last reclaim before it was given.
+/* Gives a seat that has never been given (HasGiven) to an empty handle [given]. Until its first check-in it also holds back the deletions
+   since the last reclaim before it was given.
    Refused: NC_NO_SEAT; NC_OUT_OF_MEMORY, which costs no seat (MayRefuseSeat) [refused, unchanged]. */
 uint32_t nc_region_seat(NcRegion *region, NcSeat *seat);
 
 /* Vets a chunk, and creates it with `len` + 2 acts.
-   Promised: the region has the chunk, valid for its limit (IsCreated) [created]. The acts are the creation's (log_of_create)
-   [told, pending, at].
+   Promised: the region has the chunk, valid for its limit (IsCreated) [created]. The acts are the creation's (log_of_create) [told,
+   pending, at].
    Refused: 1 to 8 by vetting, NC_UNDER_WAY, NC_NO_ROOM, NC_OCCUPIED, NC_OUT_OF_MEMORY [refused, unchanged, untouched]. */
 NcChange nc_region_create(NcRegion *region, uint32_t base, const uint8_t *code, size_t len, NcAct *acts, size_t acts_len);
 
@@ -356,7 +347,7 @@ NcChange nc_region_create(NcRegion *region, uint32_t base, const uint8_t *code, 
    Refused: 1 to 8, if the chunk has this fault (HasFault) [refused, unchanged]. */
 NcVerdict nc_vetted_new(uint32_t base, uint32_t limit, const uint8_t *code, size_t len, NcVetted *vetted);
 
-/* Frees a vetted chunk that isn't loaded, and empties the handle [emptied]. */
+/* Frees a vetted chunk, and empties the handle [emptied]. */
 void nc_vetted_free(NcVetted *vetted);
 
 /* Creates a vetted chunk as nc_region_create does (IsCreated, log_of_create), and empties its handle [created, pending, at].
@@ -364,21 +355,21 @@ void nc_vetted_free(NcVetted *vetted);
 NcChange nc_region_load(NcRegion *region, NcVetted *vetted, NcAct *acts, size_t acts_len);
 
 /* Replaces whole instructions of a chunk by others of the same lengths, with at most 3 * `len` acts, and none if no instruction differs.
-   Promised: the patch was lawful (IsPatch), and the region has its bytes (IsModified) [modified]. The acts are the patch's
-   (log_of_modify) [told, pending, at].
+   Promised: the patch was lawful (IsPatch), and the region has its bytes (IsModified) [modified]. The acts are the patch's (log_of_modify)
+   [told, pending, at].
    Refused: NC_UNDER_WAY; NC_NO_ROOM, if `len` is at most 32 and a lent buffer shorter than 3 * `len`; 16 to 21 [refused, allowed,
    unchanged, untouched]. */
 NcChange nc_region_patch(NcRegion *region, uint32_t at, const uint8_t *bytes, size_t len, NcAct *acts, size_t acts_len);
 
 /* Begins a deletion, with two acts more than the chunk has bytes. The last is NC_BUMP, for which the host must call nc_region_end_delete
-   after it has made the others. Until then the region shows the chunk's bytes, and refuses changes and reclaims.
+   after it has made the others. Until then the region shows the chunk's bytes.
    Promised: the deletion of the live chunk at `base` is under way (HasBegun), and these are its acts (log_of_delete), pending but for
    NC_BUMP [begun, pending, at].
    Refused: NC_UNDER_WAY, NC_NO_CHUNK, NC_FULL, NC_NO_ROOM [refused, unchanged, untouched]. */
 NcChange nc_region_begin_delete(NcRegion *region, uint32_t base, NcAct *acts, size_t acts_len);
 
-/* Ends a deletion: the chunk's bytes are stops, it is retired with the next stamp, and both calls are one of a history (HasEnded)
-   [ended]. Only the stamp is pending, which the library has drawn (DoesItself) [pending].
+/* Ends a deletion: the chunk's bytes are stops, it is retired with the next stamp, and both calls are one of a history (HasEnded) [ended].
+   Only the stamp is pending, which the library has drawn (DoesItself) [pending].
    Refused: NC_NOT_BEGUN [refused, unchanged]. */
 NcStamp nc_region_end_delete(NcRegion *region);
 
@@ -392,11 +383,11 @@ NcChange nc_region_creation_runs(NcRegion *region, uint32_t base, NcAct *acts, s
    Refused: NC_NOT_BEGUN, NC_NO_ROOM as above [refused, untouched]. */
 NcChange nc_region_deletion_runs(NcRegion *region, NcAct *acts, size_t acts_len);
 
-/* Checks in for seats that nobody was given, looks at each seat, and removes retired chunks. Their spans may be reused, and keep only
-   the marks of bundle starts. No byte is put.
+/* Checks in for seats that nobody was given, looks at each seat, and removes retired chunks. Their spans may be reused, and keep only the
+   marks of bundle starts.
    Promised: exactly the `count` retired chunks that no seat holds back, by what the looks found, are removed, in two calls of a history
-   (HasReclaimed) [reclaimed]. Only looks and freed spans are pending, which the library has made (DoesItself) [pending]. A look finds
-   a seat's last check-in, or that it was left [tested].
+   (HasReclaimed) [reclaimed]. Only looks and freed spans are pending, which the library has made (DoesItself) [pending]. A look finds a
+   seat's last check-in, or that it was left [tested].
    Refused: NC_UNDER_WAY [refused, unchanged]. */
 NcCount nc_region_reclaim(NcRegion *region);
 
@@ -404,8 +395,8 @@ NcCount nc_region_reclaim(NcRegion *region);
    Refused: NC_NO_CHUNK [refused]. */
 NcChunk nc_region_chunk(NcRegion *region, size_t index);
 
-/* Returns the chunk, live or retired, that has this address, or else the first one above it (IsNextChunk) [chunk, same]. Its span is
-   whole bundles of the region, below the guard (HasGoodSpan) [placed].
+/* Returns the chunk, live or retired, that has this address, or else the first above it (IsNextChunk) [chunk, same]. Its span is whole
+   bundles of the region, below the guard (HasGoodSpan) [placed].
    Refused: NC_NO_CHUNK [refused]. */
 NcChunk nc_region_chunk_at(NcRegion *region, uint32_t at);
 
@@ -413,9 +404,8 @@ NcChunk nc_region_chunk_at(NcRegion *region, uint32_t at);
    Refused: NC_NO_PLACE [refused]. */
 NcPlace nc_region_place(NcRegion *region, uint32_t at);
 
-/* Walks from a bundle start without executing anything, and writes at most `choices_len` + 1 places. Each step uses up one choice, in
-   place of data and flags: at a branch 0 falls through, and others go to the target; an indirect transfer goes to the choice with its
-   low five bits cleared.
+/* Walks from a bundle start, and writes at most `choices_len` + 1 places. Each step uses one choice in place of data and flags. At a branch
+   0 falls through, and others go to the target. An indirect transfer goes to the choice with its low five bits cleared.
    Promised: this is the machine's only walk by these choices, and all of it is safe (IsShownWalk) [told, same].
    Refused: NC_NO_START, NC_OUT_OF_MEMORY, NC_NO_ROOM [refused]. */
 NcWalk nc_region_walk(NcRegion *region, uint32_t start, const uint32_t *choices, size_t choices_len, uint32_t *places, size_t places_len);
@@ -432,10 +422,10 @@ NcStamp nc_region_generation(NcRegion *region);
 uint32_t nc_seat_check_in(NcSeat *seat);
 
 /* Reports that the seat's thread is outside for good, and empties the handle [emptied].
-   Promised: the seat holds nothing back any more [tested]. */
+   Promised: the seat holds nothing back [tested]. */
 void nc_seat_leave(NcSeat *seat);
 
-/* With NC_FAULT_NAMES: a fault's name, and its sentence in NC_FAULTS, or "?" for other numbers. They are no part of the library. */
+/* With NC_FAULT_NAMES: a fault's name, and its sentence in NC_FAULTS, or "?" for other numbers. */
 #ifdef NC_FAULT_NAMES
 #ifdef __GNUC__
 #define NC_UNUSED __attribute__((unused))

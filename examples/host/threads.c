@@ -106,7 +106,8 @@ static void *run(void *given) {
 
 /* ---- The writer */
 
-/* Waits until no thread is still at an instruction at which it was when this was called. */
+/* A host that interprets the code has settled once each of its threads has been between two instructions. So this waits until no thread is
+   still at an instruction at which it was when this was called. */
 static void settle(void) {
     int i;
     for (i = 0; i < THREADS; i++) {

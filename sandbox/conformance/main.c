@@ -1,6 +1,14 @@
 /* Tries the host that is linked with it: conformance [SECONDS [SEED [PART]]]. The parts are `process`, what stands in the process;
    `cases`, hostile code; and `random`, random code for so many seconds of a processor, 0 where none are named. A line that tells something
-   wrong has it in capitals; the last one counts them. Status 1 if there are any, 77 if the system refuses what the host needs. */
+   wrong has it in capitals; the last one counts them. Status 1 if there are any, 77 if the system refuses what the host needs.
+
+   For the library of sandbox/, from the top of the repository and with nc_host built, a minute of random code with the seed 1:
+
+       kit=$(dirname "$(rt doc)") && mkdir -p out
+       gcc -std=gnu11 -O2 -pthread -Iinclude -Isandbox sandbox/conformance/[!h]*.c sandbox/conformance/guard.S \
+           sandbox/conformance/host_boxes.c sandbox/[a-z]*.c sandbox/switch.S crates/nc_host/out/libnc_host.a "$kit/c/liblibc_c.a" \
+           -o out/conformance
+       out/conformance 60 1 */
 #define _GNU_SOURCE
 #include "kit.h"
 

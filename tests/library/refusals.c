@@ -5,6 +5,9 @@
  * between these two lines. Then come the fault and what stands after the call. A call that lacked memory is made once more, with ample
  * memory, and has to leave what it leaves otherwise. Without CALL each call is made in turn; tests/refusals/ample.txt is what is printed
  * then.
+ *
+ * A new call that takes memory needs here a function that makes it, one that shows the state after it, and a line of `calls`. Its output
+ * goes by hand into tests/refusals/ample.txt. TAKES of tools/try/refused-growths gets a line with the state after a refusal.
  */
 #define NC_FAULT_NAMES
 #include "nc_host.h"
