@@ -1,4 +1,8 @@
-/* Opus in fixed point: a made-up sound is encoded for speech and for music, and decoded, also where packets are lost. */
+/* Opus in fixed point: a made-up sound is encoded for speech and for music, and decoded, also where packets are lost.
+
+   In fixed point Opus 1.3.1 multiplies by 64-bit products on x86-64, and so encodes differently there than in 32-bit code. With
+   OPUS_FAST_INT64 0 in celt/arch.h, or in floating point, it encoded there as in the sandbox, in 24 settings of rate, channels and
+   application, by gcc and clang. */
 #include <stdio.h>
 #include <string.h>
 
