@@ -8,7 +8,8 @@
    REFUSE_REPORT  the number of an open file, to which a line is written for each refusal, and as the program ends a line with
                   the number of allocations that it asked for, and of those that it hasn't given back
 
-   It stands on the C library's own allocator by the names that glibc gives it. */
+   It stands on the C library's own allocator by the names that glibc gives it. So the program that is shipped is tried: the toolchain's own
+   way to refuse memory runs a program that isn't proved. */
 #include <errno.h>
 #include <stdatomic.h>
 #include <stdio.h>
