@@ -1,5 +1,6 @@
 #define _GNU_SOURCE
 #include "refusing.h"
+#include "wrapping.h"
 
 #include <asm/ldt.h>
 #include <errno.h>
@@ -56,8 +57,6 @@ static void *counted(void *block) {
     count(&blocks, block != NULL);
     return block;
 }
-
-#define REAL(result, name, ...) result __real_##name(__VA_ARGS__); result __wrap_##name(__VA_ARGS__); result __wrap_##name(__VA_ARGS__)
 
 REAL(void *, malloc, size_t len) {
     return refuses(REFUSES_malloc) ? NULL : counted(__real_malloc(len));
@@ -172,9 +171,7 @@ static int is_release(const long *words) {
     return words[0] == 0x11 && d->seg_not_present;
 }
 
-long __real_syscall(long number, ...);
-long __wrap_syscall(long number, ...);
-long __wrap_syscall(long number, ...) {
+REAL(long, syscall, long number, ...) {
     long words[4];
     int k, refused = 0;
     va_list more;

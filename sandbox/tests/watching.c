@@ -1,6 +1,6 @@
-/* tools/try/boxes links this with --wrap for each function whose name begins with __wrap_ here, so all calls of the library lead here. */
 #define _GNU_SOURCE
 #include "watching.h"
+#include "wrapping.h"
 
 #include <errno.h>
 #include <linux/membarrier.h>
@@ -15,27 +15,6 @@ unsigned watching_count, watching_fail_settlings;
 uint8_t *watching_lent;
 int watching_refuse, watching_times, watching_errno;
 long watching_fail_after = -1;
-
-long __real_syscall(long number, ...);
-int __real_memfd_create(const char *name, unsigned flags);
-int __real_fallocate(int file, int mode, off_t from, off_t len);
-int __real_madvise(void *at, size_t len, int advice);
-NcChange __real_nc_region_load(NcRegion *region, NcVetted *vetted, NcAct *acts, size_t acts_len);
-NcStamp __real_nc_region_end_delete(NcRegion *region);
-void *__real_malloc(size_t len);
-void *__real_calloc(size_t count, size_t len);
-void *__real_realloc(void *at, size_t len);
-void *__real_aligned_alloc(size_t to, size_t len);
-long __wrap_syscall(long number, ...);
-int __wrap_memfd_create(const char *name, unsigned flags);
-int __wrap_fallocate(int file, int mode, off_t from, off_t len);
-int __wrap_madvise(void *at, size_t len, int advice);
-NcChange __wrap_nc_region_load(NcRegion *region, NcVetted *vetted, NcAct *acts, size_t acts_len);
-NcStamp __wrap_nc_region_end_delete(NcRegion *region);
-void *__wrap_malloc(size_t len);
-void *__wrap_calloc(size_t count, size_t len);
-void *__wrap_realloc(void *at, size_t len);
-void *__wrap_aligned_alloc(size_t to, size_t len);
 
 static int is_locked(Live *live) {
     if (pthread_mutex_trylock(&live->lock) != 0) {
@@ -65,20 +44,20 @@ static int refuses(long number) {
     return 1;
 }
 
-int __wrap_memfd_create(const char *name, unsigned flags) {
+REAL(int, memfd_create, const char *name, unsigned flags) {
     return refuses(SYS_memfd_create) ? -1 : __real_memfd_create(name, flags);
 }
 
-int __wrap_fallocate(int file, int mode, off_t from, off_t len) {
+REAL(int, fallocate, int file, int mode, off_t from, off_t len) {
     return refuses(SYS_fallocate) ? -1 : __real_fallocate(file, mode, from, len);
 }
 
-int __wrap_madvise(void *at, size_t len, int advice) {
+REAL(int, madvise, void *at, size_t len, int advice) {
     return refuses(SYS_madvise) ? -1 : __real_madvise(at, len, advice);
 }
 
 /* The library passes up to four words, and the kernel takes no more from it. */
-long __wrap_syscall(long number, ...) {
+REAL(long, syscall, long number, ...) {
     long a, b, c, d;
     va_list words;
     va_start(words, number);
@@ -101,14 +80,14 @@ long __wrap_syscall(long number, ...) {
     return __real_syscall(number, a, b, c, d);
 }
 
-NcChange __wrap_nc_region_load(NcRegion *region, NcVetted *vetted, NcAct *acts, size_t acts_len) {
+REAL(NcChange, nc_region_load, NcRegion *region, NcVetted *vetted, NcAct *acts, size_t acts_len) {
     if (watching_lent != NULL) {
         *watching_lent = 0xC3;
     }
     return __real_nc_region_load(region, vetted, acts, acts_len);
 }
 
-NcStamp __wrap_nc_region_end_delete(NcRegion *region) {
+REAL(NcStamp, nc_region_end_delete, NcRegion *region) {
     note(1);
     return __real_nc_region_end_delete(region);
 }
@@ -117,18 +96,18 @@ static int fails(void) {
     return watching_fail_after >= 0 && watching_fail_after-- == 0;
 }
 
-void *__wrap_malloc(size_t len) {
+REAL(void *, malloc, size_t len) {
     return fails() ? NULL : __real_malloc(len);
 }
 
-void *__wrap_calloc(size_t count, size_t len) {
+REAL(void *, calloc, size_t count, size_t len) {
     return fails() ? NULL : __real_calloc(count, len);
 }
 
-void *__wrap_realloc(void *at, size_t len) {
+REAL(void *, realloc, void *at, size_t len) {
     return fails() ? NULL : __real_realloc(at, len);
 }
 
-void *__wrap_aligned_alloc(size_t to, size_t len) {
+REAL(void *, aligned_alloc, size_t to, size_t len) {
     return fails() ? NULL : __real_aligned_alloc(to, len);
 }
