@@ -202,6 +202,22 @@ typedef struct Change {
     uint8_t used, code[5]; /* the first bytes; nops are behind */
 } Change;
 
+typedef int Call(NcsModule *m, NcsAt at, const void *code, size_t len, NcsRefusal *why);
+
+static void refused_each(NcsModule *m, Call *call, const Change *changes, size_t count) {
+    NcsRefusal why;
+    size_t k;
+    for (k = 0; k < count; k++) {
+        const Change *c = &changes[k];
+        uint8_t code[BUNDLE + 1];
+        int made;
+        memset(code, 0x90, sizeof code);
+        memcpy(code, c->code, c->used);
+        made = call(m, (NcsAt){c->at}, code, c->len, &why);
+        testing_check(is_refused(m, made, &why, c->kind, c->fault) && why.at == c->fault_at, c->name, __FILE__, __LINE__);
+    }
+}
+
 static void refused_creations(NcsModule *m) {
     static const Change changes[] = {
         {"a base within a bundle", HERE + 1, NCS_BAD_CODE, NC_BAD_BASE, 0, 32, 0, {0}},
@@ -217,16 +233,7 @@ static void refused_creations(NcsModule *m) {
         {"over a deleted chunk", THERE + 64, NCS_BAD_CHANGE, NC_OCCUPIED, 0, 32, 1, {0x40}},
     };
     NcsRefusal why;
-    size_t k;
-    for (k = 0; k < sizeof changes / sizeof *changes; k++) {
-        const Change *c = &changes[k];
-        uint8_t code[BUNDLE + 1];
-        int made;
-        memset(code, 0x90, sizeof code);
-        memcpy(code, c->code, c->used);
-        made = ncs_create(m, (NcsAt){c->at}, code, c->len, &why);
-        testing_check(is_refused(m, made, &why, c->kind, c->fault) && why.at == c->fault_at, c->name, __FILE__, __LINE__);
-    }
+    refused_each(m, ncs_create, changes, sizeof changes / sizeof *changes);
     CHECK(is_refused(m, ncs_create(m, (NcsAt){HERE}, "", SIZE_MAX / 4, &why), &why, NCS_BAD_CODE, NC_OUT_OF_RANGE));
 }
 
@@ -243,17 +250,7 @@ static void refused_patches(NcsModule *m) {
         {"a mask", HERE + 6, NCS_BAD_CHANGE, NC_PATCH_PAIR_TOUCHED, 0, 3, 3, {0x83, 0xE0, 0xE0}},
         {"a jump into an instruction", HERE, NCS_BAD_CHANGE, NC_PATCH_BAD_TARGET, 0, 5, 5, {0xE9, 0xFC, 0xFF, 0xFF, 0xFF}},
     };
-    NcsRefusal why;
-    size_t k;
-    for (k = 0; k < sizeof changes / sizeof *changes; k++) {
-        const Change *c = &changes[k];
-        uint8_t code[BUNDLE + 1];
-        int made;
-        memset(code, 0x90, sizeof code);
-        memcpy(code, c->code, c->used);
-        made = ncs_patch(m, (NcsAt){c->at}, code, c->len, &why);
-        testing_check(is_refused(m, made, &why, c->kind, c->fault) && why.at == 0, c->name, __FILE__, __LINE__);
-    }
+    refused_each(m, ncs_patch, changes, sizeof changes / sizeof *changes);
 }
 
 static void refused_deletions(NcsModule *m) {
