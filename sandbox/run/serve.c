@@ -19,42 +19,32 @@ static uint64_t result(int64_t returned) {
     return returned < 0 ? failed(errno) : (uint64_t)returned;
 }
 
-/* The pointer and the file of a call that reads or writes. 0, or the error. */
-static int judge_transfer(const Run *run, const uint32_t *args, int *file, void **bytes) {
-    *file = files_host(&run->files, args[0]);
-    *bytes = ncs_at(run->box, (NcsAt){args[1]}, args[2]);
-    return *file < 0 ? EBADF : *bytes == NULL && args[2] != 0 ? EFAULT : 0;
-}
-
-/* It waits as long as the file makes it: the time that is limited is the processor's. */
-static uint64_t call_read(NcsBox *box, void *user, const uint32_t *args) {
-    int file, error;
-    void *to;
-    ssize_t got;
-    (void)box;
-    error = judge_transfer(user, args, &file, &to);
-    if (error != 0) {
-        return failed(error);
+/* Writes to a file from the box's memory, or reads from it. It waits as long as the file makes it: the time that is limited is the
+   processor's. */
+static uint64_t transfer(const Run *run, const uint32_t *args, int writes) {
+    int file = files_host(&run->files, args[0]);
+    void *bytes = ncs_at(run->box, (NcsAt){args[1]}, args[2]);
+    ssize_t moved;
+    if (file < 0) {
+        return failed(EBADF);
+    }
+    if (bytes == NULL && args[2] != 0) {
+        return failed(EFAULT);
     }
     do {
-        got = read(file, to, args[2]);
-    } while (got < 0 && errno == EINTR);
-    return result(got);
+        moved = writes ? write(file, bytes, args[2]) : read(file, bytes, args[2]);
+    } while (moved < 0 && errno == EINTR);
+    return result(moved);
+}
+
+static uint64_t call_read(NcsBox *box, void *user, const uint32_t *args) {
+    (void)box;
+    return transfer(user, args, 0);
 }
 
 static uint64_t call_write(NcsBox *box, void *user, const uint32_t *args) {
-    int file, error;
-    void *from;
-    ssize_t put;
     (void)box;
-    error = judge_transfer(user, args, &file, &from);
-    if (error != 0) {
-        return failed(error);
-    }
-    do {
-        put = write(file, from, args[2]);
-    } while (put < 0 && errno == EINTR);
-    return result(put);
+    return transfer(user, args, 1);
 }
 
 static uint64_t call_clock(NcsBox *box, void *user, const uint32_t *args) {
