@@ -20,7 +20,19 @@ PROGRAMS = ["nc_check", "nc_replay"]
 REWRITER, DRIVER = "compiler/nc-bundle", "compiler/nc-cc"
 SHARE, DOC = "share/reedbodkin/", "share/doc/reedbodkin/"
 
-# Files of the repository, and where they go. A folder's files go below the second path.
+# What has a manual page and completions, and the crates for Rust.
+COMMANDS = ["nc-bundle", "nc-cc", "nc_check", "nc_replay", "nc-run"]
+CRATES = ["nc_sandbox", "nc_host"]
+
+# What stands where it is installed as it does in the repository.
+PAGES_AND_EXAMPLES = [
+    "README.md", "SECURITY.md", "CHANGELOG.md", "CONTRIBUTING.md", "VERSION", "docs", "docs/charts",
+    "examples/check", "examples/host", "examples/sandbox", "examples/jit", "examples/run", "examples/boxes", "examples/boxes/calculator",
+    "examples/boxes/costs", "examples/boxes/document", "examples/boxes/picture", "examples/boxes/plugins", "examples/compile/sample.c",
+    "examples/first.script", "examples/vet.lines",
+]
+
+# Files of the repository, and where they go. A folder's files go below the second path. Of two files for one place the later one goes there.
 FILES = [
     ("include/nc_host.h", "include/nc_host.h"),
     ("bindings/cpp/nc_host.hpp", "include/nc_host.hpp"),
@@ -28,51 +40,18 @@ FILES = [
     ("sandbox/guest/nc_run.h", SHARE + "guest/nc_run.h"),
     ("bindings/cpp/nc_sandbox.hpp", "include/nc_sandbox.hpp"),
     ("bindings/cpp/nc_sandbox_words.hpp", "include/nc_sandbox_words.hpp"),
-    ("bindings/rust/nc_sandbox", SHARE + "rust/nc_sandbox"),
-    ("bindings/rust/nc_sandbox/src", SHARE + "rust/nc_sandbox/src"),
-    ("bindings/rust/nc_sandbox/examples", SHARE + "rust/nc_sandbox/examples"),
-    ("bindings/rust/nc_host", SHARE + "rust/nc_host"),
-    ("bindings/rust/nc_host/src", SHARE + "rust/nc_host/src"),
-    ("bindings/rust/nc_host/examples", SHARE + "rust/nc_host/examples"),
+    *[("bindings/rust/" + name + part, SHARE + "rust/" + name + part) for name in CRATES for part in ("", "/src", "/examples")],
+    *[("bindings/rust/linking.rs", SHARE + "rust/" + name + "/build.rs") for name in CRATES],
     ("compiler/runtime/chunk.ld", SHARE + "chunk.ld"),
     ("compiler/bundling", SHARE + "bundling"),
     ("compiler/driving", SHARE + "driving"),
     ("packaging/nc_toolchain.cmake", "lib/cmake/nc_host/nc_toolchain.cmake"),
     ("packaging/meson/nc-cc", "share/meson/cross/nc-cc"),
-    ("docs/man/nc-bundle.1", "share/man/man1/nc-bundle.1"),
-    ("docs/man/nc-cc.1", "share/man/man1/nc-cc.1"),
-    ("docs/man/nc_check.1", "share/man/man1/nc_check.1"),
-    ("docs/man/nc_replay.1", "share/man/man1/nc_replay.1"),
-    ("docs/man/nc-run.1", "share/man/man1/nc-run.1"),
-    ("packaging/completions/nc_check.bash", "share/bash-completion/completions/nc_check"),
-    ("packaging/completions/nc_replay.bash", "share/bash-completion/completions/nc_replay"),
-    ("packaging/completions/nc-run.bash", "share/bash-completion/completions/nc-run"),
-    ("packaging/completions/nc-bundle.bash", "share/bash-completion/completions/nc-bundle"),
-    ("packaging/completions/nc-cc.bash", "share/bash-completion/completions/nc-cc"),
-    ("packaging/completions/_nc-bundle", "share/zsh/site-functions/_nc-bundle"),
-    ("packaging/completions/_nc-cc", "share/zsh/site-functions/_nc-cc"),
-    ("packaging/completions/_nc_check", "share/zsh/site-functions/_nc_check"),
-    ("packaging/completions/_nc_replay", "share/zsh/site-functions/_nc_replay"),
-    ("packaging/completions/_nc-run", "share/zsh/site-functions/_nc-run"),
+    *[("docs/man/" + name + ".1", "share/man/man1/" + name + ".1") for name in COMMANDS],
+    *[("packaging/completions/" + name + ".bash", "share/bash-completion/completions/" + name) for name in COMMANDS],
+    *[("packaging/completions/_" + name, "share/zsh/site-functions/_" + name) for name in COMMANDS],
     ("packaging/NOTICE", DOC + "NOTICE"),
-    ("README.md", DOC + "README.md"),
-    ("SECURITY.md", DOC + "SECURITY.md"),
-    ("CHANGELOG.md", DOC + "CHANGELOG.md"),
-    ("CONTRIBUTING.md", DOC + "CONTRIBUTING.md"),
-    ("VERSION", DOC + "VERSION"),
-    ("docs", DOC + "docs"),
-    ("docs/charts", DOC + "docs/charts"),
-    ("examples/check", DOC + "examples/check"),
-    ("examples/host", DOC + "examples/host"),
-    ("examples/sandbox", DOC + "examples/sandbox"),
-    ("examples/jit", DOC + "examples/jit"),
-    ("examples/boxes", DOC + "examples/boxes"),
-    ("examples/boxes/calculator", DOC + "examples/boxes/calculator"),
-    ("examples/boxes/costs", DOC + "examples/boxes/costs"),
-    ("examples/boxes/document", DOC + "examples/boxes/document"),
-    ("examples/boxes/picture", DOC + "examples/boxes/picture"),
-    ("examples/boxes/plugins", DOC + "examples/boxes/plugins"),
-    ("examples/run", DOC + "examples/run"),
+    *[(path, DOC + path) for path in PAGES_AND_EXAMPLES],
     ("compiler/runtime/division.c", DOC + "examples/library/division.c"),
     ("compiler/runtime/floating.c", DOC + "examples/library/floating.c"),
     ("compiler/runtime/heap.h", DOC + "examples/library/heap.h"),
@@ -88,9 +67,6 @@ FILES = [
     ("compiler/runtime/run", DOC + "examples/library/run"),
     ("compiler/runtime/templates/bits", DOC + "examples/library/templates/bits"),
     ("compiler/runtime/musl/bits", DOC + "examples/library/musl/bits"),
-    ("examples/compile/sample.c", DOC + "examples/compile/sample.c"),
-    ("examples/first.script", DOC + "examples/first.script"),
-    ("examples/vet.lines", DOC + "examples/vet.lines"),
 ]
 
 # Folders and files of the repository that pages name and that aren't installed, and what stands before their names on an installed page.
