@@ -1,6 +1,7 @@
 //! The jobs of judging files: compiled code that is mostly accepted, and code whose every fault is asked for.
 
 use crate::digest::Digest;
+use crate::input::Input;
 use crate::pieces::{BUNDLE, Pieces};
 use crate::random::Random;
 use nc_decode::MAX_BUNDLES;
@@ -46,17 +47,11 @@ fn spoil(code: &mut [u8], random: &mut Random, count: u32) {
 }
 
 /// Judges this many files of 64 KB to 2 MB, each sixteenth of them with a few bytes spoiled.
-pub fn run_judge(
-    alloc: Global,
-    digest: &mut Digest,
-    pieces: &Pieces,
-    seed: u32,
-    count: u32,
-) -> Result<(), AllocError> {
-    let mut random = Random::new(seed);
-    for i in 0..count {
+pub fn run_judge(alloc: Global, digest: &mut Digest, input: Input<'_>) -> Result<(), AllocError> {
+    let mut random = Random::new(input.seed);
+    for i in 0..input.count {
         let bundles = 2048usize.saturating_add(random.index(63_488));
-        let mut code = pieces.module(alloc, &mut random, bundles)?;
+        let mut code = input.pieces.module(alloc, &mut random, bundles)?;
         if i % 16 == 15 {
             spoil(&mut code, &mut random, 3);
         }
@@ -90,19 +85,13 @@ fn plain(
 
 /// Asks for all faults of this many files: three of four are of 512 KB with some hundred faults, each fourth is 128 KB from a
 /// plain compiler.
-pub fn run_faults(
-    alloc: Global,
-    digest: &mut Digest,
-    pieces: &Pieces,
-    seed: u32,
-    count: u32,
-) -> Result<(), AllocError> {
-    let mut random = Random::new(seed);
-    for i in 0..count {
+pub fn run_faults(alloc: Global, digest: &mut Digest, input: Input<'_>) -> Result<(), AllocError> {
+    let mut random = Random::new(input.seed);
+    for i in 0..input.count {
         let code = if i % 4 == 3 {
-            plain(alloc, pieces, &mut random, 4096)?
+            plain(alloc, input.pieces, &mut random, 4096)?
         } else {
-            let mut code = pieces.module(alloc, &mut random, 16_384)?;
+            let mut code = input.pieces.module(alloc, &mut random, 16_384)?;
             spoil(&mut code, &mut random, 100);
             code
         };

@@ -2,11 +2,12 @@
 //! with the acts or runs of each change.
 
 use crate::digest::Digest;
+use crate::input::Input;
+use crate::loading::{NONE, load};
 use crate::pieces::Pieces;
 use crate::plan::{Live, Plan, SEATS};
 use nc_decode::MAX_BUNDLES;
 use nc_handle::{Guest, Held, NcAct};
-use nc_vet::vet;
 use std::alloc::{AllocError, Global};
 
 /// The number of slots, of which half are live.
@@ -27,13 +28,6 @@ struct Jit {
     acts: [NcAct; ROOM],
     count: usize,
 }
-
-/// An act that stands for none.
-const NONE: NcAct = NcAct {
-    kind: 0,
-    at: 0,
-    value: 0,
-};
 
 impl Jit {
     /// A new region, with its seats given out; chunks are made of the first `count` pieces. Nothing without memory.
@@ -72,15 +66,8 @@ impl Jit {
 
     /// Vets the code of a chunk, and creates it.
     fn load(&mut self, digest: &mut Digest, live: Live, code: Vec<u8>) {
-        let Ok(vetted) = vet(live.base, self.held.limit(), code) else {
-            return digest.add(1);
-        };
-        if self.held.create(vetted, &mut []).is_err() {
-            return digest.add(2);
-        }
-        match self.held.creation_runs(live.base, &mut self.acts) {
-            Ok(count) => self.add_acts(digest, count),
-            Err(_) => digest.add(3),
+        if let Some(count) = load(&mut self.held, digest, live.base, code, &mut self.acts) {
+            self.add_acts(digest, count);
         }
     }
 
@@ -170,21 +157,16 @@ impl Jit {
 }
 
 /// Fills half of the slots, and then takes this many turns, with a reclaim after every fourth.
-pub fn run_jit(
-    alloc: Global,
-    digest: &mut Digest,
-    pieces: &Pieces,
-    seed: u32,
-    turns: u32,
-) -> Result<(), AllocError> {
-    let slots = SLOTS.min(turns);
-    let Some(mut jit) = Jit::new(alloc, seed, slots, pieces.count_to(MOST)) else {
+pub fn run_jit(alloc: Global, digest: &mut Digest, input: Input<'_>) -> Result<(), AllocError> {
+    let pieces = input.pieces;
+    let slots = SLOTS.min(input.count);
+    let Some(mut jit) = Jit::new(alloc, input.seed, slots, pieces.count_to(MOST)) else {
         return Err(AllocError);
     };
     for _ in 0..slots / 2 {
         jit.create(alloc, digest, pieces)?;
     }
-    for i in 0..turns {
+    for i in 0..input.count {
         jit.turn(alloc, digest, pieces)?;
         if i % 4 == 3 {
             jit.reclaim(digest)?;

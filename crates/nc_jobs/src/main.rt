@@ -8,15 +8,18 @@
 //! | `jit` | `jit` |
 //! | `load` | `modules` |
 //! | `judge`, `faults` | `files` |
-//! | `lines`, `replay` | `texts` |
-//! | `refusals` | `refusals` |
+//! | `lines`, `refusals` | `lines` |
+//! | `replay` | `texts` |
 //!
 //! `names` is no job: it names the instructions of a file of code, by which `tools/try/names` tries `nc_names`.
 #![tactic(auto)]
 
 mod digest;
 mod files;
+mod input;
 mod jit;
+mod lines;
+mod loading;
 mod modules;
 mod names;
 mod pieces;
@@ -28,6 +31,8 @@ mod words;
 
 use clap::Error;
 use digest::Digest;
+use input::Input;
+use lines::Kind;
 use nc_command::arguments;
 use pieces::Pieces;
 use std::alloc::AllocError;
@@ -43,20 +48,18 @@ use words::{Ask, Job, Work, asked};
 fn do_job<R: Threads + Wait + Sync + AllocGlobal>(
     rt: &R,
     digest: &mut Digest,
-    pieces: &Pieces,
     job: Job,
-    seed: u32,
-    count: u32,
+    input: Input<'_>,
 ) -> Result<(), AllocError> {
     let alloc = rt.alloc();
     match job {
-        Job::Jit => jit::run_jit(alloc, digest, pieces, seed, count),
-        Job::Load => modules::run_load(alloc, digest, pieces, seed, count),
-        Job::Judge => files::run_judge(alloc, digest, pieces, seed, count),
-        Job::Faults => files::run_faults(alloc, digest, pieces, seed, count),
-        Job::Lines => texts::run_lines(rt, alloc, digest, pieces, seed, count),
-        Job::Refusals => refusals::run_refusals(rt, alloc, digest, pieces, seed, count),
-        Job::Replay => texts::run_replay(alloc, digest, pieces, seed, count),
+        Job::Jit => jit::run_jit(alloc, digest, input),
+        Job::Load => modules::run_load(alloc, digest, input),
+        Job::Judge => files::run_judge(alloc, digest, input),
+        Job::Faults => files::run_faults(alloc, digest, input),
+        Job::Lines => lines::run_lines(rt, alloc, digest, input, Kind::Valid),
+        Job::Refusals => lines::run_lines(rt, alloc, digest, input, Kind::Refused),
+        Job::Replay => texts::run_replay(alloc, digest, input),
     }
 }
 
@@ -68,7 +71,12 @@ fn print_job<R: Threads + Wait + Sync + AllocGlobal + Print>(
     ask: &Ask<'_>,
 ) -> io::Result<()> {
     let mut digest = Digest::new();
-    do_job(rt, &mut digest, pieces, job, ask.seed, ask.count)?;
+    let input = Input {
+        pieces,
+        seed: ask.seed,
+        count: ask.count,
+    };
+    do_job(rt, &mut digest, job, input)?;
     let value = digest.value();
     let name = job.name();
     println!(rt; "{name} {value:016x}")

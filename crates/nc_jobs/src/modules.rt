@@ -1,11 +1,11 @@
 //! The job of loading modules: large chunks of compiled code, vetted, created and later deleted, with the runs of each change.
 
 use crate::digest::Digest;
-use crate::pieces::Pieces;
+use crate::input::Input;
+use crate::loading::{NONE, load};
 use crate::random::Random;
 use nc_decode::MAX_BUNDLES;
 use nc_handle::{Held, NcAct};
-use nc_vet::vet;
 use std::alloc::{AllocError, Global};
 
 /// The address of the first module.
@@ -16,13 +16,6 @@ const MOST: u32 = 131_072;
 
 /// The number of places for modules, each of `MOST` bundles.
 const PLACES: u32 = 8;
-
-/// An act that stands for none.
-const NONE: NcAct = NcAct {
-    kind: 0,
-    at: 0,
-    value: 0,
-};
 
 /// A region for modules.
 #[derive(Drop)]
@@ -41,15 +34,8 @@ impl Host {
 
     /// Vets the code of a module, and creates it.
     fn load(&mut self, digest: &mut Digest, base: u32, code: Vec<u8>) {
-        let Ok(vetted) = vet(base, self.held.limit(), code) else {
-            return digest.add(1);
-        };
-        if self.held.create(vetted, &mut []).is_err() {
-            return digest.add(2);
-        }
-        match self.held.creation_runs(base, &mut self.runs) {
-            Ok(count) => self.add_runs(digest, count),
-            Err(_) => digest.add(3),
+        if let Some(count) = load(&mut self.held, digest, base, code, &mut self.runs) {
+            self.add_runs(digest, count);
         }
     }
 
@@ -86,22 +72,16 @@ fn draw_size(random: &mut Random) -> usize {
 }
 
 /// Loads this many modules, each in the place of an older one.
-pub fn run_load(
-    alloc: Global,
-    digest: &mut Digest,
-    pieces: &Pieces,
-    seed: u32,
-    count: u32,
-) -> Result<(), AllocError> {
-    let mut random = Random::new(seed);
+pub fn run_load(alloc: Global, digest: &mut Digest, input: Input<'_>) -> Result<(), AllocError> {
+    let mut random = Random::new(input.seed);
     let mut host = new_host(alloc)?;
-    for i in 0..count {
+    for i in 0..input.count {
         let base = FIRST.saturating_add((i % PLACES).saturating_mul(32 * MOST));
         if i >= PLACES {
             host.unload(digest, base);
         }
         let size = draw_size(&mut random);
-        let code = pieces.module(alloc, &mut random, size)?;
+        let code = input.pieces.module(alloc, &mut random, size)?;
         host.load(digest, base, code);
     }
     Ok(())

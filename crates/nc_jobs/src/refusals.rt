@@ -1,16 +1,9 @@
-//! The job over lines of chunks of which some are refused, and some lines name none.
+//! Lines of chunks of which some are refused, and some lines name none.
 
-use crate::digest::Digest;
-use crate::pieces::Pieces;
 use crate::plan::Live;
 use crate::random::Random;
 use crate::texts::{FIRST, Hex, push_byte, push_chunk};
-use nc_decode::MAX_BUNDLES;
-use nc_lines::vet_lines;
-use nc_work::Open;
 use std::alloc::{AllocError, Global};
-use std::sync::Wait;
-use std::thread::Threads;
 
 /// What makes a chunk's line one that is refused: how far its base is moved, how many nops follow its piece, the bytes after
 /// these, and how many bytes all that follows the piece has; nops fill it up.
@@ -79,32 +72,15 @@ fn push_line(
 }
 
 /// Lines of 30,000 chunks of 1 to 8 bundles before what is added to them.
-fn refusal_lines(alloc: Global, hex: &Hex<'_>, random: &mut Random) -> Result<Vec<u8>, AllocError> {
+pub fn refusal_lines(
+    alloc: Global,
+    hex: &Hex<'_>,
+    random: &mut Random,
+) -> Result<Vec<u8>, AllocError> {
     let mut text = Vec::new(alloc);
     let count = hex.count_to(8);
     for number in 0..30_000u32 {
         push_line(&mut text, hex, random.index(count), number)?;
     }
     Ok(text)
-}
-
-/// Vets this many texts of lines.
-pub fn run_refusals<T: Threads + Wait + Sync>(
-    rt: &T,
-    alloc: Global,
-    digest: &mut Digest,
-    pieces: &Pieces,
-    seed: u32,
-    count: u32,
-) -> Result<(), AllocError> {
-    let mut random = Random::new(seed);
-    let hex = Hex::new(alloc, pieces)?;
-    for _ in 0..count {
-        let text = refusal_lines(alloc, &hex, &mut random)?;
-        let mut reader = text.as_slice();
-        if vet_lines(rt, alloc, &mut reader, digest, MAX_BUNDLES, 1, &Open).is_err() {
-            digest.add(8);
-        }
-    }
-    Ok(())
 }

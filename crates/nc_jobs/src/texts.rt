@@ -1,16 +1,13 @@
-//! The jobs over lines of text: chunks that are only vetted, and a script of what a host did.
+//! Lines of text, and the job over a script of what a host did.
 
 use crate::digest::Digest;
+use crate::input::Input;
 use crate::pieces::Pieces;
 use crate::plan::{Live, Plan, SEATS};
 use crate::random::Random;
 use nc_decode::MAX_BUNDLES;
-use nc_lines::vet_lines;
 use nc_script::run;
-use nc_work::Open;
 use std::alloc::{AllocError, Global};
-use std::sync::Wait;
-use std::thread::Threads;
 
 /// The address of the first chunk that is only vetted.
 pub const FIRST: u32 = 0x100_0000;
@@ -75,7 +72,7 @@ impl<'a> Hex<'a> {
     }
 
     /// Adds the digits of a chunk of this many bytes, made of pieces at random; nops fill it up.
-    fn push_module(
+    pub fn push_module(
         &self,
         text: &mut Vec<u8>,
         random: &mut Random,
@@ -110,56 +107,8 @@ pub fn push_chunk(
     text.extend_from_slice(hex.digits(live.piece))
 }
 
-/// Lines of chunks: 30,000 of 1 to 8 bundles, or 150 modules of 64 KB where `is_large`.
-fn chunk_lines(
-    alloc: Global,
-    hex: &Hex<'_>,
-    random: &mut Random,
-    is_large: bool,
-) -> Result<Vec<u8>, AllocError> {
-    let mut text = Vec::new(alloc);
-    if is_large {
-        for _ in 0..150 {
-            push_address(&mut text, b"", FIRST)?;
-            text.push(b' ')?;
-            hex.push_module(&mut text, random, 65_536)?;
-            text.push(b'\n')?;
-        }
-        return Ok(text);
-    }
-    let count = hex.count_to(8);
-    for i in 0..30_000u32 {
-        let base = FIRST.wrapping_add(i.wrapping_mul(256));
-        let piece = random.index(count);
-        push_chunk(&mut text, hex, b"", Live { base, piece })?;
-        text.push(b'\n')?;
-    }
-    Ok(text)
-}
-
-/// Vets this many texts of lines; each eighth is of large chunks.
-pub fn run_lines<T: Threads + Wait + Sync>(
-    rt: &T,
-    alloc: Global,
-    digest: &mut Digest,
-    pieces: &Pieces,
-    seed: u32,
-    count: u32,
-) -> Result<(), AllocError> {
-    let mut random = Random::new(seed);
-    let hex = Hex::new(alloc, pieces)?;
-    for i in 0..count {
-        let text = chunk_lines(alloc, &hex, &mut random, i % 8 == 7)?;
-        let mut reader = text.as_slice();
-        if vet_lines(rt, alloc, &mut reader, digest, MAX_BUNDLES, 1, &Open).is_err() {
-            digest.add(8);
-        }
-    }
-    Ok(())
-}
-
 /// Adds a line with a word and an address.
-fn push_address(text: &mut Vec<u8>, word: &[u8], base: u32) -> Result<(), AllocError> {
+pub fn push_address(text: &mut Vec<u8>, word: &[u8], base: u32) -> Result<(), AllocError> {
     text.extend_from_slice(word)?;
     push_bytes(text, &base.to_be_bytes())
 }
@@ -237,21 +186,15 @@ fn push_turn(text: &mut Vec<u8>, hex: &Hex<'_>, plan: &mut Plan) -> Result<(), A
 
 /// Replays a script of this many times twenty lines, over some two thousand live chunks, with a dump after every four thousand
 /// times twenty.
-pub fn run_replay(
-    alloc: Global,
-    digest: &mut Digest,
-    pieces: &Pieces,
-    seed: u32,
-    turns: u32,
-) -> Result<(), AllocError> {
-    let hex = Hex::new(alloc, pieces)?;
-    let slots = 4096u32.min(turns);
-    let mut plan = Plan::new(alloc, seed, slots, 32 * MOST as u32)?;
+pub fn run_replay(alloc: Global, digest: &mut Digest, input: Input<'_>) -> Result<(), AllocError> {
+    let hex = Hex::new(alloc, input.pieces)?;
+    let slots = 4096u32.min(input.count);
+    let mut plan = Plan::new(alloc, input.seed, slots, 32 * MOST as u32)?;
     let mut text = Vec::new(alloc);
     for _ in 0..slots / 2 {
         push_create(&mut text, &hex, &mut plan)?;
     }
-    for i in 0..turns {
+    for i in 0..input.count {
         push_turn(&mut text, &hex, &mut plan)?;
         if i % 4096 == 4095 {
             text.extend_from_slice(b"dump\n")?;
