@@ -9,10 +9,10 @@
    STARTED_REPORT the number of an open file, to which a byte is written for each thread that the program starts
    WRITES_REPORT  the number of an open file, to which a byte is written for each write to standard output */
 #define _GNU_SOURCE
+#include "environment.h"
 #include <dlfcn.h>
 #include <errno.h>
 #include <pthread.h>
-#include <stdlib.h>
 #include <sys/syscall.h>
 #include <unistd.h>
 
@@ -25,21 +25,15 @@ static long calls;
 static long started;
 static long writes;
 
-static long number(const char *name)
-{
-    const char *text = getenv(name);
-    return text ? atol(text) : -1;
-}
-
 __attribute__((constructor)) static void begin(void)
 {
-    calls_to_it = number("FAILING_CALL");
-    error = number("FAILING_ERROR");
-    report = number("FAILING_REPORT");
-    size = (size_t)number("FAILING_SIZE");
-    failing = number("FAILING_FILE");
-    started = number("STARTED_REPORT");
-    writes = number("WRITES_REPORT");
+    calls_to_it = number("FAILING_CALL", -1);
+    error = number("FAILING_ERROR", -1);
+    report = number("FAILING_REPORT", -1);
+    size = (size_t)number("FAILING_SIZE", -1);
+    failing = number("FAILING_FILE", -1);
+    started = number("STARTED_REPORT", -1);
+    writes = number("WRITES_REPORT", -1);
 }
 
 /* Whether this call is the one that fails. */

@@ -10,10 +10,10 @@
 
    It stands on the C library's own allocator by the names that glibc gives it. So the program that is shipped is tried: the toolchain's own
    way to refuse memory runs a program that isn't proved. */
+#include "environment.h"
 #include <errno.h>
 #include <stdatomic.h>
 #include <stdio.h>
-#include <stdlib.h>
 #include <sys/syscall.h>
 #include <unistd.h>
 
@@ -32,18 +32,12 @@ static atomic_long allocations;
 static atomic_long writes;
 static atomic_long kept;
 
-static long number(const char *name)
-{
-    const char *text = getenv(name);
-    return text ? atol(text) : 0;
-}
-
 __attribute__((constructor)) static void begin(void)
 {
-    later = number("REFUSE_LATER");
-    marked = number("REFUSE_MARKED");
-    report = number("REFUSE_REPORT");
-    nth = number("REFUSE_NTH");
+    later = number("REFUSE_LATER", 0);
+    marked = number("REFUSE_MARKED", 0);
+    report = number("REFUSE_REPORT", 0);
+    nth = number("REFUSE_NTH", 0);
 }
 
 /* Whether this allocation is to be refused. */
