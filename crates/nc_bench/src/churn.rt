@@ -117,15 +117,11 @@ fn churn_in<R: Clock, A: Acts + Drop>(
     }
 }
 
-/// The time of the turns in a new region, or of their reclaims alone, or the worst time if there is no memory for it.
-fn churn_once<R: Clock>(rt: &R, alloc: Global, churn: Churn, is_clocked: bool) -> Timed {
-    let Some((gens, keeper)) = left_table(alloc) else {
-        return Timed::worst();
-    };
-    match Region::new(alloc, churn.load().region(), &gens, keeper) {
-        Ok(mut region) => churn_in(rt, &mut region, alloc, churn, is_clocked),
-        Err(_refused) => Timed::worst(),
-    }
+/// The time of the turns in a new region, or of their reclaims alone, if there is memory for it.
+fn churn_once<R: Clock>(rt: &R, alloc: Global, churn: Churn, is_clocked: bool) -> Option<Timed> {
+    let (gens, keeper) = left_table(alloc)?;
+    let mut region = Region::new(alloc, churn.load().region(), &gens, keeper).ok()?;
+    Some(churn_in(rt, &mut region, alloc, churn, is_clocked))
 }
 
 /// Times turns in rounds, once as a whole and once with each reclaim clocked, and bare clockings for comparison, and prints the
@@ -141,7 +137,7 @@ pub fn measure_churn<R: Clock + Print + AllocGlobal>(
     for _ in 0..rounds {
         turns = turns.best(churn_once(rt, rt.alloc(), churn, false));
         reclaims = reclaims.best(churn_once(rt, rt.alloc(), churn, true));
-        clockings = clockings.best(bare_clockings(rt, churn.turns));
+        clockings = clockings.best(Some(bare_clockings(rt, churn.turns)));
     }
     turns.report(rt, "turns")?;
     reclaims.report(rt, "reclaims of turns, clocked")?;

@@ -47,17 +47,12 @@ fn idle_in<R: Clock, A: Acts + Drop>(
     Timed { done, took }
 }
 
-/// The time of this many reclaims in a new region whose chunks are all retired and held back, or the worst time if there is no
-/// memory for it.
-fn idle_once<R: Clock>(rt: &R, alloc: Global, load: Load, times: u32) -> Timed {
+/// The time of this many reclaims in a new region whose chunks are all retired and held back, if there is memory for it.
+fn idle_once<R: Clock>(rt: &R, alloc: Global, load: Load, times: u32) -> Option<Timed> {
     let all = load.chunks(alloc);
-    let Some((gens, keeper)) = held_table(alloc) else {
-        return Timed::worst();
-    };
-    match Region::new(alloc, load.region(), &gens, keeper) {
-        Ok(mut region) => idle_in(rt, &mut region, load, all, times),
-        Err(_refused) => Timed::worst(),
-    }
+    let (gens, keeper) = held_table(alloc)?;
+    let mut region = Region::new(alloc, load.region(), &gens, keeper).ok()?;
+    Some(idle_in(rt, &mut region, load, all, times))
 }
 
 /// Times reclaims that free nothing among this many retired chunks, and in a region without a chunk, and prints the best times.

@@ -30,9 +30,9 @@ impl Times {
     /// The better time of each part.
     fn best(self, later: Times) -> Times {
         Times {
-            ascending: self.ascending.best(later.ascending),
-            random: self.random.best(later.random),
-            addresses: self.addresses.best(later.addresses),
+            ascending: self.ascending.best(Some(later.ascending)),
+            random: self.random.best(Some(later.random)),
+            addresses: self.addresses.best(Some(later.addresses)),
         }
     }
 }
@@ -148,15 +148,11 @@ fn lookups_in<R: Clock, A: Acts + Drop>(
     best
 }
 
-/// The times in a new region, or the worst times if there is no memory for it.
-fn lookups<R: Clock>(rt: &R, alloc: Global, load: Load, rounds: u32) -> Times {
-    let Some((gens, keeper)) = left_table(alloc) else {
-        return Times::worst();
-    };
-    match Region::new(alloc, load.region(), &gens, keeper) {
-        Ok(mut region) => lookups_in(rt, &mut region, alloc, load, rounds),
-        Err(_refused) => Times::worst(),
-    }
+/// The times in a new region, if there is memory for it.
+fn lookups<R: Clock>(rt: &R, alloc: Global, load: Load, rounds: u32) -> Option<Times> {
+    let (gens, keeper) = left_table(alloc)?;
+    let mut region = Region::new(alloc, load.region(), &gens, keeper).ok()?;
+    Some(lookups_in(rt, &mut region, alloc, load, rounds))
 }
 
 /// Times looking up the chunks of a region, and prints the best times.
@@ -165,7 +161,7 @@ pub fn measure_lookups<R: Clock + Print + AllocGlobal>(
     load: Load,
     rounds: u32,
 ) -> io::Result<()> {
-    let best = lookups(rt, rt.alloc(), load, rounds);
+    let best = lookups(rt, rt.alloc(), load, rounds).unwrap_or(Times::worst());
     best.ascending.report(rt, "by index, ascending")?;
     best.random.report(rt, "by index, random")?;
     best.addresses.report(rt, "by address, random")

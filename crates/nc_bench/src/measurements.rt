@@ -53,6 +53,17 @@ const ROUNDS: Word = word!(
     "Number of rounds, of which the best is printed"
 );
 
+/// The number of chunks.
+const COUNT: Word = word!(true, "COUNT", NUMBER, "Number of chunks");
+
+/// The order of creations.
+const CREATIONS: Word = word!(
+    false,
+    "ORDER",
+    ORDER,
+    "Order of the bases in which the chunks are created [default: ascending]"
+);
+
 /// The program, with a subcommand for each measurement.
 #[rattlefmt::skip]
 static BENCH: Program = Program {
@@ -93,17 +104,17 @@ static BENCH: Program = Program {
             name: "chunks",
             about: "Time creating, patching, deleting and reclaiming chunks in a new region",
             words: &[
-                word!(true, "COUNT", NUMBER, "Number of chunks"),
+                COUNT,
                 word!(true, "BUNDLES", NUMBER, "Bundles of a chunk"),
                 ROUNDS,
-                word!(false, "ORDER", ORDER, "Order of the bases in which the chunks are created [default: ascending]"),
+                CREATIONS,
             ],
         },
         Usage {
             name: "reclaim",
             about: "Time one reclaim among chunks of one bundle, of which some are due",
             words: &[
-                word!(true, "COUNT", NUMBER, "Number of chunks"),
+                COUNT,
                 word!(true, "SHARE", NUMBER, "Number of chunks of which one is due"),
                 ROUNDS,
             ],
@@ -127,11 +138,7 @@ static BENCH: Program = Program {
         Usage {
             name: "lookups",
             about: "Time looking up each chunk of a region, by its index and by its address",
-            words: &[
-                word!(true, "COUNT", NUMBER, "Number of chunks"),
-                ROUNDS,
-                word!(false, "ORDER", ORDER, "Order of the bases in which the chunks are created [default: ascending]"),
-            ],
+            words: &[COUNT, ROUNDS, CREATIONS],
         },
         Usage {
             name: "checkin",

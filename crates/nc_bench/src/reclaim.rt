@@ -51,18 +51,14 @@ fn reclaim_in<R: Clock, A: Acts + Drop>(
     Timed { done, took }
 }
 
-/// The time of the reclaim in a new region, or the worst time if there is no memory for it.
-fn reclaim_once<R: Clock>(rt: &R, alloc: Global, share: Share) -> Timed {
+/// The time of the reclaim in a new region, if there is memory for it.
+fn reclaim_once<R: Clock>(rt: &R, alloc: Global, share: Share) -> Option<Timed> {
     let load = share.load();
     let all = load.chunks(alloc);
     let due = share.due(alloc);
-    let Some((gens, keeper)) = left_table(alloc) else {
-        return Timed::worst();
-    };
-    match Region::new(alloc, load.region(), &gens, keeper) {
-        Ok(mut region) => reclaim_in(rt, &mut region, load, all, &due),
-        Err(_refused) => Timed::worst(),
-    }
+    let (gens, keeper) = left_table(alloc)?;
+    let mut region = Region::new(alloc, load.region(), &gens, keeper).ok()?;
+    Some(reclaim_in(rt, &mut region, load, all, &due))
 }
 
 /// Times the reclaim, and a bare clocking for comparison, and prints the best times.
@@ -75,7 +71,7 @@ pub fn measure_reclaim<R: Clock + Print + AllocGlobal>(
     let mut clocking = Timed::worst();
     for _ in 0..rounds {
         reclaim = reclaim.best(reclaim_once(rt, rt.alloc(), share));
-        clocking = clocking.best(bare_clockings(rt, 1));
+        clocking = clocking.best(Some(bare_clockings(rt, 1)));
     }
     reclaim.report(rt, "reclaimed at once")?;
     clocking.report(rt, "bare clocking")

@@ -38,8 +38,9 @@ impl Timed {
         }
     }
 
-    /// The better time, and the number of the later round.
-    pub fn best(self, later: Timed) -> Timed {
+    /// The better time, and the number of the later round, which has the worst time if there was no memory for it.
+    pub fn best(self, later: Option<Timed>) -> Timed {
+        let later = later.unwrap_or(Timed::worst());
         Timed {
             done: later.done,
             took: self.took.min(later.took),
