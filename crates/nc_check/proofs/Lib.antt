@@ -1,2 +1,4 @@
 mod Listed
 mod Labelled
+mod WrittenReports
+mod PlacedReports

@@ -1,2 +1,4 @@
 pub mod Status
 pub mod Parts
+pub mod Reports
+pub mod Places

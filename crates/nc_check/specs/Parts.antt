@@ -1,11 +1,14 @@
 -- The parts of a file that are judged.
-use Rattle.std.specs.Prelude.{◌≡◌, ℕ, ◌+◌, Bool, ◌&&◌, nat_le, nat_lt, List, [], map, filter}
+use Rattle.std.specs.Prelude.{◌≡◌, ℕ, ◌+◌, Bool, ◌&&◌, nat_le, nat_lt, List, [], ◌++◌, map, filter, codes}
 use Rattle.nc_elf.specs.declared.segment.Segment.{Segment}
 use Rattle.nc_elf.specs.declared.symbols.Symbol.{Symbol}
 use Rattle.nc_elf.specs.Segments.{segments_of}
 use Rattle.nc_elf.specs.Symbols.{AreCodeSymbols, name_of}
+use Rattle.nc_output.specs.Verdicts.{address_digits}
 use Rattle.nc_output.specs.declared.detail.Detail.{Detail}
 use Rattle.nc_output.specs.declared.detail.Detail.TheVariants.{Brief}
+use Rattle.nc_output.specs.declared.detail.Format.{Format}
+use Rattle.nc_output.specs.declared.detail.Format.TheVariants.{Text, Json}
 use Rattle.nc_report.specs.declared.labels.Label.{Label}
 use Rattle.nc_check.specs.declared.parts.Part.{Part}
 
@@ -19,6 +22,15 @@ bases_in parts = map (λ part. part.base) parts
 
 abbrev pub codes_in : List Part → List (List ℕ)
 codes_in parts = map code_in parts
+
+-- the names of the parts' reports
+abbrev pub names_in : List Part → List (List ℕ)
+names_in parts = map (λ part. part.source.name.items) parts
+
+-- the name of the report on a segment: that of its file, and in a line of text also the segment's address (an object has a member for it)
+abbrev pub part_name : Format → List ℕ → ℕ → List ℕ
+part_name Text name address = name ++ (codes " (" ++ (address_digits address ++ codes ")"))
+part_name Json name address = name
 
 -- a label's address and name
 abbrev pub named : Label → ℕ × List ℕ

@@ -1,10 +1,14 @@
 //! Judging files, one round after another.
 
+ghost use Rattle.std.specs.Prelude.{◌<◌, length};
+ghost use Rattle.std.specs.List.{AllZip};
+ghost use Rattle.nc_check.specs.Reports.{FitsFile};
+
 use crate::files::Unread;
 use crate::judging::{Unjudged, judge_file};
 use crate::outcome::{Failure, Outcome};
 use crate::progress::Progress;
-use crate::working::{Told, judge_files};
+use crate::working::{Report, judge_files};
 use nc_command::CheckAsk;
 use nc_output::{Piped, write_out};
 use std::alloc::Global;
@@ -35,7 +39,7 @@ fn keep_memory(alloc: Global) {
 }
 
 /// Prints on standard error why a file isn't judged. If that fails, nothing else is left to do.
-fn say<R: Eprint>(rt: &R, file: &str, unread: Unread) {
+fn eprint_fault<R: Eprint>(rt: &R, file: &str, unread: Unread) {
     let _ = eprintln!(rt; "nc_check: {file}: {}", unread.text());
 }
 
@@ -55,7 +59,7 @@ fn judge_alone<R: Threads + Wait + Sync + AllocGlobal + Input + Files + Print + 
         }
         Err(Unjudged::Unread(unread)) => {
             state.progress.wipe(rt);
-            say(rt, file, unread);
+            eprint_fault(rt, file, unread);
             state.outcome.is_faulty = true;
             Ok(())
         }
@@ -65,29 +69,62 @@ fn judge_alone<R: Threads + Wait + Sync + AllocGlobal + Input + Files + Print + 
 }
 
 /// Prints the report that a worker has made.
-fn print<R: Print + Eprint>(rt: &R, state: &mut State, told: &Told) -> Result<(), Failure> {
+fn print<R: Print + Eprint>(rt: &R, state: &mut State, report: &Report) -> Result<(), Failure> {
     state.progress.yield_output(rt);
-    state.outcome.is_refused |= told.is_refused;
+    state.outcome.is_refused |= report.is_refused;
     let mut writer = Piped::new(io::writer(rt));
-    match write_out(&mut writer, &told.text) {
+    match write_out(&mut writer, &report.text) {
         Ok(()) => Ok(()),
         Err(_) => Err(Failure::of_writing(writer.is_closed())),
     }
 }
 
-/// Prints the reports on the files of a round, in the order of the files. A file that no worker has judged is judged here.
+/// Prints the report on a file, which is in the file's place. A file that no worker has judged is judged here.
+fn print_place<R: Threads + Wait + Sync + AllocGlobal + Input + Files + Print + Eprint>(
+    rt: &R,
+    ask: &CheckAsk<'_>,
+    state: &mut State,
+    file: &str,
+    place: &Option<Report>,
+) -> Result<(), Failure>
+    requires { FitsFile ask.now file.now place.now }
+{
+    match place {
+        Some(report) => print(rt, state, report),
+        None => judge_alone(rt, ask, state, file),
+    }
+}
+
+/// Prints the report on the file of this number in a round.
+fn print_number<R: Threads + Wait + Sync + AllocGlobal + Input + Files + Print + Eprint>(
+    rt: &R,
+    ask: &CheckAsk<'_>,
+    state: &mut State,
+    files: &[&str],
+    places: &[Option<Report>],
+    number: usize,
+) -> Result<(), Failure>
+    requires below { number < length files.now }
+    requires places { AllZip (λ file place. FitsFile ask.now file.now place) files.now places.now }
+{
+    match places.get(number) {
+        Some(place) => print_place(rt, ask, state, files[number], place),
+        None => unreachable!(),
+    }
+}
+
+/// Prints the reports on the files of a round, in the order of the files.
 fn print_round<R: Threads + Wait + Sync + AllocGlobal + Input + Files + Print + Eprint>(
     rt: &R,
     ask: &CheckAsk<'_>,
     state: &mut State,
     files: &[&str],
-    places: &[Option<Told>],
-) -> Result<(), Failure> {
+    places: &[Option<Report>],
+) -> Result<(), Failure>
+    requires { AllZip (λ file place. FitsFile ask.now file.now place) files.now places.now }
+{
     for number in 0..files.len() {
-        match places.get(number) {
-            Some(Some(told)) => print(rt, state, told)?,
-            _ => judge_alone(rt, ask, state, files[number])?,
-        }
+        print_number(rt, ask, state, files, places, number)?;
     }
     Ok(())
 }

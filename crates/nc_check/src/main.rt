@@ -1,20 +1,21 @@
 //! The program `nc_check`: files of code, and the verdict on each.
 //!
 //! `ask_check` of `nc_command` parses the command line. `checking` goes through the files, one round after another, and prints
-//! the reports; `working` lets workers judge the files of a round and keep each report in a `page`. `judging` judges one file:
-//! `files` opens and reads it, `parts` finds the segments of code of an ELF file and `labelling` the names in them, and
-//! `report` of `nc_report` writes the report. `outcome` has the exit status, and `progress` shows how far the program is.
+//! the reports; `working` lets workers judge the files of a round, each into a report that `buffered` holds, and puts the reports
+//! into the places of their files. `judging` judges one file: `files` opens and reads it, `parts` finds the segments of code of an
+//! ELF file and `labelling` the names in them, and `report` of `nc_report` writes the report. `outcome` has the exit status, and
+//! `progress` shows how far the program is.
 #![tactic(auto)]
 
 ghost use Rattle.std.specs.Prelude.{◌≡◌, ◌⊎◌};
 ghost use Rattle.nc_check.specs.Status.{halt_status};
 
+mod buffered;
 mod checking;
 mod files;
 mod judging;
 mod labelling;
 mod outcome;
-mod page;
 mod parts;
 mod progress;
 mod working;
@@ -74,7 +75,7 @@ where
 }
 
 /// Prints a fault as one line on standard error, if it has a text. If printing fails, nothing else is left to do.
-fn say<R: Eprint>(rt: &R, failure: Failure) {
+fn eprint_fault<R: Eprint>(rt: &R, failure: Failure) {
     if let Some(text) = failure.text() {
         let _ = eprintln!(rt; "nc_check: {text}");
     }
@@ -85,15 +86,15 @@ fn stop<R: Print + Eprint>(rt: &R, halt: &Halt) -> u8
     ensures { (result ≡ halt_status halt.now) ⊎ ((halt_status halt.now ≡ 0) × (result ≡ 2)) }
 {
     match halt {
-        Halt::Files(failure) => say(rt, *failure),
-        Halt::Words(error) if error.kind() == ClapKind::OutOfMemory => say(
+        Halt::Files(failure) => eprint_fault(rt, *failure),
+        Halt::Words(error) if error.kind() == ClapKind::OutOfMemory => eprint_fault(
             rt,
             Failure::OutOfMemory,
         ),
         Halt::Words(error) => {
             if let Err(fault) = error.print(rt) {
                 if !error.use_stderr() {
-                    say(
+                    eprint_fault(
                         rt,
                         Failure::of_writing(fault.kind() == ErrorKind::BrokenPipe),
                     );

@@ -1,13 +1,14 @@
 //! The segments of code of an ELF file, each as a source of its own.
 
-ghost use Rattle.std.specs.Prelude.{◌≡◌, ◌+◌, ◌≤◌, All, IfOk, length, map};
-ghost use Rattle.nc_elf.specs.Segments.{IsPlaced, bytes_of, segments_of};
+ghost use Rattle.std.specs.Prelude.{◌≡◌, ◌+◌, ◌≤◌, All, IfOk, IfErr, OnOk, length, map};
+ghost use Rattle.nc_elf.specs.Faults.{HasElfFault};
+ghost use Rattle.nc_elf.specs.Segments.{IsPlaced, IsWellFormed, bytes_of, segments_of};
 ghost use Rattle.nc_elf.specs.Symbols.{AreAscending, IsNamed};
-ghost use Rattle.nc_check.specs.Parts.{code_in, bases_in, codes_in, labels_in, named, labels_of, AreLabelled};
+ghost use Rattle.nc_check.specs.Parts.{code_in, bases_in, codes_in, names_in, part_name, labels_in, named, labels_of, AreLabelled};
 
 use crate::labelling::{labels_of, names_by};
 use nc_elf::{ElfFault, Segment, Symbol, code_segments};
-use nc_output::{Format, Style};
+use nc_output::{Format, Style, push_address};
 use nc_report::Source;
 use std::alloc::{AllocError, Global};
 
@@ -25,11 +26,17 @@ fn segment_name(
     file: &[u8],
     address: u32,
     format: Format,
-) -> Result<Vec<u8>, AllocError> {
+) -> Result<Vec<u8>, AllocError>
+    ensures { IfOk result (λ name. name.items ≡ part_name format file.now address) }
+{
     let mut name = Vec::from_slice(alloc, file)?;
-    if format == Format::Text {
-        let place = format!(in alloc; " ({address:08x})")?;
-        name.extend_from_slice(place.as_bytes())?;
+    match format {
+        Format::Text => {
+            name.extend_from_slice(b" (")?;
+            push_address(&mut name, address)?;
+            name.push(b')')?;
+        }
+        Format::Json => {}
     }
     Ok(name)
 }
@@ -47,6 +54,7 @@ fn part_of(
     requires ascending { AreAscending symbols.now }
     ensures base { IfOk result (λ part. part.base ≡ segment.address) }
     ensures code { IfOk result (λ part. code_in part ≡ bytes_of file.now.code.items segment) }
+    ensures name { IfOk result (λ part. part.source.name.items ≡ part_name format file.now.name.items segment.address) }
     ensures labels { IfOk result (λ part. map named part.source.labels ≡ labels_of file.now.code.items symbols.now segment) }
 {
     let name = segment_name(alloc, file.name.as_slice(), segment.address, format)?;
@@ -71,6 +79,8 @@ fn list_parts(
     requires ascending { AreAscending symbols.now }
     ensures bases { IfOk result (λ parts. bases_in parts.items ≡ map (λ s. s.address) segments.items) }
     ensures codes { IfOk result (λ parts. codes_in parts.items ≡ map (bytes_of file.now.code.items) segments.items) }
+    ensures names { IfOk result (λ parts. names_in parts.items
+        ≡ map (λ s. part_name format file.now.name.items s.address) segments.items) }
     ensures labels { IfOk result (λ parts. labels_in parts.items ≡ map (labels_of file.now.code.items symbols.now) segments.items) }
 {
     let mut parts = Vec::new(alloc);
@@ -87,8 +97,14 @@ pub fn parts_of(alloc: Global, file: &Source, style: Style) -> Result<Vec<Part>,
     ensures bases { IfOk result (λ parts. bases_in parts.items ≡ map (λ s. s.address) (segments_of file.now.code.items)) }
     ensures codes { IfOk result (λ parts. codes_in parts.items
         ≡ map (bytes_of file.now.code.items) (segments_of file.now.code.items)) }
+    // Each report has the name of its segment.
+    ensures names { IfOk result (λ parts. names_in parts.items
+        ≡ map (λ s. part_name style.format file.now.name.items s.address) (segments_of file.now.code.items)) }
     // Faults are named by the file's symbols of code, or not at all if only verdicts are written.
     ensures labels { IfOk result (λ parts. AreLabelled style.detail file.now.code.items parts.items) }
+    // A refusal reports the file's fault, and a file with parts has none.
+    ensures well_formed { OnOk result (IsWellFormed file.now.code.items) }
+    ensures fault { IfErr result (HasElfFault file.now.code.items) }
 {
     let segments = code_segments(alloc, file.code.as_slice())?;
     let Ok(symbols) = names_by(alloc, file.code.as_slice(), style.detail) else {

@@ -2,7 +2,7 @@
 use Rattle.std.proofs.Common.{◌≡◌, ◌++◌, All, map}
 use Rattle.std.specs.Vec.Iter.{into_iter_items}
 use Rattle.nc_elf.specs.Segments.{IsPlaced, bytes_of}
-use Rattle.nc_check.specs.Parts.{bases_in, codes_in, labels_in, labels_of}
+use Rattle.nc_check.specs.Parts.{bases_in, codes_in, names_in, part_name, labels_in, labels_of}
 use Rattle.nc_check.proofs.parts.list_parts.Given as goal
 
 abbrev pub invariant-loop-segment : goal.invariant-loop-segment
@@ -13,4 +13,6 @@ invariant-loop-segment l =
     ≡ codes_in l.parts.items ++ map (bytes_of l.file.code.items) (into_iter_items l.segment-iterator))
     × (map (labels_of l.file.code.items l.symbols) (into_iter_items l.initial.segment-iterator)
     ≡ labels_in l.parts.items ++ map (labels_of l.file.code.items l.symbols) (into_iter_items l.segment-iterator))
+    × (map (λ s. part_name l.format l.file.name.items s.address) (into_iter_items l.initial.segment-iterator)
+    ≡ names_in l.parts.items ++ map (λ s. part_name l.format l.file.name.items s.address) (into_iter_items l.segment-iterator))
     × All (IsPlaced l.file.code.items) (into_iter_items l.segment-iterator)

@@ -9,18 +9,18 @@ use std::io::{Error, ErrorKind, Result, Write};
 
 /// A writer with room for a number of bytes. A write that doesn't fit fails, and leaves the text as it was.
 #[derive(Drop)]
-pub struct Page {
+pub struct BufferedReport {
     text: Vec<u8>,
     room: usize,
     ghost fits: { vec_len text ≤ room },
 }
 
-impl Page {
-    /// An empty page.
-    pub fn new(alloc: Global, room: usize) -> Page
+impl BufferedReport {
+    /// An empty report.
+    pub fn new(alloc: Global, room: usize) -> BufferedReport
         ensures { (result.text.items ≡ []) × (result.room ≡ room) }
     {
-        Page {
+        BufferedReport {
             text: Vec::new(alloc),
             room,
         }
@@ -35,7 +35,7 @@ impl Page {
     }
 }
 
-impl Write for Page {
+impl Write for BufferedReport {
     ghost contents = { λ p. Some p.text.items };
 
     fn write(&mut self, buf: &[u8]) -> Result<usize>
