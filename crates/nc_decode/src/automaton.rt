@@ -253,7 +253,8 @@ pub(crate) static ROWS: [[u16; ROW]; STATES] = [
     /* AfterPair        */ one_byte!(opcodes 0),
 ];
 
-/// A state, by the place of its row in the flattened table. A byte then takes a sum and a look-up, and no product.
+/// A state of the automaton. It is kept as the place of its row in the flattened table, so that reading a byte takes a sum and a
+/// look-up, and no product.
 #[derive(Drop)]
 pub struct Row {
     place: usize,
@@ -271,7 +272,7 @@ impl Model for Row {
 }
 
 impl Row {
-    /// The state after an instruction that masks nothing, in which each bundle begins.
+    /// The state in which each bundle begins. It is also the state after an instruction that masks nothing and isn't a transfer.
     #[inline(always)]
     pub fn start() -> Row
         ensures { result ≡ END }

@@ -52,17 +52,17 @@ pub record IsElf32 (file : List ℕ) : Type 0 where
   pub ident : slice_index file 6 ≡ 1
   pub version : e_version file ≡ 1
 
--- the file is for the Intel 80386, machine 3
+-- the file is a 32-bit one, for the Intel 80386, machine 3
 pub record IsX86 (file : List ℕ) : Type 0 where
   pub elf32 : IsElf32 file
   pub machine : e_machine file ≡ 3
 
--- the file is an executable file or a shared object, type 2 or 3
+-- the file is for the Intel 80386, and is an executable file or a shared object, type 2 or 3
 pub record IsLinked (file : List ℕ) : Type 0 where
   pub x86 : IsX86 file
   pub linked : (e_type file ≡ 2) ⊎ (e_type file ≡ 3)
 
--- the program headers are in the file, fewer than 65535 and each of 32 bytes
+-- the file is linked, and its program headers are in it, fewer than 65535 and each of 32 bytes
 pub record HasTable (file : List ℕ) : Type 0 where
   pub linked : IsLinked file
   pub size : e_phentsize file ≡ 32

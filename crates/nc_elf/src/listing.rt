@@ -28,6 +28,10 @@ fn list_segments(alloc: Global, file: &[u8]) -> Result<Vec<Segment>, AllocError>
 }
 
 /// The segments of code of a linked 32-bit x86 file, in the order of its program headers.
+///
+/// # Errors
+///
+/// The file's fault, exactly if it has one, before anything is allocated. `OutOfMemory` only if an allocation was refused.
 pub fn code_segments(alloc: Global, file: &[u8]) -> Result<Vec<Segment>, ElfFault>
     // All segments of code that the program headers name, and nothing else.
     ensures segments { IfOk result (λ segments. segments.items ≡ segments_of file.now) }

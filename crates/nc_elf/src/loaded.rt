@@ -22,7 +22,7 @@ pub struct NcSegment {
     pub file_len: u32,
     /// The number of its bytes in memory; those after the ones in the file are 0.
     pub memory_len: u32,
-    /// Whether it may be executed (1), written (2) and read (4).
+    /// The flags of the program header: 1 if it may be executed, 2 if it may be written, 4 if it may be read, and any others.
     pub flags: u32,
 }
 
@@ -61,7 +61,7 @@ fn write_loaded(file: &[u8], room: &mut [NcSegment])
 ///
 /// # Errors
 ///
-/// `Refused` exactly for the files that `code_segments` refuses, with the same fault; `NoRoom`, with the number of segments, if
+/// `Refused` exactly if the file has a fault, with the fault that `code_segments` reports; `NoRoom`, with the number of segments, if
 /// there are more of them than elements. Both leave `room` as it was.
 pub fn loaded_segments(file: &[u8], room: &mut [NcSegment]) -> Result<usize, LoadedFault>
     // All loaded segments with bytes in memory, and nothing else; what is behind them stays.

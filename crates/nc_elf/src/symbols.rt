@@ -50,7 +50,7 @@ fn list_symbols(
 }
 
 /// The symbols of code in the file's symbol table, by ascending address. A file without such a table, or with a malformed
-/// one, has none.
+/// one, has none, and isn't refused. The only refusal is that of an allocation.
 pub fn code_symbols(alloc: Global, file: &[u8]) -> Result<Vec<Symbol>, AllocError>
     // The symbols of all listed entries, sorted by address, those with the same address in the table's order; none if there is
     // no well-formed table.

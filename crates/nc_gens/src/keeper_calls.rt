@@ -41,9 +41,9 @@ impl Gens {
     ///
     /// It allocates nothing, never waits, and is never refused.
     ///
-    /// Not promised: that the result ever increases (a seat that never checks in holds it back),
-    /// or that the words had these values at a single moment. They are loaded one after the other,
-    /// and never decrease.
+    /// Not promised: that the result ever increases, since a seat that neither checks in nor leaves
+    /// holds it back; or that the words had these values at a single moment. They are loaded one
+    /// after the other, and never decrease.
     pub fn look(&self, keeper: &mut Keeper) -> u64
         requires { keeper.old.table ≡ self.now }
         // Each seat's word is loaded once, no bound decreases, and the generation is unchanged.

@@ -10,8 +10,8 @@
 //! Native Client deletes dynamic code in this way (Ansel et al. 2011, "Language-independent
 //! sandboxing of just-in-time compilation and self-modifying code"); the technique is
 //! quiescent-state-based reclamation. A pass stores only to its own seat's word, and only the
-//! keeper changes the generation. Nothing here waits, and progress is not guaranteed: a seat that
-//! never checks in holds back every later stamp for good.
+//! keeper changes the generation. Nothing here waits, and progress is not guaranteed. A seat that
+//! neither checks in nor leaves holds back every later stamp for good.
 #![tactic(auto)]
 
 mod fault;

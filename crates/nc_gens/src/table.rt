@@ -30,8 +30,8 @@ impl Model for Gens {
 
 /// One seat's right to check in and to leave. There is one for each seat, and it can't be copied.
 ///
-/// If a pass is dropped without [`Gens::leave`], its seat keeps its last word for good, and
-/// nothing that is retired later is ever reclaimed.
+/// If a pass is dropped without [`Gens::leave`], its seat keeps its last word for good, and no span
+/// with a stamp above that word is ever reclaimed.
 #[derive(Drop)]
 pub struct Pass {
     pub(crate) seat: usize,

@@ -33,7 +33,7 @@ pub record AreParted (old lower upper : List Chunk) : Type 0 where
 abbrev pub all_of : List (List Chunk) → List Chunk
 all_of parts = flat_map (λ (p : List Chunk). p) parts
 
--- how many chunks stand before each of these parts, behind so many others
+-- how many chunks stand before each of these parts, if `from` others stand before all of them
 abbrev pub starts_of : ℕ → List (List Chunk) → List ℕ
 starts_of from [] = []
 starts_of from (p ∷ ps) = from ∷ starts_of (from + length p) ps
@@ -63,7 +63,7 @@ pub record IsRow (parts : List (List Chunk)) (starts : List ℕ) (count first ol
   pub begins : BeginsAt first (all_of parts)
   pub since : AreSince oldest (all_of parts)
 
--- Of the part at this index, the first that has any, the first of the chunks that are due have been taken out.
+-- The first of the chunks that are due have been taken out of the part at this index, which is the first part that has any.
 pub record AreTakenFrom (least : ℕ) (old new : List (List Chunk)) (taken : List Chunk) (k : ℕ) : Type 0 where
   pub before : List (List Chunk)
   pub here : List Chunk

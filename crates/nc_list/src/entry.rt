@@ -46,7 +46,7 @@ impl Entry {
         }
     }
 
-    /// An entry to fill room with. Its bytes are all 0.
+    /// An entry that stands for no chunk of a list, as initial contents of room. Its bytes are all 0.
     pub fn blank() -> Entry
         ensures { result ≡ record { base = 0; length = 0; state = ChunkState.Retired 0 } }
     {
@@ -106,7 +106,7 @@ impl Entry {
         self.stamp
     }
 
-    /// The chunk is retired with a stamp of at most this number.
+    /// Whether the chunk is retired with a stamp of at most this number.
     pub(crate) fn is_due(self, least: u64) -> bool
         requires { least < 2 ^ 64 - 1 }
         ensures { result ≡ is_due least self.state }

@@ -1,10 +1,10 @@
-//! A list of chunks by ascending base, in which no call's cost grows with the number of chunks.
+//! A list of chunks by ascending base, in which a chunk is found without going through the others.
 //!
 //! A *chunk* is a span of addresses, live or retired with a stamp. [`ChunkList`] is a tree of three levels: leaves of up to 64
 //! chunks, rows of up to 128 leaves, and a row of rows. Each part of a row knows its first base, and a lower bound of the stamps of its
-//! retired chunks; a row also knows how many chunks stand before each part. So the chunk of an address, the chunk at an index and
-//! the chunks that are due are found from the root down, in O(log n) for n chunks. A part that is full is split in two when a
-//! chunk is inserted, and two neighbours that have become small are joined when chunks are taken out.
+//! retired chunks; a row also knows how many chunks stand before each part. From the root down, a binary search in each row finds the
+//! chunk of an address or the chunk at an index, in O(log n) for n chunks. A part that is full is split in two when a chunk is
+//! inserted, and two neighbours that have become small are joined when chunks are taken out.
 //!
 //! A search returns the [`Place`] where it ended, so a caller that looks before it inserts or retires searches once.
 //!

@@ -39,7 +39,7 @@ impl ChunkList {
         }
     }
 
-    /// Where the list's memory is from.
+    /// The allocator of the list's memory.
     pub fn allocator(&self) -> Global {
         self.alloc
     }
@@ -62,7 +62,7 @@ impl ChunkList {
         }
     }
 
-    /// The chunk that has this address, or else the first one above it.
+    /// The chunk that has this address, or else the first one above it. There is none if all chunks end at or below the address.
     pub fn chunk_at(&self, at: u32) -> Option<Chunk>
         requires { IsRising 0 self.now }
         ensures found { IfSome result (IsNextChunk self.now at) }
@@ -71,7 +71,7 @@ impl ChunkList {
         self.find(at).0
     }
 
-    /// The chunk that `chunk_at` returns, and the place for the address, by which `insert` and `retire` need no search.
+    /// The chunk that `chunk_at` returns, and the place for the address, with which `insert` and `retire` need no search.
     pub fn find(&self, at: u32) -> (Option<Chunk>, Place)
         requires { IsRising 0 self.now }
         ensures found { IfSome result.0 (IsNextChunk self.now at) }
@@ -80,8 +80,8 @@ impl ChunkList {
         self.root.next(at)
     }
 
-    /// Inserts a live chunk, without a search if `place` is the one for its base and no part is split. A refusal leaves the list as
-    /// it was.
+    /// Inserts a live chunk, without a search if `place` is the one for its base and no part is split. If an allocation is refused,
+    /// the list stays as it was.
     pub fn insert(&mut self, base: u32, len: u32, place: Place) -> Result<(), AllocError>
         requires rising { IsRising 0 self.old }
         requires some { 0 < len }
@@ -104,7 +104,7 @@ impl ChunkList {
         self.root.retire(base, stamp, place);
     }
 
-    /// Some chunk may be retired with a stamp of at most this number. It takes the same time for every list.
+    /// Whether some chunk may be retired with a stamp of at most this number; if not, none is. It takes the same time for every list.
     pub fn may_be_due(&self, least: u64) -> bool
         requires { least < 2 ^ 64 - 1 }
         ensures { result ≡ false → freed least self.now ≡ [] }

@@ -68,8 +68,8 @@ fn push_name(out: &mut Vec<u8>, name: &[u8]) -> Result<(), AllocError>
 /// Adds the name and the operands of the permitted instruction that these bytes are, at this address, in AT&T syntax as GNU objdump
 /// writes it. The target of a direct transfer has eight hexadecimal digits.
 ///
-/// Nothing is added if the bytes aren't exactly one permitted instruction. That each name is the right one is tested for every row of
-/// the opcode table, and isn't proved.
+/// Nothing is added if the bytes aren't exactly one permitted instruction. The names are tested for every row of the opcode table, and
+/// aren't proved to be right. The only refusal is that of an allocation.
 pub fn push_instruction(out: &mut Vec<u8>, at: u32, bytes: &[u8]) -> Result<(), AllocError>
     // At most 64 characters are added, and none of them ends the line or controls a terminal.
     ensures printable { OnOk result (AddsPrintable out.old.items out.new.items) }

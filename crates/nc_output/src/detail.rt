@@ -15,7 +15,7 @@ pub enum Detail {
     Calls,
 }
 
-/// The form in which it is written.
+/// The form in which a report is written.
 #[derive(Clone, Copy, Debug, Drop, PartialEq, Eq)]
 pub enum Format {
     /// Lines of text.

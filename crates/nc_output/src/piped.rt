@@ -28,7 +28,7 @@ impl<W> Piped<W> {
         }
     }
 
-    /// Whether the last error was that the reader is gone.
+    /// Whether the last error was that the reader is gone; false before the first error.
     pub fn is_closed(&self) -> bool
         ensures { result ≡ self.now.is_closed }
     {

@@ -57,8 +57,8 @@ unmarked marked (c ∷ rest) = unmarked (without_marks marked c.base c.length) r
 abbrev pub unmarkings : List Chunk → List Act
 unmarkings chunks = map (λ (c : Chunk). UnmarkSpan c.base c.length) chunks
 
--- The region after a reclaim: the keeper has looked, and exactly the retired chunks with a stamp of at most its least
--- number have been removed from the list; `count` is their number. Their spans are unmarked except for bundle starts; no
+-- The region after a reclaim: the keeper has looked, and exactly the retired chunks with a stamp of at most its
+-- `least_number` have been removed from the list; `count` is their number. Their spans are unmarked except for bundle starts; no
 -- byte changed, and all else is as before. The acts are one look and then one unmarking for each freed chunk, in
 -- ascending order, with no settling.
 pub record IsReclaimed (old new : Region) (count : ℕ) : Type 0 where

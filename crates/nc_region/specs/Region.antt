@@ -63,7 +63,8 @@ pub record HoldsValid (marked : MarkedText) (c : Chunk) : Type 0 where
   pub marks_are : (at : ℕ) → IsInChunk c at → mark_at marked.marks at ≡ slice_index_or vetted.marks (at - c.base) Unmarked
 
 -- The invariant of a region: the text is closed and of a permitted size (`IsText`), the chunks ascend without overlap and
--- have good spans, and live ones hold valid code (`HoldsValid`). Outside live chunks all bytes are F4, and outside all chunks only bundle starts are marked.
+-- have good spans, and live ones hold valid code (`HoldsValid`). Outside live chunks all bytes are F4, and outside all chunks
+-- only bundle starts are marked.
 pub record IsRegion (marked : MarkedText) (chunks : List Chunk) : Type 0 where
   pub whole : IsText marked
   pub rising : IsRising 0x10000 chunks

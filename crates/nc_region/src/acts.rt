@@ -71,7 +71,8 @@ pub trait Acts {
     /// The acts so far, with the settlings among them.
     ghost logged: { Self → List Entry };
 
-    /// Makes the pages of a span. This isn't an act and isn't logged.
+    /// Makes the pages of a span. This isn't an act and isn't logged. The only refusal is `OutOfMemory`; some of the pages may then
+    /// have been made.
     fn ready(&mut self, at: u32, len: u32) -> Result<(), TextFault>
         requires inside { SpanInRegion (marked self.old).bytes at len }
         ensures ready { IfOk result (λ _. AreReady (made self.new) at len) }
@@ -129,7 +130,7 @@ pub trait Acts {
     }
 
     /// Puts F4 at the marked places of a span of `len` places, or at those that aren't marked, under the conditions of `put_where` and
-    /// like it. It puts F4 at unmarked places only once the marked places of the span have it.
+    /// like it. For unmarked places it also requires that the marked places of the span already have F4.
     fn stop_where(&mut self, at: u32, len: u32, at_marked: bool)
         requires inside { SpanInRegion (marked self.old).bytes at len }
         requires start { IsBundleStart at }
@@ -269,7 +270,8 @@ pub trait Acts {
         places
     }
 
-    /// Adds one to the generation and returns the new one.
+    /// Adds one to the generation and returns the new one. It is refused exactly if the generation is 2^62, and then changes and logs
+    /// nothing.
     fn bump(&mut self) -> Result<u64, GensFull>
         ensures room { IsOk result ↔ ((keeper self.old).numbers.generation < 2 ^ 62) }
         ensures stamp { IfOk result (λ n. n ≡ (keeper self.old).numbers.generation + 1) }
@@ -281,7 +283,7 @@ pub trait Acts {
         ensures full { OnErr result (((keeper self.old).numbers.generation ≡ 2 ^ 62) × (keeper self.new ≡ keeper self.old)) }
         ensures unlogged { OnErr result (logged self.new ≡ logged self.old) };
 
-    /// Loads each seat's word and returns the keeper's least number.
+    /// Loads each seat's word, and returns the least bound of a seat that hasn't been found to have left, as `Gens::look` does.
     fn look(&mut self) -> u64
         ensures looked { HasLooked (keeper self.old) (keeper self.new) }
         ensures least { result ≡ least_number (keeper self.new).numbers }

@@ -8,7 +8,7 @@ pub enum RegionFault {
     /// The number of bundles doesn't give a lawful limit.
     #[error("bad size")]
     BadSize,
-    /// No memory for the table of pages. No page has been made yet.
+    /// There was no memory for the table of pages.
     #[error("out of memory")]
     OutOfMemory,
 }
@@ -22,8 +22,8 @@ pub enum CreateFault {
     /// The chunk's span overlaps a chunk of the region.
     #[error("occupied")]
     Occupied,
-    /// No memory for the list of chunks, for the chunk's marks or for the pages of its span. Some of these pages may have
-    /// been made; nothing else has changed.
+    /// There was no memory for the list of chunks, for the chunk's marks or for the pages of its span. Some of these pages may
+    /// have been made; nothing else has changed.
     #[error("out of memory")]
     OutOfMemory,
 }
@@ -34,7 +34,7 @@ pub enum WalkFault {
     /// The walk would not begin at a bundle start of the region.
     #[error("not a bundle start")]
     NotBundle,
-    /// No memory for the trace.
+    /// There was no memory for the trace.
     #[error("out of memory")]
     OutOfMemory,
 }

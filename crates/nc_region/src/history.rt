@@ -27,7 +27,7 @@ unsafe impl Send for History {}
 // A history owns nothing.
 unsafe impl Sync for History {}
 
-/// What is noted at once.
+/// Entries that are noted at once.
 #[derive(Clone, Copy, Drop)]
 pub enum Note<'a> {
     /// One entry.
@@ -41,14 +41,14 @@ pub enum Note<'a> {
 impl History {
     ghost use Rattle.nc_region.specs.Noted.{noted};
 
-    /// Without an entry.
+    /// A history without an entry.
     pub fn new() -> History
         ensures { result.entries ≡ [] }
     {
         History {}
     }
 
-    /// These entries are appended.
+    /// Appends these entries.
     #[inline(always)]
     pub fn note(&mut self, _note: &Note<'_>)
         ensures { self.new.entries ≡ self.old.entries ++ noted _note.now }

@@ -27,13 +27,13 @@ pub fn law_of_logs()
     ensures modify { (text : List ℕ) (at : ℕ) (news : List Piece) → acts_in (log_of_modify text at news) ≡ acts_of_modify text at news }
 {}
 
-/// For every lawful limit, every number of seats and every list of events that are each allowed where they happen, however
-/// threads and writer are interleaved: after every event each thread inside is in a state that is safe in every view, and
-/// when a retired span is freed, no thread is in it except possibly at a bundle start. The function does nothing when called.
+/// The law holds for every lawful limit, every number of seats and every list of events, each of which is allowed where it
+/// happens, however threads and writer are interleaved. After every event each thread inside is in a state that is safe in every
+/// view. When a retired span is freed, no thread is in it except possibly at a bundle start. The function does nothing when called.
 ///
 /// A view is a text that a thread may read: each byte as it was at any moment since the last settling, in any mixture. A
-/// safe state is at a permitted instruction wholly inside its bundle (at an indirect transfer only with its register just
-/// masked), or at a bundle start below 00010000. There are at most as many threads as seats.
+/// safe state is at a permitted instruction wholly inside its bundle, at an indirect transfer only with its register just masked,
+/// or at a bundle start below 00010000. There are at most as many threads as seats.
 ///
 /// Each event also does no more than it is meant to: a freed span consists of whole bundles of the region and overlaps no
 /// span that stays retired, so it may be used again; a thread that is inside moves only as the machine does in some view,

@@ -15,7 +15,8 @@
 //! [`delete`](RegionOf::delete) retires one, [`reclaim`](RegionOf::reclaim) frees the chunks that are due, and
 //! [`walk`](RegionOf::walk) shows where a path goes. [`Shared`] is a region behind a lock; check-in doesn't take the lock.
 //! [`RegionOf`] is a region over any [`Acts`]. [`PlainOf`] makes them in a text of its own, and [`Plain`] is one with a borrowed
-//! table of generations. A [`Recorder`] records each act, and a host may have acts of its own (`nc_embed`). [`SharedOf`] is a `RegionOf` behind a lock.
+//! table of generations. A [`Recorder`] records each act, and a host may have acts of its own (`nc_embed`). [`SharedOf`] is a
+//! `RegionOf` behind a lock.
 //!
 //! The contract of a single call can't express that all this is safe while threads run: a thread may be anywhere between any
 //! two puts. `specs/schedules` defines a *world* (`World`) for this. It holds a text with its marks, the retired spans with

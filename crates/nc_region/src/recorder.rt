@@ -37,7 +37,7 @@ pub struct Recorder<A: Acts + Drop> {
 }
 
 impl<A: Acts + Drop> Recorder<A> {
-    /// A recorder with room for this number of entries, each an act or a settling.
+    /// A recorder with room for this number of entries, each an act or a settling. It is refused if there is no memory for the room.
     pub fn new(alloc: Global, acts: A, room: usize) -> Result<Recorder<A>, AllocError>
         ensures acts { IfOk result (λ r. r.acts ≡ acts) }
         ensures logged { IfOk result (λ r. (r.history.entries ≡ []) × (r.entries.items ≡ []) × (r.full ≡ false)) }

@@ -69,7 +69,7 @@ impl<A: Acts + Drop> Model for RegionOf<A> {
 
 impl<'g> RegionOf<Plain<'g>> {
     /// A region of this many bundles over a table of generations, without a chunk. Its last bundle is the guard, which no chunk
-    /// may use. A refusal gives the keeper back.
+    /// may use. A refusal gives the keeper back: `BadSize` exactly if the size isn't lawful, otherwise `OutOfMemory`.
     pub fn new(
         alloc: Global,
         bundles: u32,
@@ -125,7 +125,7 @@ impl<A: Acts + Drop> RegionOf<A> {
         }
     }
 
-    /// The `Acts` behind this region, for example to read what a `Recorder` has written down.
+    /// The `Acts` behind this region, for example to read the entries of a `Recorder`.
     pub fn acts(&self) -> &A
         ensures marked { A.marked result.now ≡ self.now.marked }
         ensures made { A.made result.now ≡ self.now.made }
@@ -294,9 +294,9 @@ impl<A: Acts + Drop> RegionOf<A> {
         Ok(stamp)
     }
 
-    /// Looks at the seats' words; unmarks every retired chunk with a stamp of at most the keeper's least number, in ascending
-    /// order, and removes it from the list; returns the number of these chunks. Their spans may be used again. No memory is
-    /// allocated, and the call can't fail.
+    /// Looks at the seats' words, as `Gens::look` does. Unmarks every retired chunk with a stamp of at most the number that the look
+    /// returns, in ascending order, removes these chunks from the list, and returns how many they are. Their spans may be used
+    /// again. No memory is allocated, and the call can't fail.
     ///
     /// Not promised: that any chunk is ever freed. A seat that neither checks in nor leaves holds back every later stamp.
     pub fn reclaim(&mut self) -> u32
@@ -321,15 +321,16 @@ impl<A: Acts + Drop> RegionOf<A> {
         self.acts.meet(pass);
     }
 
-    /// A walk from a bundle start of the region, with its steps picked by these choices: the places that it visits, and how it
-    /// ends.
+    /// Walks from a bundle start of the region, with the steps that these choices pick, and returns the places that the walk visits
+    /// and its end.
     ///
     /// At a branch the choice 0 falls through, and any other goes to the target. An indirect transfer goes to the choice with
     /// its low five bits cleared, if that is below the limit. Every other step uses up a choice too. The walk ends below the
     /// region, at an instruction that goes nowhere, when no choice is left, or by an indirect transfer to the limit or above
     /// it; remaining choices are ignored. Memory is allocated only for the places, and the region is unchanged.
     ///
-    /// Nothing is executed: the choices stand in for data and flags. `NotBundle` is returned without allocating memory.
+    /// Nothing is executed: the choices stand in for data and flags. `NotBundle` is returned exactly if the walk wouldn't begin at a
+    /// bundle start of the region, before anything is allocated; `OutOfMemory` only if an allocation was refused.
     pub fn walk(&self, start: u32, choices: &[u32]) -> Result<Trace, WalkFault>
         // The places are those of a walk of the machine, and the end is the first that applies.
         ensures trace { IfOk result (λ t. IsTrace self.now.marked.bytes start choices.now t.places.items t.end) }

@@ -26,10 +26,10 @@ pub type Shared<'g> = SharedOf<'g, Plain<'g>>;
 
 /// A region that threads share by reference, behind a lock.
 ///
-/// Whenever the lock is free the region is confined, since every value of `RegionOf` is. Each call takes the lock and runs
-/// the call of `RegionOf` with the same name; it may wait for the lock, and no order of waiting threads is promised. The
-/// region is changed under the lock as the contract of that call says. No clause can name the region at the moment when the
-/// lock is held, so the clauses here say that there was some region to which the result belongs.
+/// Whenever the lock is free the region is confined, since every value of `RegionOf` is. Each call but `check_in` and
+/// `leave` takes the lock and runs the call of `RegionOf` with the same name. It may wait for the lock, and no order of waiting
+/// threads is promised. The region is changed under the lock as the contract of that call says. No clause can name the region
+/// at the moment when the lock is held, so the clauses here say that there was some region to which the result belongs.
 ///
 /// Threads can share it if its acts can be sent to another thread.
 #[derive(Drop)]
@@ -73,8 +73,7 @@ impl<'g, A: Acts + Drop> SharedOf<'g, A> {
 
     /// `Gens::check_in`, without the lock: it never waits, whatever other threads do or hold.
     ///
-    /// Call it only while the seat's thread is outside the region: no contract here can express this, and reclaiming relies
-    /// on it.
+    /// Call it only while the seat's thread is outside the region. No contract here can express this, and reclaiming relies on it.
     pub fn check_in(&self, pass: &mut Pass)
         requires { pass.old.table ≡ self.now }
         ensures same { (pass.new.table ≡ pass.old.table) × (pass.new.seat ≡ pass.old.seat) }

@@ -3,7 +3,8 @@
 ghost use Rattle.std.specs.Prelude.{◌≡◌, ◌≢◌, ℕ, ◌<◌};
 ghost use Rattle.std.specs.Int.{bit_at};
 
-/// The lowest of some places, given as bits, and the bits of the others: one step of a loop over `marked_places`.
+/// The lowest of the places whose bits are set, and the bits of the others. It is one step of a loop over `marked_places`, and
+/// requires that some bit is set.
 #[inline(always)]
 pub fn lowest_place(places: u32) -> (u32, u32)
     requires { 0 < places }

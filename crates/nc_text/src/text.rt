@@ -114,7 +114,7 @@ impl Text {
         Ok(())
     }
 
-    /// Whether every place of the span of `len` places from `at` on is ready. An empty span always is. Allocates nothing.
+    /// Whether every place of the span of `len` places from `at` on is ready. An empty span always is. It allocates nothing.
     pub fn is_ready(&self, at: u32, len: u32) -> bool
         requires inside { SpanInRegion self.now.marked.bytes at len }
         ensures { IsTrue result ↔ AreReady self.now.made at len }
@@ -143,7 +143,8 @@ impl Text {
         table::byte(&self.pages, (at - START) as usize)
     }
 
-    /// Bytes from an address of the region on, in one bundle: the first `len` of the result.
+    /// Reads the `len` bytes from an address of the region on, which are in one bundle. They are the first ones of the result; the
+    /// others mean nothing.
     #[inline(always)]
     pub fn read_run(&self, at: u32, len: u32) -> [u8; 32]
         requires inside { InRegion self.now.marked.bytes at }

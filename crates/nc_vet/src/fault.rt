@@ -14,7 +14,7 @@ pub enum VetFault {
     /// The length is 0, or not a multiple of 32.
     #[error("bad length")]
     BadLength,
-    /// The limit isn't lawful, or the chunk reaches into the last bundle below it.
+    /// The limit isn't lawful, or the chunk reaches into the last bundle below it or beyond.
     #[error("out of range")]
     OutOfRange,
     /// No permitted instruction, whole or cut off by the end of the bundle, begins here.

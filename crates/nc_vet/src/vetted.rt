@@ -78,7 +78,7 @@ impl Vetted {
         self.marks.at(&self.code, i)
     }
 
-    /// The bits of the chunk's bundles, if its marks are kept as bits, which they are unless memory was short.
+    /// The bits of the chunk's bundles, if its marks are kept as bits. They are, unless there was no memory for bits.
     pub fn bundles(&self) -> Option<&[Bundle]>
         ensures marks { IfSome result (λ b. self.now.marks ≡ marks_in self.now.code b.now) }
     {

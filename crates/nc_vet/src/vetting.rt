@@ -34,7 +34,9 @@ fn check_span(base: u32, limit: u32, len: usize) -> Result<(), VetFault>
     Ok(())
 }
 
-/// Judges a chunk in place: returns the marks of a valid chunk, or the chunk's fault. The rules are those of `vet`.
+/// Judges a chunk in place, by the rules of `vet`, and returns the marks of a valid chunk, or the chunk's fault.
+///
+/// As in `vet`, `OutOfMemory` says nothing about the code, and comes only if none of the first three faults holds.
 pub fn judge(alloc: Global, base: u32, limit: u32, code: &[u8]) -> Result<Marks, VetFault>
     ensures valid { IfOk result (λ marks.
         IsValid (record { base = base; limit = limit; code = code.now; marks = listed code.now marks })) }
@@ -50,8 +52,8 @@ pub fn judge(alloc: Global, base: u32, limit: u32, code: &[u8]) -> Result<Marks,
 
 /// Vets a chunk: finds its instructions from its base on, and judges the targets of its jumps, branches and calls.
 ///
-/// A chunk is valid if it lies between the region's first byte and the guard, which is the last bundle below the limit,
-/// and is a list of permitted instructions such that
+/// A chunk is valid if it is one or more whole bundles between the region's first byte and the guard, which is the last bundle
+/// below a lawful limit, and is a list of permitted instructions such that
 /// - none crosses the end of a 32-byte bundle;
 /// - each indirect jump or call directly follows the mask of its register in the same bundle;
 /// - each direct transfer into the chunk goes to the start of an instruction that isn't an indirect jump or call;

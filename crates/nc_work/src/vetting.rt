@@ -118,12 +118,15 @@ fn conclude<G: Gate>(
 
 /// Vets all jobs with several workers, one of which is the caller.
 ///
-/// Each verdict is the result of `vet` for that job, in the jobs' order, whatever the number of workers. A worker takes
-/// the next job when it has finished one, so a long job doesn't hold up others; with at least as many workers as jobs,
-/// each job has a worker of its own. A job whose worker can't be started is vetted by another.
+/// Each verdict is one that `vet` may return for that job. The verdicts are in the jobs' order, whatever the number of workers.
+/// A worker takes the next job when it has finished one, so a long job doesn't hold up others; with at least as many workers as
+/// jobs, each job has a worker of its own. If a worker can't be started, another one vets its job.
 ///
 /// All memory is allocated before a worker starts, except for the marks of each chunk; if there is none for those, that
-/// job's verdict says so. A refusal gives the jobs back unchanged.
+/// job's verdict says so.
+///
+/// Refusals, which give the jobs back unchanged: `BadWorkers` exactly if `workers` isn't in 1 to 16, before anything is
+/// allocated; `OutOfMemory` if that memory was refused.
 pub fn vet_all<G: Gate, T: Threads + Wait + Sync>(
     rt: &T,
     jobs: Vec<Job>,
