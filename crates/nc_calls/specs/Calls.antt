@@ -22,8 +22,8 @@ use Rattle.nc_region.specs.Region.{Region}
 use Rattle.nc_calls.specs.Views.{ViewsKeep}
 
 -- A keeper's numbers say no more than those of the world's keeper: they have the same generation and as many bounds, each at
--- most the world's. So a bound says that a seat has left only if the world's does, whose other bounds are at most the
--- generation. How often each word was looked at doesn't matter.
+-- most the world's. "Left" is the greatest word, and the world's other bounds are at most the generation. So a bound says that
+-- a seat has left only if the world's bound does. How often each word was looked at doesn't matter.
 pub record KnowsNoMore (k world : KeeperNumbers) : Type 0 where
   pub generation : k.generation ≡ world.generation
   pub seats : length k.bounds ≡ length world.bounds

@@ -81,8 +81,8 @@ MayRefuseLoad h v room load.Underway = IsSome h.begun
 MayRefuseLoad h v room (load.NoRoom wanted) = (h.begun ≡ None) × IsShort room (length v.code + 2) × (wanted ≡ length v.code + 2)
 MayRefuseLoad h v room (load.Refused fault) = (h.begun ≡ None) × (¬ IsShort room (length v.code + 2)) × MayRefuse h.region v fault
 
--- the state after a refused creation: all is as before, except that where the region was refused memory, pages of the
--- span may have been allocated
+-- the state after a refused creation: all is as before, except that if the region was refused memory, pages of the span
+-- may have been allocated
 abbrev pub IsNotLoaded : HeldState → HeldState → MarkedChunk → LoadFault → Type 0
 IsNotLoaded old new v load.Underway = new ≡ old
 IsNotLoaded old new v (load.NoRoom wanted) = new ≡ old

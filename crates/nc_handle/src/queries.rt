@@ -86,14 +86,14 @@ impl Held {
         self.region.chunk_at(at)
     }
 
-    /// The chunk whose deletion is under way.
+    /// The chunk whose deletion is under way, if one is.
     pub fn begun(&self) -> Option<Chunk>
         ensures { result ≡ self.now.begun }
     {
         self.begun
     }
 
-    /// `RegionOf::walk`. Only the places it returns take memory.
+    /// `RegionOf::walk`. Only the places that it returns take memory.
     pub fn walk(&self, start: u32, choices: &[u32]) -> Result<Trace, WalkFault>
         ensures trace { IfOk result (λ t. IsTrace self.now.region.marked.bytes start choices.now t.places.items t.end) }
         ensures only { IfOk result (λ t. IsOnlyTrace self.now.region.marked.bytes start choices.now t.places.items t.end) }

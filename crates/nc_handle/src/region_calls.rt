@@ -199,7 +199,8 @@ impl Held {
     }
 
     /// `RegionOf::modify`, which also writes its acts into the buffer, with the settlings among them: at most three for each
-    /// new byte. An empty buffer counts as none. Returns the number of acts written. It takes no memory.
+    /// new byte. An empty buffer counts as none. Returns the number of acts written. It takes no memory, and a refusal changes
+    /// nothing.
     pub fn modify(&mut self, at: u32, new: &[u8], acts: &mut [NcAct]) -> Result<usize, PatchFault>
         // The new bytes are in place; all else is as before.
         ensures modified { OnOk result (IsModified self.old.region self.new.region at new.now) }
@@ -232,7 +233,8 @@ impl Held {
         }
     }
 
-    /// The last call of a deletion: the chunk is deleted, as by `RegionOf::delete`, and its stamp drawn. It takes no memory.
+    /// The last call of a deletion: it deletes the chunk, as `RegionOf::delete` does, and returns the stamp. If no deletion is under
+    /// way, it returns none and changes nothing. It takes no memory.
     pub fn end_delete(&mut self) -> Option<u64>
         // While a deletion is under way, it is never refused. The acts of the deletion are logged now, the stamp last.
         ensures ended { IfSome result (HasEnded self.old self.new) }

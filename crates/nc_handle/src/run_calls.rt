@@ -43,8 +43,9 @@ fn tell_deletion_runs(acts: &mut [NcAct], span: &Span)
 }
 
 impl Held {
-    /// The acts that would create a live chunk with its present bytes, as runs: two for each of its bundles, and two more.
-    /// Directly after `create` these are the acts of that call. Returns their number.
+    /// Writes into the buffer, as runs, the acts that would create this live chunk with its present bytes: two for each of its
+    /// bundles, and two more. Directly after `create` these are the acts of that call. Returns their number. A refusal writes
+    /// nothing.
     pub fn creation_runs(&self, base: u32, acts: &mut [NcAct]) -> Result<usize, RunsFault>
         // The runs of a creation of the chunk's bytes, which stand for its acts, with the settling.
         ensures told { IfOk result (λ count. (c : Chunk) × IsLiveAt self.now.region.chunks base c
@@ -69,8 +70,8 @@ impl Held {
         Ok(wanted)
     }
 
-    /// The acts of the deletion that is under way, as runs: two for each bundle of its chunk, and two more. Returns their
-    /// number.
+    /// Writes into the buffer, as runs, the acts of the deletion that is under way: two for each bundle of its chunk, and two more.
+    /// Returns their number. A refusal writes nothing.
     pub fn deletion_runs(&self, acts: &mut [NcAct]) -> Result<usize, RunsFault>
         // The runs of a deletion by the region's own marks, which stand for its acts, with the settling.
         ensures told { IfOk result (λ count. (c : Chunk) × (self.now.begun ≡ Some c)

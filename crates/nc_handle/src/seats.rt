@@ -37,7 +37,7 @@ impl Held {
         // The last of the passes is the seat's now; all else is as before.
         ensures given { IfOk result (λ guest. HasGiven self.old self.new guest.value) }
         ensures unchanged { OnErr result (self.new ≡ self.old) }
-        // Where a seat is left, only a lack of memory refuses it; where none is, the refusal says so.
+        // If a seat is left, only a lack of memory refuses it; if none is, the refusal says so.
         ensures refused { IfErr result (MayRefuseSeat self.old) }
         ensures none_left { IsErrOf result SeatFault.NoneLeft ↔ (self.old.passes ≡ []) }
     {
@@ -60,8 +60,8 @@ impl Held {
         self.passes.len()
     }
 
-    /// Checks in for each seat not given out yet, and then frees the chunks that are due, as `RegionOf::reclaim`: it puts no
-    /// byte. While a deletion is under way it does nothing. It takes no memory.
+    /// Checks in for each seat not given out yet, then frees the chunks that are due, as `RegionOf::reclaim` does, and returns their
+    /// number. While a deletion is under way it does nothing, and returns none. It puts no byte and takes no memory.
     pub fn reclaim(&mut self) -> Option<u32>
         // No seat that wasn't given out delays reclaiming.
         ensures reclaimed { IfSome result (HasReclaimed self.old self.new) }

@@ -1,14 +1,14 @@
--- The numbers that a host is told where runs are refused.
+-- The numbers that a host is told if runs are refused.
 use Rattle.std.specs.Prelude.{ℕ}
 use Rattle.nc_handle.specs.declared.fault.RunsFault.{RunsFault}
 use Rattle.nc_handle.specs.declared.fault.RunsFault.TheVariants.{NoChunk, NoRoom}
 
--- the number of a refusal of runs: `none` where there is no chunk, 9 for no room
+-- the number of a refusal of runs: `none` if there is no chunk, 9 for no room
 abbrev pub runs_number : ℕ → RunsFault → ℕ
 runs_number none NoChunk = none
 runs_number none (NoRoom wanted) = 9
 
--- the number of runs needed where the refusal is for no room; otherwise 0
+-- the number of runs needed if the refusal is for no room; otherwise 0
 abbrev pub runs_wanted : RunsFault → ℕ
 runs_wanted NoChunk = 0
 runs_wanted (NoRoom wanted) = wanted

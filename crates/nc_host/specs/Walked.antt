@@ -42,8 +42,8 @@ pub record IsLongWalk (text : List ℕ) (start : ℕ) (choices : List ℕ) (room
   pub longer : room < length places
   pub numbers : told ≡ record { count = length places; fault = 9; end = 0 }
 
--- when a walk is refused: 44 where no walk may begin; 8, lack of memory, only where one may; 9, with the number of
--- places, if the buffer holds fewer
+-- when a walk is refused: 44 if no walk may begin there; 8, lack of memory, only if one may; 9, with the number of places,
+-- if the buffer holds fewer
 abbrev pub MayRefuseShownWalk : List ℕ → ℕ → List ℕ → ℕ → NcWalk → Type 0
 MayRefuseShownWalk text start choices room told =
     ((told ≡ no_walk 44) × ¬ IsWalkStart text start)

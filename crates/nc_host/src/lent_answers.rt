@@ -32,7 +32,7 @@ pub struct NcVerdict {
 #[repr(C)]
 #[derive(Clone, Copy)]
 pub struct NcSegments {
-    /// The number of segments written; where there is no room, the number that there are; else 0.
+    /// The number of segments written. If the buffer has no room, the number of all segments. Otherwise 0.
     pub count: usize,
     /// 0, or the number of the fault.
     pub fault: u32,

@@ -12,7 +12,7 @@ pub struct NcChange {
     pub fault: u32,
     /// The address of the fault, for a fault that has one, else 0.
     pub at: u32,
-    /// The number of acts written; where there is no room, the number there would be at most; else 0.
+    /// The number of elements written. If the buffer has no room, a length that is enough. Otherwise 0.
     pub count: usize,
 }
 
@@ -68,12 +68,12 @@ pub struct NcPlace {
 #[repr(C)]
 #[derive(Clone, Copy)]
 pub struct NcWalk {
-    /// The number of places written; where there is no room, the number there are; else 0.
+    /// The number of places written. If the buffer has no room, the number of all places. Otherwise 0.
     pub count: usize,
     /// 0, or the number of the fault.
     pub fault: u32,
     /// How it ended: 1 at a stop, 2 below the region, 3 by an indirect jump or call to the limit or above it, 4 when no choice
-    /// was left; 0 where there is a fault.
+    /// was left; 0 if there is a fault.
     pub end: u32,
 }
 

@@ -34,7 +34,7 @@ fn shown(chunk: Chunk) -> NcChunk
     }
 }
 
-/// The chunk at an index of a region's list, live or retired, in ascending order of base. By this a host lists all chunks.
+/// The chunk at an index of a region's list, live or retired, in ascending order of base. With this call a host lists all chunks.
 #[unsafe(no_mangle)]
 pub extern "C" fn nc_region_chunk(alloc: Global, region: &mut NcRegion, index: usize) -> NcChunk
     ensures same { region.new.value ≡ region.old.value }
@@ -54,8 +54,8 @@ pub extern "C" fn nc_region_chunk(alloc: Global, region: &mut NcRegion, index: u
     }
 }
 
-/// The chunk of a region, live or retired, that has this address, or else the first one above it. By this a host finds a chunk, or
-/// a free span, without going over the list.
+/// The chunk of a region, live or retired, that has this address, or else the first one above it. With this call a host finds a
+/// chunk, or a free span, without going over the list.
 #[unsafe(no_mangle)]
 pub extern "C" fn nc_region_chunk_at(alloc: Global, region: &mut NcRegion, at: u32) -> NcChunk
     ensures same { region.new.value ≡ region.old.value }

@@ -36,7 +36,7 @@ abbrev pub IsNoLook : Event → Type 0
 IsNoLook (Looks k) = ⊥
 IsNoLook event = ⊤
 
--- where no look is pending any more, the region's keeper knows no more than the world's will, once the other events are made
+-- if no look is pending any more, the region's keeper knows no more than the world's will once the pending events are made
 abbrev pub HasFound : Host → Type 0
 HasFound host = All IsNoLook host.pending → KnowsNoMore host.held.region.keeper.numbers (world_after host.world host.pending).keeper
 

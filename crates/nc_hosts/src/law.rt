@@ -19,9 +19,9 @@ ghost use Rattle.nc_hosts.specs.Hosts.{Host, IsStep, IsReached};
 /// - if it is in the region, the instruction that it fetches, in any view, stood there, with all its bytes, in one of the memory's
 ///   texts since the last settling;
 /// - when a retired span is freed next, no thread is in it except possibly at a bundle start;
-/// - where nothing is pending and no deletion is under way, the memory stands for the handle's region: it has its bytes, and the world its
+/// - if nothing is pending and no deletion is under way, the memory stands for the handle's region: it has its bytes, and the world its
 ///   marks, its generation and its retired spans, and no bound that is lower than its keeper's;
-/// - where nothing is pending and a deletion is under way, the memory has the region's bytes, but F4 in the chunk's span;
+/// - if nothing is pending and a deletion is under way, the memory has the region's bytes, but F4 in the chunk's span;
 /// - a step changes no byte of the memory, or it makes the first pending event, a store, which writes its byte at its place and changes
 ///   no other;
 /// - the text of the handle's region is confined.
@@ -31,12 +31,14 @@ ghost use Rattle.nc_hosts.specs.Hosts.{Host, IsStep, IsReached};
 /// reads in the buffer that it lent, or what the library does itself (`TellsPending`, `DoesItself` of `nc_handle`). A state is after each
 /// single store, so `stand` and `whole` are about every moment. The function does nothing when called.
 ///
-/// Its assumptions are in `ThreadMay`, `IsStep`, `HasFound` and `IsReached`: at first the memory is all stops, the host has settled since
-/// they were stored, and all threads are outside; a thread inside moves only as the machine does in some view, and by no masked jump or
-/// call to the limit or above; it enters only at bundle starts and while its seat hasn't left, and its pass checks in and leaves only
-/// while it is outside; the keeper has the world's generation and a bound for each of its seats, and finds no word to be greater than it
-/// is; and the host makes the pending events in order, each once (only a deletion's may be made again, all of them, from the first), and
-/// its stores and settlings reach execution in that order.
+/// Its assumptions are in `ThreadMay`, `IsStep`, `HasFound` and `IsReached`:
+///
+/// - At first the memory is all stops, the host has settled since they were stored, and all threads are outside.
+/// - A thread inside moves only as the machine does in some view, and by no masked jump or call to the limit or above.
+/// - A thread enters only at bundle starts and while its seat hasn't left. Its pass checks in and leaves only while it is outside.
+/// - The keeper has the world's generation and a bound for each of its seats, and finds no word to be greater than it is.
+/// - The host makes the pending events in order, each once, and its stores and settlings reach execution in that order. Only a
+///   deletion's events may be made again, all of them and from the first one on.
 pub fn law_of_hosts()
     ensures stand { (bundles seats : ℕ) (host : Host) → IsReached bundles seats host → AllStand host.world }
     ensures whole { (bundles seats : ℕ) (host : Host) → IsReached bundles seats host → AllFetchWhole host.world }

@@ -9,8 +9,9 @@ ghost use Rattle.nc_handle.specs.RunCalls.{AreCreationRuns, AreDeletionRuns};
 ghost use Rattle.nc_handle.specs.Pending.{IsHeldCall, events_pending};
 ghost use Rattle.nc_hosts.specs.Hosts.{Host, IsReached};
 
-/// A host that makes a call without a buffer, and asks for the acts as runs before it does anything else, reads there what is pending after
-/// that call. While a deletion is under way it reads there what it may make anew. Calling it does nothing.
+/// Suppose that a host makes a creation, or the first call of a deletion, without a buffer, and asks for its acts as runs before it
+/// does anything else. Then the runs say what is pending after that call. While a deletion is under way, its runs say what the host
+/// may make anew. The function does nothing when called.
 pub fn law_of_runs()
     ensures creation { (bundles seats : ℕ) (host : Host) (new : HeldState) (v : MarkedChunk) (c : Chunk) (lent now : List NcAct)
         (count : ℕ) → IsReached bundles seats host → IsValid v → HasLoaded v host.held new → IsLiveAt new.region.chunks v.base c

@@ -14,14 +14,14 @@ ghost use Rattle.nc_hosts.specs.Hosts.{Host, IsNoLook, IsReached};
 /// From each state that a host can reach, these lead to another one:
 ///
 /// - the first pending event, unless it is a look at a seat's word, whose answer only a processor gives;
-/// - if nothing is pending, each accepted creation, patch and call of a deletion, after which its events are pending; and each
-///   other accepted call after which a look is pending, as each call of a reclaim is one;
+/// - if nothing is pending, each accepted creation, patch and call of a deletion, after which its events are pending;
+/// - if nothing is pending, each other accepted call after which a look is pending, such as each call of a reclaim;
 /// - while a deletion is under way, its events made anew from the first one on;
 /// - each call that leaves the region as it is, and each refused call, also while events are pending;
 /// - each event of a thread that it may do.
 ///
-/// So an accepted creation, patch or deletion leads to a state in which its first event is pending, and that event to the next. The function
-/// does nothing when called.
+/// So an accepted creation, patch or deletion leads to a state in which its first event is pending, and that event to the next. The
+/// function does nothing when called.
 pub fn law_of_reaching()
     ensures makes { (bundles seats : ℕ) (host : Host) (event : Event) (later : List Event) → IsReached bundles seats host
         → host.pending ≡ event ∷ later → IsNoLook event
