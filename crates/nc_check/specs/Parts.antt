@@ -27,7 +27,7 @@ codes_in parts = map code_in parts
 abbrev pub names_in : List Part → List (List ℕ)
 names_in parts = map (λ part. part.source.name.items) parts
 
--- the name of the report on a segment: that of its file, and in a line of text also the segment's address (an object has a member for it)
+-- the name of the report on a segment: that of its file, and in text the segment's address too, for which an object has a member
 abbrev pub part_name : Format → List ℕ → ℕ → List ℕ
 part_name Text name address = name ++ (codes " (" ++ (address_digits address ++ codes ")"))
 part_name Json name address = name

@@ -51,7 +51,7 @@ abbrev pub segment_code : Format → List ℕ → List ℕ → Segment → Judge
 segment_code format name code segment =
     record { base = segment.address; name = part_name format name segment.address; code = bytes_of code segment }
 
--- what is added about an accepted file of hexadecimal text
+-- the note on an accepted file of hexadecimal text
 abbrev pub hexadecimal_note : List ℕ
 hexadecimal_note =
     codes "  this is hexadecimal text: its characters were judged, and not the bytes that they spell; turn it into bytes with xxd -r -p\n"

@@ -39,14 +39,14 @@ impl Failure {
 /// Why the program stops before it has been through its files.
 #[derive(Drop)]
 pub enum Halt {
-    /// The words of the command line can't be carried out, or ask for help.
+    /// The words of the command line can't be carried out, or ask for help or the version.
     Words(clap::Error),
     /// The files are not all judged.
     Files(Failure),
 }
 
 impl Halt {
-    /// The exit status: 0 after help, otherwise 2.
+    /// The exit status: 0 after help or the version, otherwise 2.
     pub fn status(&self) -> u8
         ensures { result ≡ halt_status self.now }
     {
@@ -63,7 +63,7 @@ impl Halt {
 /// The findings about the files so far.
 #[derive(Clone, Copy, Drop)]
 pub struct Outcome {
-    /// A file couldn't be read, or was too long.
+    /// A file wasn't judged: it couldn't be read, was too long, or there was no memory for it.
     pub is_faulty: bool,
     /// A file was refused.
     pub is_refused: bool,

@@ -11,7 +11,7 @@ pub struct Word {
     pub name: &'static str,
     /// Whether it is an option.
     pub is_option: bool,
-    /// Its effect if it is given: it is a flag, has a value, or may be given several times.
+    /// Its form: it is a flag, has a value, or may be given several times.
     pub action: ArgAction,
     /// The name of its value in help, if that isn't its own name.
     pub value_names: &'static [&'static str],

@@ -14,9 +14,10 @@
 //!   `stop_span`, by the marks of a `Text`; without one, note each entry by itself.
 //! - `settle` is called where a barrier belongs, `ready` before the first put into a span, `bump` after the last stop of a deletion.
 //! - `marked_places`, which patches call for each instruction, asks for each mark of the bundle unless you forward it.
-//! - A creation calls `put_bundles`, which answers no unless you override it (as here), and then `put_where`, `settle` and `mark_span`. The
-//!   marks are then written out as a list, on the stack for a chunk of at most 512 bytes (1 KB). A deletion calls `stop_span`, which calls
-//!   `stop_where` and `settle`. `put_where` and `stop_where` call `put` for each byte. So a host whose stores are in `put` needs no other.
+//! - A creation calls `put_bundles`, which returns false unless you override it, and then `put_where`, `settle` and `mark_span`. `Image`
+//!   doesn't override it. The marks are then written out as a list, for a chunk of at most 512 bytes on the stack, where they take 1 KB.
+//!   A deletion calls `stop_span`, which calls `stop_where` and `settle`. `put_where` and `stop_where` call `put` for each byte. So a host
+//!   whose stores are in `put` needs no other.
 //! - If you override one of these four, store each byte by itself in your memory, in the order of the entries that the method logs, and
 //!   settle at each `Settled` among them. In this order the text is closed after each store. Then hand the call on to a `Plain`. It makes
 //!   the whole change in its own text at once. No processor runs that text. A `put_bundles` or a `stop_span` that is handed on alone leaves

@@ -42,7 +42,7 @@ pub record IsCutShort {S : Type 0} (answers : S → List ℕ → List ℕ → S 
   pub new : S
   pub answered : IsAnswered answers old new before after first
 
--- What a run has done that was to answer all lines of an input, by its result: from the state `old` it led to `new`, the reader had
+-- The effect of a run that answers the lines of an input, by its result. From the state `old` it led to `new`. The reader had
 -- `remaining` to read before it and `left` after it, and the writer had `before` and `after`.
 pub record HasAnsweredAll {S T : Type 0} (answers : S → List ℕ → List ℕ → S → Type 0) (old new : S)
     (remaining left before after : Option (List ℕ)) (result : Result T ReplayFault) : Type 0 where

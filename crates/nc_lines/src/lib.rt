@@ -1,4 +1,4 @@
-//! Lines in, one reply line out for each; and lines of chunks that are only vetted.
+//! Reads lines and writes one reply line for each, and vets the chunks that lines name.
 //!
 //! [`answer_all`] reads lines of any length in pieces, and hands each line to a [`Responder`], which replies to it. With
 //! [`answer_gathered`], `replies` holds the replies back until more is to be read.

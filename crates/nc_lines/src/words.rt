@@ -17,7 +17,8 @@ pub fn words_of(alloc: Global, line: &[u8]) -> Result<Vec<&[u8]>, AllocError>
     line.split(|b| *b == b' ').collect(alloc)
 }
 
-/// An address, or a choice of a walk: exactly eight hexadecimal digits, in either case.
+/// The address, or the choice of a walk, that a word denotes by exactly eight hexadecimal digits, in either case. Any other word
+/// denotes none.
 pub fn address_of(word: &[u8]) -> Option<u32>
     ensures { result ≡ address_in word.now }
 {
@@ -92,7 +93,7 @@ pub fn placed_of(alloc: Global, words: &[&[u8]]) -> Result<Option<(u32, Vec<u8>)
     }
 }
 
-/// The address and the bytes that the two words of a text denote. Memory is asked for only where there are two words.
+/// The address and the bytes that the two words of a text denote. Memory is asked for only if there are two words.
 pub fn placed_at(alloc: Global, text: &[u8]) -> Result<Option<(u32, Vec<u8>)>, AllocError>
     ensures { IfOk result (λ found. option_map address_and_bytes found ≡ placed_in (words_in text.now)) }
 {

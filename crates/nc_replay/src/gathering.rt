@@ -26,8 +26,8 @@ fn flags_in(info: &str) -> Option<u32> {
 ///
 /// A write to a pipe that waits until there is room loses nothing by being long: all of it goes out, or nobody reads any more. A
 /// file takes as much of a write as it has room for. But a pipe that doesn't block takes a write of at most 4,096 bytes whole or
-/// not at all, so replies written together would be lost where there is room for some of them. So none are held back where
-/// standard output doesn't block, where it is a pipe of packets, or where the system doesn't say.
+/// not at all, so replies written together would be lost if there is room for only some of them. So none are held back if
+/// standard output doesn't block, if it is a pipe of packets, or if the system doesn't say.
 pub fn most_held<R: Files + AllocGlobal>(rt: &R) -> usize
     ensures { result ≤ 65_536 }
 {

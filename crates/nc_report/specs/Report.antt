@@ -104,8 +104,8 @@ abbrev pub counts_text : Format → Counts → List ℕ
 counts_text Text counts = detail_line (totals_line counts)
 counts_text Json counts = codes "]" ++ counts_member counts
 
--- The text about all faults that reading a refused chunk finds, that at `own` first, which needs no lines, and then the numbers of
--- all of them.
+-- The text about all faults that reading a refused chunk finds: first the one at `own`, for which text has no further lines,
+-- then each other one, and then the numbers of all of them.
 pub record TellsOthers (format : Format) (limit base : ℕ) (code : List ℕ) (fault : VetFault) (own : ℕ) (text : List ℕ) : Type 0 where
   pub steps : List Step
   pub reading : IsReading code steps

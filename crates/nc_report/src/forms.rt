@@ -62,7 +62,7 @@ fn first_bundle(code: &[u8]) -> &[u8] {
     &code[..BUNDLE as usize]
 }
 
-/// There is code, and all of it is hexadecimal text, as `xxd -p` writes it.
+/// Whether there is code, and all of it is hexadecimal text, as `xxd -p` writes it.
 pub fn is_hexadecimal(code: &[u8]) -> bool {
     !code.is_empty() && code.iter().all(|byte| is_of_digits(*byte))
 }

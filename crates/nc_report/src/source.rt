@@ -20,10 +20,11 @@ pub struct Source {
     pub labels: Labels,
 }
 
-/// Reads a source to its end. Memory for `expected` bytes is allocated first; that number is only a guess.
+/// Reads a source to its end. Memory for `expected` bytes, but at most [`MOST_BYTES`], is allocated first; that number is only a
+/// guess.
 ///
-/// A reader that gives more than [`MOST_BYTES`] bytes isn't read further, so an endless device is refused at that point.
-/// Nothing is promised about when a reader fails.
+/// A reader that gives more than [`MOST_BYTES`] bytes isn't read further, so an endless device is refused at that point with
+/// `TooLong`. Nothing is promised about when a reader fails.
 pub fn read_source<R: Read>(
     alloc: Global,
     name: Vec<u8>,

@@ -1,4 +1,4 @@
--- What a run of a script does.
+-- The effects of a run of a script.
 use Rattle.std.specs.Prelude.{◌≡◌, ◌≢◌, ◌⊎◌, ◌↔◌, ℕ, List, Option, Result, OnOk, IfErr, IfSome, IsErrOf}
 use Rattle.std.specs.Io.KnownBytes.{Consumes, IsAtEnd}
 use Rattle.nc_decode.specs.Bundles.{IsRegionSize}
@@ -15,8 +15,8 @@ abbrev pub HasAnswered : ℕ → ℕ → Option (List ℕ) → Option (List ℕ)
 HasAnswered bundles seats before after lines =
     (new : Script) × IsAnswered AnswersOnly (new_script bundles seats) new before after lines
 
--- What a run of a script has done, by its result: the reader was `reader` before it and `left` after it, and the writer `writer` and
--- `after`. `remaining` is what a reader has left to read, and `contents` what a writer has.
+-- The effect of a run of a script, by its result. The reader was `reader` before it and is `left` after it; the writer was
+-- `writer` and is `after`. `remaining` gives the bytes that a reader has left to read, and `contents` those that a writer has.
 pub record HasRun {R W T : Type 0} (bundles seats : ℕ) (remaining : R → Option (List ℕ)) (contents : W → Option (List ℕ))
     (reader left : R) (writer after : W) (result : Result T ReplayFault) : Type 0 where
   -- The two numbers are checked first, in this order, before anything is read or written.

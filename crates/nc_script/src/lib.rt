@@ -1,4 +1,4 @@
-//! Scripts for a code region: lines in, one reply line out for each.
+//! Runs scripts on a code region: reads their lines, and writes one reply line for each.
 //!
 //! [`run`] runs a script over any reader and writer: it creates, patches, deletes and reclaims chunks in a code region, whose
 //! threads check in and leave, walks through them and shows them. The calls of `nc_lines` read the lines and write the replies;

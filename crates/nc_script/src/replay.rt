@@ -20,12 +20,19 @@ use std::io::{Read, Write};
 /// Runs a script on a new region of `bundles` bundles, for threads with `seats` seats: reads its lines, and writes the answer
 /// to each as soon as its line end has been read. Each answer is a write of its own, unless the writer takes only a part.
 ///
-/// A line ends at a byte 0A or at the end of the input. `create` with an address and bytes vets a chunk and creates it,
-/// `modify` with an address and bytes replaces instructions of a chunk, `delete` with an address retires a chunk, `checkin`
-/// and `leave` with a seat act for the seat's thread, `reclaim` frees each retired chunk for which every seat has checked in
-/// since its deletion or has left, `walk` with an address and choices shows the places of a walk and its end, `dump` shows every
-/// chunk, and `chunk` with an address shows the chunk that has it, or else the first one above it. Any other line, and any line of more than 1,048,576 bytes, is answered as a bad line. The promises about bytes
-/// hold for a reader and a writer whose bytes are known; nothing is promised about when a device fails.
+/// A line ends at a byte 0A or at the end of the input, and begins with one of these words:
+///
+/// - `create` with an address and bytes vets a chunk and creates it;
+/// - `modify` with an address and bytes replaces instructions of a chunk;
+/// - `delete` with an address retires a chunk;
+/// - `checkin` and `leave` with a seat act for the seat's thread;
+/// - `reclaim` frees each retired chunk for which every seat has checked in since its deletion or has left;
+/// - `walk` with an address and choices shows the places of a walk and its end;
+/// - `dump` shows every chunk;
+/// - `chunk` with an address shows the chunk that has it, or else the first one above it.
+///
+/// Any other line, and any line of more than 1,048,576 bytes, is answered as a bad line. The promises about bytes hold for a
+/// reader and a writer whose bytes are known; nothing is promised about when a device fails.
 pub fn run<R: Read, W: Write>(
     alloc: Global,
     reader: &mut R,
@@ -38,8 +45,8 @@ pub fn run<R: Read, W: Write>(
     run_gathered(alloc, reader, writer, bundles, seats, 0)
 }
 
-/// Runs a script as [`run`], but holds back at most `most` bytes of answers, and writes them together, when `answer_gathered` of
-/// `nc_lines` does. It is for the same writers as that.
+/// Runs a script as [`run`] does, but holds back at most `most` bytes of answers and writes them together, at the moments and for the
+/// writers that `answer_gathered` of `nc_lines` names.
 pub fn run_gathered<R: Read, W: Write>(
     alloc: Global,
     reader: &mut R,
