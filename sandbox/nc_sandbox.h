@@ -53,7 +53,7 @@ enum {
     NCS_BAD_CHANGE   /* nc_host refuses a change of live code: `fault` says why */
 };
 
-/* Nothing was entered, and everything is as it was. */
+/* A refusal, after which everything is as it was. */
 typedef struct NcsRefusal {
     uint32_t kind;        /* one of these, NCS_OK if nothing was refused */
     uint32_t fault;       /* of refused code or a refused change, one of nc_host.h; else 0 */
@@ -102,9 +102,9 @@ void ncs_module_free(NcsModule *module);
 NcsModule *ncs_module_live(uint32_t bundles, NcsRefusal *why);
 
 /*
- * The changes. Any thread may make them, also in a call-back. They wait for each other, and never for a thread inside. 1, and the change is
- * made; or 0, and nothing is changed, and `why`, which may be null, has the refusal. Code is copied before it is judged, so it may lie in
- * memory of a box.
+ * The changes. Any thread may make them, also in a call-back. They wait for each other, and never for a thread inside. Each returns 1 if
+ * the change is made; or 0, and changes nothing, and `why`, which may be null, has the refusal. Code is copied before it is judged, so it
+ * may lie in memory of a box.
  *   ncs_create  puts a chunk of whole bundles at a multiple of 32, where no chunk is, live or deleted and not yet reclaimed.
  *   ncs_patch   replaces whole instructions of a chunk, within a bundle, by others of the same lengths.
  *   ncs_delete  removes the chunk that begins at `base`. A thread in it stops at its next instruction. Its span can't be used yet.
@@ -139,15 +139,15 @@ typedef struct NcsLimits {
 /* A box with its data as the file has it, and all other memory 0. `why` gets the refusal, and may be null. Null if it is refused. */
 NcsBox *ncs_box_new(NcsModule *module, const NcsLimits *limits, NcsRefusal *why);
 
-/* Gives a box its first memory again, and revives it. Its call-backs stay. 0, and nothing is done, while a call of it is under way. 0 also
-   if the system refuses, and then the box is dead. */
+/* Gives a box its first memory again, and revives it. Its call-backs stay. Returns 1; or 0, and does nothing, while a call of it is under
+   way; or 0 if the system refuses, and then the box is dead. */
 int ncs_reset(NcsBox *box);
 
 /* Ends the call that is under way, or else the next one, with NCS_KILLED. Any thread may ask for it. It doesn't wait: the thread comes out
    within some 20 ms of its processor time, or when its call-back returns. A reset takes back a kill that hasn't ended a call. */
 void ncs_kill(NcsBox *box);
 
-/* Frees a box. 0, and nothing is done, while a call of it is under way. Null is allowed. */
+/* Frees a box. Returns 1; or 0, and does nothing, while a call of it is under way. Null is allowed. */
 int ncs_free(NcsBox *box);
 
 /* ---- Calls */
@@ -157,11 +157,11 @@ enum {
     NCS_RETURNED,  /* the function returned: `result` */
     NCS_STOPPED,   /* * at a stop (hlt), which is also at each address without code */
     NCS_FAULTED,   /* * by a fault: `trap`, and `data` if that is 14 */
-    NCS_LATE,      /* * its time is over. Some 30 ms more may pass, and still more where call-backs make many system calls */
+    NCS_LATE,      /* * its time is over. Some 30 ms more may pass, and still more if call-backs make many system calls */
     NCS_KILLED,    /* * by ncs_kill */
     NCS_EXITED,    /* * it called NCS_EXIT: `status` */
     NCS_BAD_ENTRY, /* the function isn't at a bundle start of the code, and nothing was entered; * so isn't an address to return to */
-    NCS_BAD_CALL,  /* * a call of the host that is none, or arguments or a frame that aren't in the box's memory */
+    NCS_BAD_CALL,  /* * a call of the host where there is none, or arguments or a frame that aren't in the box's memory */
     NCS_DENIED,    /* * by ncs_deny */
     NCS_TOO_DEEP,  /* the thread has too many calls under way, and nothing was entered */
     NCS_DEAD,      /* an earlier call has left the box dead, and nothing was entered */
@@ -214,12 +214,12 @@ void ncs_deny(NcsBox *box);
 /* A pointer to `len` bytes of the box, valid until the box is freed; null unless all of them are the box's. */
 void *ncs_at(NcsBox *box, NcsAt at, uint32_t len);
 
-/* Copies into the box, or out of it. 1; or 0, and nothing is copied, unless all of the range is the box's. */
+/* Copies into the box, or out of it. Returns 1; or 0, and copies nothing, unless all of the range is the box's. */
 int ncs_set(NcsBox *box, NcsAt at, const void *from, uint32_t len);
 int ncs_get(NcsBox *box, void *to, NcsAt at, uint32_t len);
 
-/* Copies a text out of the box up to its 0, and cuts it to `room` bytes with the 0. Its length as copied; or -1 if it leaves the box, or
-   if there is no room at all. */
+/* Copies a text out of the box up to its 0, and cuts it to `room` bytes with the 0. Returns its length as copied; or -1 if it leaves the
+   box, or if there is no room at all. */
 long ncs_text(NcsBox *box, char *to, size_t room, NcsAt at);
 
 /* Takes `len` bytes from the heap, at a multiple of 16. The heap begins behind the data, and ends at the limit. Nothing is given back

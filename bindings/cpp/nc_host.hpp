@@ -114,7 +114,7 @@ constexpr const char *Fault::sentence() const noexcept {
 #undef NC_HPP_NAME_OF
 #undef NC_HPP_SENTENCE_OF
 
-/* Whether a call was refused, and how: by a Fault, or by a type of another library, whose number() is 0 where nothing was refused. */
+/* Whether a call was refused, and how: by a Fault, or by a type of another library, whose number() is 0 if nothing was refused. */
 template <class T, class Why = Fault>
 class Result;
 
@@ -131,7 +131,7 @@ class [[nodiscard]] Result<void, Why> {
     Why fault_;
 };
 
-/* A value, or the fault for which there is none. Where there is a fault, value() is a default-constructed value: 0, nothing, or empty. */
+/* A value, or the fault for which there is none. If there is a fault, value() is a default-constructed value: 0, nothing, or empty. */
 template <class T, class Why>
 class [[nodiscard]] Result : public Result<void, Why> {
   public:
@@ -310,7 +310,7 @@ class Deletion {
     Deletion(const Deletion &) = delete;
     Deletion &operator=(const Deletion &) = delete;
 
-    /* The acts that the first call wrote; none where its buffer was empty. */
+    /* The acts that the first call wrote; none if its buffer was empty. */
     Acts acts() const noexcept { return acts_; }
 
     /* nc_region_deletion_runs. Under the lock. */

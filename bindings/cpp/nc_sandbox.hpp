@@ -67,7 +67,7 @@ class [[nodiscard]] End {
     const char *name() const noexcept { return ncs_how(end_.how); } /* ncs_how */
     explicit operator bool() const noexcept { return end_.how == NCS_RETURNED; }
 
-    /* What the function returned, read as a T. 0 where it hasn't returned. */
+    /* The result of the function, read as a T; 0 if it hasn't returned. */
     template <class T>
     T result() const noexcept {
         const std::uint32_t words[] = {end_.result, end_.high};
@@ -142,7 +142,7 @@ class Module {
         return changed([&](NcsRefusal *why) { return ncs_delete(handle(), base, why); });
     }
 
-    /* ncs_reclaim. How many chunks it freed. */
+    /* ncs_reclaim. Returns how many chunks it freed. */
     std::uint32_t reclaim() noexcept { return handle_ != nullptr ? ncs_reclaim(handle()) : 0; }
 
     NcsModule *handle() const noexcept { return handle_.get(); }
@@ -231,7 +231,7 @@ class Access {
         return data != nullptr ? Span<std::uint8_t>(static_cast<std::uint8_t *>(data), len) : Span<std::uint8_t>();
     }
 
-    /* ncs_set, and ncs_get. Whether it was copied. */
+    /* ncs_set, and ncs_get. They return whether all was copied. */
     [[nodiscard]] bool set(At at, Bytes from) noexcept { return set(at, from.data(), from.size()); }
     [[nodiscard]] bool set(At at, std::string_view from) noexcept { return set(at, from.data(), from.size()); }
     [[nodiscard]] bool get(Span<std::uint8_t> to, At at) noexcept {
@@ -346,12 +346,12 @@ struct CallableOf : Callable {
 
 /* ---- Boxes */
 
-/* It ends the calls of a box from any thread. It may be copied, and may outlive the box. */
+/* A right to end the calls of a box, from any thread. It may be copied, and may outlive the box. */
 class Killer {
   public:
     Killer() noexcept = default;
 
-    /* ncs_kill. Whether the box was still there. */
+    /* ncs_kill. Returns whether the box was still there. */
     bool kill() const noexcept {
         std::shared_ptr<detail::Handle> handle = handle_.lock();
         if (handle == nullptr) {
@@ -415,10 +415,10 @@ class Box : public Access {
         return at;
     }
 
-    /* ncs_reset. Whether it was done. */
+    /* ncs_reset. Returns whether it was done. */
     [[nodiscard]] bool reset() noexcept { return box() != nullptr && ncs_reset(box()) != 0; }
 
-    /* What ends a call of this box, from any thread: ncs_kill. */
+    /* A Killer, which ends the calls of this box from any thread. */
     Killer killer() const noexcept { return state_ != nullptr ? Killer(state_->handle) : Killer(); }
 
     NcsBox *handle() const noexcept { return box(); }

@@ -143,7 +143,7 @@ class Line:
         if self.language not in (None, "none"):
             return self.language
         if name == "-" and STOPS.get(self.stop, 0) < STOPS["-E"]:
-            raise Fault("- wants -x LANGUAGE before it")
+            raise Fault("- (standard input) wants -x LANGUAGE before it")
         language = "c" if name == "-" else LANGUAGES.get(os.path.splitext(name)[1])
         return IN_CXX.get(language, language) if self.is_cxx else language
 

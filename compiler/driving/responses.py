@@ -25,7 +25,7 @@ def expanded(words, level=0):
             yield word
             continue
         if level == MOST_LEVELS:
-            raise Fault(f"{word}: more than {MOST_LEVELS} response files name each other")
+            raise Fault(f"{word}: response files name each other more than {MOST_LEVELS} levels deep")
         try:
             with open(word[1:], encoding="utf-8", errors="surrogateescape") as file:
                 text = file.read()

@@ -10,7 +10,7 @@
  *            stack grows down from the data to 00010000: 64 MiB, or as much as nc-cc --data leaves.
  * Errors     A call that fails returns a negative number, -9 for EBADF. Errors have the numbers of Linux. A pointer outside the memory is
  *            EFAULT. Nothing is done then.
- * Files      0, 1 and 2 are nc-run's own, with EBADF where they aren't open. A program gets others by nc_open, at most 64 in all.
+ * Files      0, 1 and 2 are nc-run's own, with EBADF if they aren't open. A program gets others by nc_open, at most 64 in all.
  * Addresses  Call k is at 00000100 + 32 k, nc_exit at 00000040. The arguments lie on the stack above the address to return to; 64 bits are
  *            two words. The result is in EAX, or in EDX and EAX. These two and ECX are overwritten, and no other register.
  *
@@ -73,7 +73,7 @@ long long nc_clock(int clock);
 /* The end of the memory that the program may use. */
 unsigned nc_memory(void);
 
-/* Opens a regular file below the folder of nc-run --dir or --dir-rw, and returns its number, the least that is free. `mode` counts where a
+/* Opens a regular file below the folder of nc-run --dir or --dir-rw, and returns its number, the least that is free. `mode` counts if a
    file is created. EACCES without such a folder, for a path that leads out of it, and for devices and pipes; EISDIR for a folder; EROFS for
    more than reading, without --dir-rw; EMFILE if the program has 64 files; EINVAL for another way to open. */
 int nc_open(const char *path, int how, unsigned mode);

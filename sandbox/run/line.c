@@ -125,7 +125,7 @@ static int take_call(const char *value, Line *line) {
 
 static int take_folder(const char *value, Line *line) {
     if (line->folder != NULL) {
-        return wrong("there can be one --dir or --dir-rw, and not also ", value);
+        return wrong("there can be only one --dir or --dir-rw, and this is another: ", value);
     }
     line->folder = value;
     return -1;
@@ -186,7 +186,7 @@ static int take_option(char ***word, Line *line) {
         return option->take(value + 1, line);
     }
     if (option->has_value && *++*word == NULL) {
-        return wrong("a value is missing behind ", option->name);
+        return wrong("a value is missing after ", option->name);
     }
     return option->take(**word, line);
 }
@@ -207,7 +207,7 @@ int line_read(int argc, char **argv, Line *line) {
     }
     word += *word != NULL && strcmp(*word, "--") == 0;
     if (*word == NULL) {
-        return wrong("no file", "");
+        return wrong("no file is named", "");
     }
     line->file = *word++;
     line->words = word;

@@ -65,7 +65,7 @@ static int make_box(Run *run) {
         return report_refusal(run, &why);
     }
     run->memory_end = run->line.memory;
-    return calls_give(run) ? ON : report_system("a call of the host isn't given", 0);
+    return calls_give(run) ? ON : report_system("a call of the host can't be added to the box", 0);
 }
 
 /* The words of the command line, from the file's name on. */

@@ -71,7 +71,7 @@ static void print_cause(const NcsEnd *end) {
         }
         break;
     case NCS_BAD_CALL:
-        fputs(": a call of the host that is none, or without a stack", stderr);
+        fputs(": a call of the host where there is none, or without a stack", stderr);
         break;
     default:
         fputs(": a call of the host was to return there", stderr);

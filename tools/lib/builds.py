@@ -87,7 +87,7 @@ ANSWERS = [
     ("a list for the preprocessor", "nc-cc -Wp,-MMD,third.d -c it.c && cat third.d", 0, r"it\.o: it\.c it\.h\n"),
     ("a list for assembly text", "nc-cc -MMD -c it.S -o its.o && cat its.d", 0, r"its\.o: it\.S it\.h\n"),
     ("a response file", "nc-cc @words && test -s 'by words'", 0, ""),
-    ("a response file that isn't there", "nc-cc -c @nowhere 2>&1", 2, "nc-cc: no source\n"),
+    ("a response file that isn't there", "nc-cc -c @nowhere 2>&1", 2, "nc-cc: no source file is named\n"),
     ("errors alone", "nc-cc -fsyntax-only it.c && nc-cc -fsyntax-only wrong.c 2> /dev/null", 1, ""),
     ("commands shown only", "nc-cc '-###' it.c h.c -o never 2>&1 | cut -d ' ' -f 1 | grep -c '^gcc$\\|^as$\\|^ld$'; ls never 2>&1", 2, "5\nls: .*\n"),
     ("several at once", "nc-cc -O2 -j3 start.c it.c h.c -o three && nc-cc -O2 -j1 start.c it.c h.c -o one && cmp three one", 0, ""),

@@ -5,7 +5,7 @@ Usage: ./install PREFIX [--destdir DIR] [--uninstall]
 
 It copies the folders bin, include, lib and share beside it to PREFIX; with --destdir to DIR/PREFIX, as a packager wants it.
 PREFIX/share/reedbodkin/manifest lists what was put there and the folders that were made for it. --uninstall removes exactly that: a folder
-stays that was there before, or has something else in it. An earlier installation is replaced. Where a file is there that no installation
+stays that was there before, or has something else in it. An earlier installation is replaced. If a file is there that no installation
 has put there, nothing is done, and the status is 1.
 """
 

@@ -21,7 +21,7 @@ pub enum Act {
     Mark {
         /// The first of the addresses.
         at: u32,
-        /// How many there are.
+        /// The number of the addresses.
         length: u32,
     },
     /// Draw the stamp of a deletion: [`Deletion::finish`](crate::Deletion::finish) does it.
@@ -74,12 +74,12 @@ impl<'a> Acts<'a> {
         Ok(Acts { raw: &buffer[..change.count] })
     }
 
-    /// How many there are, where a run counts as one.
+    /// The number of acts. A run counts as one.
     pub fn len(self) -> usize {
         self.raw.len()
     }
 
-    /// Whether there is none.
+    /// Whether there are no acts.
     pub fn is_empty(self) -> bool {
         self.raw.is_empty()
     }
@@ -89,7 +89,7 @@ impl<'a> Acts<'a> {
         self.raw
     }
 
-    /// The acts as they were written: runs are runs.
+    /// The acts as they were written, each run as one act.
     pub fn iter(self) -> impl ExactSizeIterator<Item = Act> + 'a {
         self.into_iter()
     }

@@ -15,7 +15,7 @@ macro_rules! faults {
             $(
                 #[doc = $sentence]
                 $variant $({
-                    /// What is told beside the fault: the address, the program header, or the length of a buffer that is enough.
+                    /// The address of the fault, its program header, or the length of a buffer that is enough.
                     $field: $of,
                 })?,
             )*

@@ -1,4 +1,4 @@
-//! What calls that only look tell.
+//! The answers of calls that only look.
 
 use crate::ffi::{self, NcChunk, NcPlace};
 
@@ -7,7 +7,7 @@ use crate::ffi::{self, NcChunk, NcPlace};
 pub struct Chunk {
     /// The address of its first byte.
     pub base: u32,
-    /// In bytes.
+    /// The number of its bytes.
     pub length: u32,
     /// The stamp of a retired chunk; `None` for a live one.
     pub retired: Option<u64>,
@@ -19,12 +19,12 @@ impl Chunk {
     }
 }
 
-/// What is known of an address of a region.
+/// The mark of an address of a region: whether control may be there.
 #[derive(Clone, Copy, Debug, PartialEq, Eq, Hash)]
 pub enum Mark {
     /// Control is never there.
     Unmarked,
-    /// An instruction starts there.
+    /// An instruction starts there, or it is a bundle start without a chunk.
     Plain,
     /// An indirect jump or call on this register, directly after its mask. Registers are numbered as in ModRM.
     Masked(u8),

@@ -89,7 +89,7 @@ impl Region {
     }
 
     /// Takes up a deletion whose guard was dropped or forgotten. It has no acts: [`Deletion::runs`] writes them, and the host makes all of
-    /// them, since those that it made before are stops already. [`Fault::NotBegun`] where no deletion is under way.
+    /// them, since those that it made before are stops already. [`Fault::NotBegun`] if no deletion is under way.
     pub fn resume_delete(&mut self) -> Result<Deletion<'_>, Fault> {
         match runs(self, &mut []).map(Acts::len) {
             Err(Fault::NoRoom { .. }) => Ok(Deletion { region: self, acts: Acts::NONE }),
@@ -106,7 +106,7 @@ impl Region {
         Acts::written(change, buffer)
     }
 
-    /// `nc_region_reclaim`: removes the retired chunks that no seat holds back, and returns how many.
+    /// `nc_region_reclaim`: removes the retired chunks that no seat holds back, and returns their number.
     pub fn reclaim(&mut self) -> Result<u32, Fault> {
         // SAFETY: "Locks".
         let freed = unsafe { ffi::nc_region_reclaim(self.handle.get_mut()) };
@@ -126,22 +126,22 @@ impl Region {
         (0..).map_while(|index| self.chunk(index))
     }
 
-    /// `nc_region_chunk_at`: the chunk that has an address, or else the first one above it. `None` where each chunk ends at or below it.
+    /// `nc_region_chunk_at`: the chunk that has an address, or else the first one above it. `None` if each chunk ends at or below it.
     pub fn chunk_at(&self, at: u32) -> Option<Chunk> {
         // SAFETY: "Locks".
         let chunk = unsafe { ffi::nc_region_chunk_at(self.handle.get(), at) };
         (chunk.fault == ffi::NC_OK).then(|| Chunk::of(chunk))
     }
 
-    /// `nc_region_place`: the byte and the mark at an address; `None` where it is none of the region's.
+    /// `nc_region_place`: the byte and the mark at an address; `None` if the address is outside the region.
     pub fn place(&self, at: u32) -> Option<Place> {
         // SAFETY: "Locks".
         let place = unsafe { ffi::nc_region_place(self.handle.get(), at) };
         (place.fault == ffi::NC_OK).then(|| Place::of(place))
     }
 
-    /// `nc_region_walk`: walks from a bundle start by choices, without executing anything. A buffer of one place more than there are choices is
-    /// enough.
+    /// `nc_region_walk`: walks from a bundle start by choices, without executing anything. A buffer of one place more than there are choices
+    /// is enough.
     pub fn walk<'a>(&self, start: u32, choices: &[u32], places: &'a mut [u32]) -> Result<Walk<'a>, Fault> {
         let (to, room) = (places.as_mut_ptr(), places.len());
         // SAFETY: "Locks" and "Arguments".
@@ -197,7 +197,7 @@ pub struct Deletion<'a> {
 }
 
 impl<'a> Deletion<'a> {
-    /// The acts that the first call wrote; none where its buffer was empty.
+    /// The acts that the first call wrote; none if its buffer was empty.
     pub fn acts(&self) -> Acts<'a> {
         self.acts
     }

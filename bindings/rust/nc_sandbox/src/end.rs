@@ -5,8 +5,8 @@ use crate::At;
 use std::error::Error;
 use std::fmt;
 
-/// How a call ended that hasn't returned. `Stopped` and those down to `Denied` leave the box dead until [`Sandbox::reset`]. `place` is
-/// where in the code the call ended.
+/// The end of a call that hasn't returned. `Stopped` and those down to `Denied` leave the box dead until [`Sandbox::reset`]. `place` is
+/// the place in the code at which the call ended.
 ///
 /// [`Sandbox::reset`]: crate::Sandbox::reset
 #[non_exhaustive]
@@ -41,7 +41,7 @@ pub enum End {
         /// With this status.
         status: u32,
     },
-    /// A call of the host that is none, or arguments or a frame that aren't in the box's memory.
+    /// A call of the host where there is none, or arguments or a frame that aren't in the box's memory.
     BadCall {
         /// Where.
         place: At,
@@ -53,7 +53,7 @@ pub enum End {
     },
     /// The function isn't at a bundle start of the code, and nothing was entered; or the code was to return to such a place, and is dead.
     BadEntry {
-        /// That place; else 0.
+        /// The place to which the code was to return; 0 if nothing was entered.
         place: At,
     },
     /// The thread has too many calls under way, and nothing was entered.

@@ -27,13 +27,13 @@ impl Module {
         Refusal::unless_made(|why| unsafe { ffi::ncs_patch(module, at.raw(), from, code.len(), why) })
     }
 
-    /// `ncs_delete`: removes the chunk that begins there. A thread in it stops at its next instruction. Its span isn't free yet.
+    /// `ncs_delete`: removes the chunk that begins at `base`. A thread in it stops at its next instruction. Its span isn't free yet.
     pub fn delete(&self, base: At) -> Result<(), Refusal> {
         // SAFETY: as above.
         Refusal::unless_made(|why| unsafe { ffi::ncs_delete(self.handle.as_ptr(), base.raw(), why) })
     }
 
-    /// `ncs_reclaim`: frees the spans of deleted chunks in which no thread can be any more, and returns how many. It waits for nobody.
+    /// `ncs_reclaim`: frees the spans of deleted chunks in which no thread can be any more, and returns their number. It waits for nobody.
     pub fn reclaim(&self) -> u32 {
         // SAFETY: as above.
         unsafe { ffi::ncs_reclaim(self.handle.as_ptr()) }

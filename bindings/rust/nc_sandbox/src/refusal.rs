@@ -17,7 +17,7 @@ pub enum Refusal {
     BadCode {
         /// The number of the fault in `nc_host.h`.
         fault: u32,
-        /// Where it is, for a fault that has a place.
+        /// The address of the fault; 0 for a fault without one.
         at: At,
         /// What it says.
         sentence: &'static str,

@@ -13,11 +13,11 @@ use std::sync::{Arc, Weak};
 /// What a box may use.
 #[derive(Clone, Copy, Debug, PartialEq, Eq, Hash)]
 pub struct Limits {
-    /// In bytes: data, heap and stack are below this address. A multiple of 4096, at most 1 GiB.
+    /// Bytes of memory: data, heap and stack are below this address. A multiple of 4096, at most 1 GiB.
     pub memory: u32,
     /// Calls that one thread may have under way at once, with those of other boxes: 1 to 64.
     pub depth: u32,
-    /// Of processor time of the calling thread, for a call with its call-backs: from 1.
+    /// Milliseconds of processor time of the calling thread, for a call with its call-backs: from 1.
     pub milliseconds: u32,
 }
 
@@ -118,7 +118,7 @@ impl Sandbox {
         Ok(())
     }
 
-    /// What ends the calls of this box from any thread.
+    /// A [`Killer`], which ends the calls of this box from any thread.
     pub fn killer(&self) -> Killer {
         Killer { shared: Arc::downgrade(&self.shared) }
     }
@@ -142,7 +142,7 @@ impl fmt::Debug for Sandbox {
     }
 }
 
-/// It ends the calls of a box, from any thread, and may outlive the box.
+/// A right to end the calls of a box, from any thread. It may outlive the box.
 #[derive(Clone)]
 pub struct Killer {
     shared: Weak<Shared>,
@@ -150,7 +150,7 @@ pub struct Killer {
 
 impl Killer {
     /// `ncs_kill`: ends the call that is under way, or else the next one, with [`End::Killed`](crate::End::Killed). It doesn't wait.
-    /// Whether the box was still there.
+    /// Returns whether the box was still there.
     pub fn kill(&self) -> bool {
         let Some(shared) = self.shared.upgrade() else { return false };
         // SAFETY: "Freed once"; any thread may ask for this at any time.

@@ -71,7 +71,7 @@ impl Args for &[u32] {
     }
 }
 
-/// What a call returns: a [`Word`], or nothing.
+/// A result of a call: a [`Word`], or nothing.
 pub trait Returned: Sealed {
     #[doc(hidden)]
     fn of(low: u32, high: u32) -> Self;
