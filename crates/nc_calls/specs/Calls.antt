@@ -90,7 +90,7 @@ create_events v = events_of_log (record no_details { marks = v.marks }) (log_of_
 abbrev pub modify_events : List ℕ → ℕ → List Piece → List Event
 modify_events text at news = events_of_log no_details (log_of_modify text at news)
 
--- the events of the log of a deletion, where drawing the stamp retires the chunk's span
+-- the events of the log of a deletion, in which drawing the stamp retires the chunk's span
 abbrev pub delete_events : List Mark → ℕ → ℕ → List Event
 delete_events marks base len = events_of_log (record no_details { base = base; len = len }) (log_of_delete marks base len)
 

@@ -1,5 +1,5 @@
 -- The rule of the words, and the effect of each step on the numbers. Word 0 is the generation, and word i + 1 is the word
--- of seat i. Steps on the words need a token, and each token has a view: what it knows about the words.
+-- of seat i. Steps on the words need a token, and each token has a view, which is its knowledge of the words.
 use Rattle.std.specs.Prelude.{◌≡◌, ◌≢◌, ℕ, ◌+◌, ◌<◌, ◌≤◌, ◌⊎◌, true, List, length, replicate, slice_index, slice_set}
 use mathlib.Core.Option.{some}
 use lib.ListN.{get_elem?}

@@ -158,7 +158,7 @@ pub record HasReclaimed (old new : HeldState) (count : ℕ) : Type 0 where
   pub others : new ≡ record old { region = new.region; passes = new.passes }
 
 -- no deletion was under way, the chunk was vetted for the region's limit, no chunk overlapped its span, it was created
--- in the region (`IsCreated`), all else is as before, and what was logged is a call of a history (`LogsCall` of
+-- in the region (`IsCreated`), all else is as before, and the entries logged are a call of a history (`LogsCall` of
 -- nc_calls)
 abbrev pub HasLoaded : MarkedChunk → HeldState → HeldState → Type 0
 HasLoaded v old new =
@@ -167,7 +167,7 @@ HasLoaded v old new =
     × ((seats : ℕ) → LogsCall seats (record no_details { marks = v.marks }) old.region new.region)
 
 -- no deletion was under way, a lawful patch (`IsPatch`) was made in the region (`IsModified`), all else is as before,
--- and what was logged is a call of a history (`LogsCall` of nc_calls)
+-- and the entries logged are a call of a history (`LogsCall` of nc_calls)
 abbrev pub HasPatched : ℕ → List ℕ → HeldState → HeldState → Type 0
 HasPatched at bytes old new =
     (old.begun ≡ None) × IsPatch old.region at bytes × IsModified old.region new.region at bytes × (new ≡ record old { region = new.region })

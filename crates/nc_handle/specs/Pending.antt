@@ -1,4 +1,4 @@
--- What a call by a handle leaves to be made, and how a host reads it in a buffer.
+-- The events that a call by a handle leaves to be made, and how a host reads them in a buffer.
 use Rattle.std.specs.Prelude.{◌≡◌, ℕ, ◌+◌, ◌-◌, ◌/◌, ◌%◌, ◌<◌, ◌==◌, ⊤, if◌then◌else◌, List, [], ◌∷◌, ◌++◌, All, length, take, drop, replicate, None}
 use Rattle.std.specs.List.{flat_map}
 use Rattle.nc_vet.specs.Chunk.{MarkedChunk}
@@ -36,7 +36,7 @@ events_pending v acts = flat_map (events_pending_by v) acts
 abbrev pub ChangesPages : HeldState → HeldState → Type 0
 ChangesPages old new = new ≡ record old { region = record old.region { made = new.region.made } }
 
--- An accepted call by a handle that changes the region: what the library keeps before and after it, and the events that are
+-- An accepted call by a handle that changes the region: the library's state before and after it, and the events that are
 -- pending then, which have to happen before the next such call. `Changes` is a call of a history (`IsCall` of nc_calls),
 -- with its own events. `Begins` is the first call of a deletion, with its events up to the stamp; `Ends` is its last call,
 -- with the stamp.
@@ -48,7 +48,7 @@ pub data IsHeldCall (seats : ℕ) (old new : HeldState) (pending : List Event) :
   Ends : (stamp : ℕ) (is : HasEnded old new stamp) → pending ≡ Retires is.chunk.base is.chunk.length ∷ []
       → IsHeldCall seats old new pending
 
--- If a buffer was lent, its first `count` elements now are what is pending after the call, for a host that knows this chunk.
+-- If a buffer was lent, its first `count` elements now are the events pending after the call, for a host that knows this chunk.
 pub record TellsPending (old new : HeldState) (v : MarkedChunk) (lent now : List NcAct) (count : ℕ) : Type 0 where
   pub pending : (seats : ℕ) → 0 < length lent → IsHeldCall seats old new (events_pending v (take count now))
 

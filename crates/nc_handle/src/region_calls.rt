@@ -172,7 +172,7 @@ impl Held {
         ensures log { OnOk result (Logs self.old.region.logged self.new.region.logged (log_of_create vetted.base vetted.code)) }
         ensures call { (seats : ℕ) → OnOk result
             (LogsCall seats (record no_details { marks = vetted.marks }) self.old.region self.new.region) }
-        // What the buffer then has is pending.
+        // The acts in the buffer are then pending.
         ensures pending { IfOk result (TellsPending self.old self.new vetted acts.old acts.new) }
         // The chunk is returned, and the buffer is as it was.
         ensures unchanged { IfErr result (λ e. (e.0 ≡ vetted) × IsNotLoaded self.old self.new vetted e.1) }
@@ -216,7 +216,7 @@ impl Held {
         ensures log { OnOk result ((news : List Piece) → AreBytesOf new.now news
             → Logs self.old.region.logged self.new.region.logged (log_of_modify self.old.region.marked.bytes at news)) }
         ensures call { (seats : ℕ) → OnOk result (LogsCall seats no_details self.old.region self.new.region) }
-        // What the buffer then has is pending.
+        // The acts in the buffer are then pending.
         ensures pending { (v : MarkedChunk) → IfOk result (TellsPending self.old self.new v acts.old acts.new) }
         ensures unchanged { OnErr result (self.new ≡ self.old) }
         ensures untouched { OnErr result (acts.new ≡ acts.old) }
@@ -238,7 +238,7 @@ impl Held {
     pub fn end_delete(&mut self) -> Option<u64>
         // While a deletion is under way, it is never refused. The acts of the deletion are logged now, the stamp last.
         ensures ended { IfSome result (HasEnded self.old self.new) }
-        // What is pending is the stamp, which the library draws itself.
+        // Only the stamp is pending, which the library draws itself.
         ensures pending { (seats : ℕ) → OnSome result (DoesItself seats self.old self.new) }
         ensures none { IsNone result ↔ (self.old.begun ≡ None) }
         ensures unchanged { IsNone result → self.new ≡ self.old }
@@ -271,7 +271,7 @@ impl Held {
         ensures allowed { IfOk result (λ r. ¬ IsShort (length acts.old) (r.0.length + 2)) }
         // The acts written are those of a deletion, by the region's own marks, with the settling.
         ensures told { IfOk result (λ r. IsTold acts.old acts.new r.1 (log_of_delete self.old.region.marked.marks base r.0.length)) }
-        // What the buffer then has, up to the stamp, is pending.
+        // The acts in the buffer, up to the stamp, are then pending.
         ensures pending { (v : MarkedChunk) → IfOk result (λ r. TellsPending self.old self.new v acts.old acts.new r.1) }
         ensures unchanged { OnErr result (self.new ≡ self.old) }
         ensures untouched { OnErr result (acts.new ≡ acts.old) }

@@ -16,7 +16,7 @@ use nc_region::Acts;
 use std::alloc::Global;
 use std::sync::Arc;
 
-/// The seat of a pass in a box, with a share of its table. The pass is returned where there is no memory.
+/// The seat of a pass in a box, with a share of its table. If there is no memory, the pass is returned.
 fn boxed(alloc: Global, gens: &Arc<Gens, Global>, pass: Pass) -> Result<Box<Guest, Global>, Pass>
     requires { pass.table ≡ arc_value gens.now }
     ensures boxed { IfOk result (λ guest. guest.value ≡ pass) }

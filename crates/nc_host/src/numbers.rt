@@ -50,7 +50,7 @@ pub(crate) fn seat_number(fault: SeatFault) -> u32
     }
 }
 
-/// The number of a refused creation, with the number of acts needed where there is no room.
+/// The number of a refused creation, with the number of acts needed if there is no room.
 pub(crate) fn load_numbers(fault: LoadFault) -> (u32, usize)
     ensures { (result.0 ≡ load_number fault) × (result.1 ≡ load_wanted fault) }
 {
@@ -77,7 +77,7 @@ fn patch_number(fault: ModifyFault) -> u32
     }
 }
 
-/// The number of a refused patch, with the number of acts needed where there is no room.
+/// The number of a refused patch, with the number of acts needed if there is no room.
 pub(crate) fn modify_numbers(fault: PatchFault) -> (u32, usize)
     ensures { (result.0 ≡ modify_number fault) × (result.1 ≡ modify_wanted fault) }
 {
@@ -88,7 +88,7 @@ pub(crate) fn modify_numbers(fault: PatchFault) -> (u32, usize)
     }
 }
 
-/// The number of a deletion that doesn't begin, with the number of acts needed where there is no room.
+/// The number of a deletion that doesn't begin, with the number of acts needed if there is no room.
 pub(crate) fn retire_numbers(fault: RetireFault) -> (u32, usize)
     ensures { (result.0 ≡ retire_number fault) × (result.1 ≡ retire_wanted fault) }
 {

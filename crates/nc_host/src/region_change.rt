@@ -90,7 +90,7 @@ pub extern "C" fn nc_region_create(
         (λ old new. (v : MarkedChunk) × IsChunkFor old base code.now v × HasLoaded v old new) }
     // The acts written are those of a creation, with the settling.
     ensures told { result.fault ≡ 0 → IsTold acts.old acts.new result.count (log_of_create base code.now) }
-    // What the buffer then has is pending, for a chunk of this code.
+    // The acts in the buffer are then pending, for a chunk of this code.
     ensures pending { result.fault ≡ 0 → IsDone region.old.value region.new.value (λ old new. (v : MarkedChunk) × (v.base ≡ base)
         × (v.code ≡ code.now) × TellsPending old new v acts.old acts.new result.count) }
     ensures untouched { 0 < result.fault → acts.new ≡ acts.old }
@@ -154,7 +154,7 @@ pub extern "C" fn nc_region_patch(
     // The acts written are those of a patch of the region's own bytes, with the settlings.
     ensures told { result.fault ≡ 0 → (h : HeldState) (news : List Piece) → region.old.value ≡ Some h → AreBytesOf bytes.now news
         → IsTold acts.old acts.new result.count (log_of_modify h.region.marked.bytes at news) }
-    // What the buffer then has is pending.
+    // The acts in the buffer are then pending.
     ensures pending { (v : MarkedChunk) → result.fault ≡ 0 → IsDone region.old.value region.new.value
         (λ old new. TellsPending old new v acts.old acts.new result.count) }
     ensures untouched { 0 < result.fault → acts.new ≡ acts.old }

@@ -50,7 +50,7 @@ pub extern "C" fn nc_region_begin_delete(
     // The acts written are those of a deletion, by the region's own marks, with the settling.
     ensures begun { result.fault ≡ 0 → IsDone region.old.value region.new.value (λ old new. (c : Chunk) × HasBegun old new base c
         × IsTold acts.old acts.new result.count (log_of_delete old.region.marked.marks base c.length)) }
-    // What the buffer then has, up to the stamp, is pending.
+    // The acts in the buffer, up to the stamp, are then pending.
     ensures pending { (v : MarkedChunk) → result.fault ≡ 0 → IsDone region.old.value region.new.value
         (λ old new. TellsPending old new v acts.old acts.new result.count) }
     ensures untouched { 0 < result.fault → acts.new ≡ acts.old }
@@ -73,7 +73,7 @@ pub extern "C" fn nc_region_begin_delete(
 #[unsafe(no_mangle)]
 pub extern "C" fn nc_region_end_delete(alloc: Global, region: &mut NcRegion) -> NcStamp
     ensures ended { result.fault ≡ 0 → IsDone region.old.value region.new.value (λ old new. HasEnded old new result.stamp) }
-    // What is pending is the stamp, which the library has drawn itself.
+    // Only the stamp is pending, which the library has drawn itself.
     ensures pending { (seats : ℕ) → result.fault ≡ 0 → IsDone region.old.value region.new.value (DoesItself seats) }
     ensures unchanged { 0 < result.fault → (result.stamp ≡ 0) × (region.new.value ≡ region.old.value) }
     ensures refused { 0 < result.fault → ((result.fault ≡ 32) × (region.old.value ≡ None))

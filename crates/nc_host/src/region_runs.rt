@@ -13,7 +13,7 @@ use crate::region_answers::{NcChange, no_change};
 use nc_handle::{NcAct, NcRegion, RunsFault};
 use std::alloc::Global;
 
-/// The result of a call for runs, with this number where there is no chunk.
+/// The result of a call for runs, with this number if there is no chunk.
 fn answer(told: Result<usize, RunsFault>, none: u32) -> NcChange
     ensures told { IfOk told (λ count. result ≡ record { fault = 0; at = 0; count = count }) }
     ensures refused { IfErr told (λ f. result ≡ record { fault = runs_number none f; at = 0; count = runs_wanted f }) }

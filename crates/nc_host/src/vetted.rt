@@ -118,7 +118,7 @@ pub extern "C" fn nc_region_load(
     ensures created { result.fault ≡ 0 → (vetted.new.value ≡ None) × ((k : Kept) × (vetted.old.value ≡ Some k)
         × ((v : MarkedChunk) × (k.chunk ≡ Some v) × IsDone region.old.value region.new.value (HasLoaded v)
         × IsTold acts.old acts.new result.count (log_of_create v.base v.code))) }
-    // What the buffer then has is pending, for this chunk.
+    // The acts in the buffer are then pending, for this chunk.
     ensures pending { result.fault ≡ 0 → (k : Kept) × (vetted.old.value ≡ Some k) × ((v : MarkedChunk) × (k.chunk ≡ Some v)
         × IsDone region.old.value region.new.value (λ old new. TellsPending old new v acts.old acts.new result.count)) }
     ensures untouched { 0 < result.fault → (acts.new ≡ acts.old) × (vetted.new.value ≡ vetted.old.value) }

@@ -8,7 +8,7 @@ use Rattle.nc_calls.specs.Calls.{KnowsNoMore}
 use Rattle.nc_handle.specs.Held.{HeldState, IsFirst}
 use Rattle.nc_handle.specs.Pending.{IsHeldCall}
 
--- What the library keeps for the host's handle; the world of the host's memory, whose text is what was stored there; and the
+-- The library's state for the host's handle; the world of the host's memory, whose text is the bytes stored there; and the
 -- pending events, in their order. These are the stores and settlings that the host was told and hasn't made yet, or the
 -- library's own steps.
 pub record Host : Type 0 where

@@ -26,10 +26,11 @@ ghost use Rattle.nc_hosts.specs.Hosts.{Host, IsStep, IsReached};
 ///   no other;
 /// - the text of the handle's region is confined.
 ///
-/// A host (`specs/Hosts`) makes what is pending one by one and in order, and makes no call that may change the region before it has
-/// made all of it. While a deletion is under way it may make all of the deletion's stores and its settling again. What is pending is what it
-/// reads in the buffer that it lent, or what the library does itself (`TellsPending`, `DoesItself` of `nc_handle`). A state is after each
-/// single store, so `stand` and `whole` are about every moment. The function does nothing when called.
+/// A host (`specs/Hosts`) makes the pending events one by one and in order, and makes no call that may change the region before it has
+/// made all of them. While a deletion is under way it may make all of the deletion's stores and its settling again. The pending events
+/// are those that it reads in the buffer that it lent (`TellsPending` of `nc_handle`), or those that the library makes itself
+/// (`DoesItself`). There is a state after each single store, so `stand` and `whole` are about every moment. The function does nothing
+/// when called.
 ///
 /// Its assumptions are in `ThreadMay`, `IsStep`, `HasFound` and `IsReached`:
 ///

@@ -1,4 +1,4 @@
--- Chunks by ascending base: which has a place, which are due, and what a call leaves.
+-- Chunks by ascending base: the chunk of a place, the chunks that are due, and the list that each call leaves.
 use Rattle.std.specs.Prelude.{◌≡◌, ℕ, ◌+◌, ◌<◌, ◌≤◌, ◌⊎◌, ⊤, Bool, false, not, nat_le, List, [], ◌∷◌, ◌++◌, length, take, drop, filter, Contains}
 use Rattle.std.specs.List.{insert}
 use Rattle.nc_list.specs.declared.chunk.Chunk.{Chunk}

@@ -1,4 +1,4 @@
--- What an entry stands for.
+-- Entries, and the chunks for which they stand.
 use Rattle.std.specs.Prelude.{◌≡◌, ℕ, Bool, true, false, nat_eq, if◌then◌else◌, refl}
 use Rattle.std.proofs.Common.{sym, ap}
 use Rattle.std.proofs.lemmas.Bool.{eqb-true}

@@ -54,8 +54,8 @@ pub record IsPartFor (parts : List (List Chunk)) (k at : ℕ) : Type 0 where
   pub below : IsAboveAll at (all_of (take k parts))
   pub above : BeginAbove at (all_of (drop (k + 1) parts))
 
--- What a row knows of its parts: how many chunks stand before each, how many there are, where the first begins, and a lower bound
--- of stamps.
+-- A row's knowledge of its parts: the number of chunks before each, the number of all chunks, the base of the first, and a lower
+-- bound of stamps.
 pub record IsRow (parts : List (List Chunk)) (starts : List ℕ) (count first oldest : ℕ) : Type 0 where
   pub starts_are : starts ≡ starts_of 0 parts
   pub some : HaveSome parts

@@ -1,10 +1,10 @@
-//! Where a search has ended.
+//! The place at which a search has ended.
 
 /// The number of bits of an index.
 const BITS: u32 = 20;
 
-/// Where a search of a list ended. Calls that are given the place for their base find it at once. Any other place, such as that of
-/// another base or of a list that has changed, costs them only a search.
+/// The place at which a search of a list ended. Calls that are given the place for their base find it at once. Any other place, such
+/// as that of another base or of a list that has changed, costs them only a search.
 #[derive(Clone, Copy, Drop)]
 pub struct Place {
     /// The index of the part in its row, from the root down, and then the index in the leaf, `BITS` bits each.

@@ -1,4 +1,4 @@
--- What the name of an instruction adds to a text.
+-- The text that the name of an instruction adds.
 use Rattle.std.specs.Prelude.{◌≡◌, ℕ, ◌≤◌, List, ◌++◌, Bool, true, length, nat_le, nat_lt, ◌&&◌}
 use Rattle.std.specs.List.{list_all}
 

@@ -22,7 +22,7 @@ use Rattle.nc_region.specs.Chunks.{HasGoodSpan}
 use Rattle.nc_region.specs.Log.{acts_in}
 use Rattle.nc_region.specs.Each.{Each}
 
--- What contracts see of a region: bytes and marks, which pages are made, the chunks by ascending base, the keeper, and the
+-- A region as contracts see it: bytes and marks, which pages are made, the chunks by ascending base, the keeper, and the
 -- entries logged so far, which are acts and settlings
 pub record Region : Type 0 where
   pub marked : MarkedText
@@ -35,7 +35,7 @@ pub record Region : Type 0 where
 abbrev pub told : Region → List Act
 told r = acts_in r.logged
 
--- what contracts see of a `PlainOf`: bytes and marks, which pages are made, the keeper, and the entries logged so far
+-- a `PlainOf` as contracts see it: bytes and marks, which pages are made, the keeper, and the entries logged so far
 pub record PlainState : Type 0 where
   pub marked : MarkedText
   pub made : List Bool

@@ -295,7 +295,7 @@ impl<A: Acts + Drop> RegionOf<A> {
     }
 
     /// Looks at the seats' words, as `Gens::look` does. Unmarks every retired chunk with a stamp of at most the number that the look
-    /// returns, in ascending order, removes these chunks from the list, and returns how many they are. Their spans may be used
+    /// returns, in ascending order, removes these chunks from the list, and returns their number. Their spans may be used
     /// again. No memory is allocated, and the call can't fail.
     ///
     /// Not promised: that any chunk is ever freed. A seat that neither checks in nor leaves holds back every later stamp.

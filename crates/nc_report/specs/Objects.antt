@@ -17,7 +17,7 @@ escaped byte =
 abbrev pub string_of : List ℕ → List ℕ
 string_of bytes = 0x22 ∷ (flat_map escaped bytes ++ 0x22 ∷ [])
 
--- What a text of JSON is: a whole value; or members of an object, or elements of an array, each of them after a comma.
+-- The kind of a text of JSON: a whole value; or members of an object, or elements of an array, each of them after a comma.
 pub data Part : Type 0 where
   Whole : Part
   InObject : Part

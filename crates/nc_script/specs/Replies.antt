@@ -26,7 +26,7 @@ chunk_words chunk = 32 ∷ (address_digits chunk.base ++ state_words chunk.state
 abbrev pub dump_reply : List ScriptChunk → List ℕ
 dump_reply chunks = codes "dump" ++ flat_map chunk_words chunks
 
--- one chunk, as in the list; or `none`, where there is no chunk
+-- one chunk, as in the list; or `none`, if there is no chunk
 abbrev pub chunk_reply : Option ScriptChunk → List ℕ
 chunk_reply None = codes "none"
 chunk_reply (Some chunk) = codes "chunk" ++ chunk_words chunk

@@ -11,7 +11,7 @@ use Rattle.nc_decode.specs.Profiles.{Profile, profile}
 use Rattle.nc_decode.specs.Spelling.{SpellsBy}
 use Rattle.nc_decode.specs.Transfers.{is_direct, is_indirect, target}
 
--- one instruction of a chunk: its bytes, and what they mean for control
+-- one instruction of a chunk: its bytes, and their effect on control
 pub record Piece : Type 0 where
   pub bytes : List ℕ
   pub instr : Instr

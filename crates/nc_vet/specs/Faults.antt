@@ -9,7 +9,7 @@ use Rattle.nc_vet.specs.declared.fault.VetFault.TheVariants.{BadBase, BadLength,
 use Rattle.nc_vet.specs.declared.fault.VetFault.TheVariants.{OutOfMemory}
 use Rattle.nc_vet.specs.Chunk.{Piece, code_of, place, AreSound, IsTarget, IsBase, IsLength, IsInRange}
 
--- the code begins with these sound instructions, and `rest` is what follows them
+-- the code begins with these sound instructions, and `rest` follows them
 pub record IsSoundFront (code rest : List ℕ) (front : List Piece) : Type 0 where
   pub parts : code ≡ code_of front ++ rest
   pub sound : AreSound front
