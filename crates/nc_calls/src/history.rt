@@ -15,7 +15,7 @@ ghost use Rattle.nc_calls.specs.Whole.{AllFetchWhole};
 /// whatever its threads do between any two acts:
 ///
 /// - after every event each thread inside is, in every view, at a permitted instruction that isn't barred and lies wholly
-///   inside its bundle (at an indirect jump or call only with its register just masked), or at a bundle start of the zone;
+///   inside its bundle, or at a bundle start of the zone; it is at an indirect jump or call only with its register just masked;
 /// - if it is in the region, the instruction that it fetches, in any view, stood there, with all its bytes, in one of the
 ///   texts since the last settling;
 /// - when a retired span is freed, no thread is in it except possibly at a bundle start;

@@ -25,7 +25,7 @@ ghost use Rattle.nc_calls.specs.Calls.{KnowsNoMore, HasLedTo, create_events, mod
 ///
 /// Between two calls, and before the region was made, the keeper may act by itself: it draws a stamp for no span, it looks,
 /// or it meets a pass, which is a look at that pass's seat (`Looks`). Wherever the keeper looks, it is a premise that it then
-/// knows no more than the world's keeper (`KnowsNoMore`): it has the same generation, and found no seat's word to be greater
+/// knows no more than the world's keeper (`KnowsNoMore`). It has the same generation, and found no seat's word to be greater
 /// than it is at the world's last `Looks`. No contract says what a load returns. The generation is at most 2^62 for every
 /// keeper (`Keeper::generation`).
 ///

@@ -5,9 +5,9 @@
 //! stood there whole. `docs/THEOREM.md` walks through it.
 //!
 //! `law_of_schedules` of `nc_region` says that no list of allowed events brings a thread to a state that isn't safe; the
-//! contracts of a region's calls say which acts each makes, and where it settles. [`law_of_calls`] joins them: the acts
-//! and settlings of a call, with whatever the threads do between any two of them, are allowed events of a world that stands
-//! for the region, and leave a world that stands for the region after the call. Further clauses cover the keeper by itself,
+//! contracts of a region's calls say which acts each makes, and where it settles. [`law_of_calls`] joins them. In a
+//! world that stands for the region, the acts and settlings of a call are allowed events, with whatever the threads do between
+//! any two of them. They leave a world that stands for the region after the call. Further clauses cover the keeper by itself,
 //! before and after the region is made, and refused calls. Whatever is proved about every schedule therefore holds for every
 //! history of a region.
 //!
@@ -24,9 +24,10 @@
 //! law_of_example();
 //! ```
 //!
-//! `specs/Weaving` separates the writer's events from those of the threads, `specs/Calls` turns the acts and settlings of each
-//! call into events, `specs/Views` says what is true in every view between two calls, `specs/Histories` defines a history,
-//! `specs/Whole` what it means that threads fetch whole instructions, and `specs/Example` a chunk's life in a history.
+//! - `specs/Weaving` separates the writer's events from those of the threads.
+//! - `specs/Calls` turns the acts and settlings of each call into events.
+//! - `specs/Views` has the properties of every view between two calls.
+//! - `specs/Histories` defines a history, `specs/Whole` that threads fetch whole instructions, and `specs/Example` a chunk's life.
 #![tactic(auto)]
 
 mod calls;

@@ -34,8 +34,8 @@ impl Gens {
         Ok(keeper.generation)
     }
 
-    /// Loads each seat's word, raises the keeper's bound for that seat to the number loaded, and
-    /// returns the least bound of the seats whose word it didn't find to be "left", or the
+    /// Loads each seat's word, and raises the keeper's bound for that seat to the number loaded.
+    /// Returns the least bound of the seats whose word it didn't find to be "left", or the
     /// generation if there are none. A span retired with a stamp of at most the result can be
     /// reclaimed: every seat has checked in since, or has left.
     ///

@@ -38,8 +38,8 @@ fn write_marks(buffer: &mut [u8], code: &[u8], marks: &Marks)
     }
 }
 
-/// Vets a chunk in place, and writes its marks, one byte for each of its bytes: 0 where control never is, 1 at the start of an
-/// instruction, 16 plus the number of the register at an indirect transfer, which directly follows its mask.
+/// Vets a chunk in place, and writes its marks, one byte for each of its bytes. A mark is 0 if control is never there, 1 at the start
+/// of an instruction, and 16 plus the number of the register at an indirect transfer, which directly follows its mask.
 ///
 /// If the buffer is shorter than the code of a valid chunk, the fault is 9. A refusal leaves the buffer as it was.
 #[unsafe(no_mangle)]

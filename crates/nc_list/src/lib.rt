@@ -13,7 +13,7 @@
 //! no memory.
 //!
 //! A chunk takes 16 bytes. Two neighbouring leaves have more than 48 chunks in room for 128, and two neighbouring rows more than
-//! 96 leaves in room for 256, so a list takes at most 48 bytes for each chunk once it has more than a leaf's.
+//! 96 leaves in room for 256. So a list takes at most 48 bytes for each chunk once it has more chunks than one leaf.
 #![tactic(auto)]
 
 mod chunk;

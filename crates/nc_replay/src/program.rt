@@ -40,8 +40,8 @@ impl Halt {
     }
 }
 
-/// Carries out the words of a command line, given without the program's own name: runs a script, of which at most `most` bytes of
-/// replies are held back and written together, or vets lines of chunks by workers.
+/// Carries out the words of a command line, given without the program's own name. It runs a script, and holds back at most `most`
+/// bytes of replies to write them together; or it vets lines of chunks by workers.
 pub fn start<'a, T: Threads + Wait + Sync, R: Read, W: Write>(
     rt: &T,
     alloc: Global,

@@ -132,8 +132,8 @@ ServesLine old line reply new =
 abbrev pub IsOnly : Request → Script → List ℕ → Script → Type 0
 IsOnly request old reply new = (other : List ℕ) (next : Script) → Serves request old other next → (other ≡ reply) × (next ≡ new)
 
--- The answer to the line is settled: the line isn't a reclaim, or no seat has left. (Once a seat has left, the number by which
--- a reclaim frees depends on when the keeper sees that.)
+-- The line has only one answer: it isn't a reclaim, or no seat has left. Once a seat has left, the number by which a reclaim
+-- frees depends on the moment at which the keeper sees that.
 abbrev pub IsSettled : Script → List ℕ → Type 0
 IsSettled old line = (request_in line ≢ Some Reclaim) ⊎ AllStay old
 

@@ -100,9 +100,9 @@ fn run_new<R: Read, W: Write>(
     }
 }
 
-/// As long as no seat leaves, the answers of a run depend on the script alone: lines have no other answers than those that a
-/// run wrote, a part that it wrote is a prefix of the answers to all lines, and a reclaim frees by the least number of all
-/// seats. A call does nothing.
+/// As long as no seat leaves, the answers of a run depend on the script alone. Lines have no other answers than those that a run
+/// wrote, and a part that it wrote is a prefix of the answers to all lines. A reclaim frees by the least number of all seats. The
+/// function does nothing when called.
 pub fn law_of_answers()
     ensures one_text { HasOneReply }
     ensures begins_all { BeginsAll }

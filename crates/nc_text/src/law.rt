@@ -16,9 +16,9 @@ pub fn law_of_closed()
 /// The consequence of confinement in the words of the headline, and the paths that there are. Calling this law does nothing.
 ///
 /// A path may begin at any bundle start of the region with nothing masked, and may continue by any step. In a confined text
-/// the place of each of its states has a permitted instruction wholly inside its bundle, which is not barred (no return, no
-/// interrupt, no segment override), with its register just masked if it is an indirect transfer, or is a bundle start below
-/// 00010000.
+/// the place of each of its states is a bundle start below 00010000, or has a permitted instruction wholly inside its bundle.
+/// That instruction isn't barred, so it is no return, no interrupt, and has no segment override. If it is an indirect transfer,
+/// its register has just been masked.
 pub fn law_of_paths()
     ensures stands { (text : List ℕ) (before after : List State) (now : State) → IsConfined text
         → IsPath text (before ++ now ∷ after) → Stands text now }

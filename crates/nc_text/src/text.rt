@@ -237,9 +237,9 @@ impl Text {
     /// Sets the marks of the span that begins at `at` and is as long as `marks`. No byte changes, and no mark outside the
     /// span. An empty span changes nothing, wherever `at` is.
     ///
-    /// The conditions are that the span is in the region, that its places are ready, that the registers given are 0 to 7,
-    /// that each marked place keeps its mark or becomes `Plain`, so that the state of every thread stays admitted, and that
-    /// the result is closed.
+    /// The conditions are that the span is in the region, that its places are ready, that the registers given are 0 to 7, and
+    /// that the result is closed. Each marked place must also keep its mark or become `Plain`, so that the state of every thread
+    /// stays admitted.
     pub fn mark_span(&mut self, at: u32, marks: &[Mark])
         requires inside { SpanInRegion self.old.marked.bytes at (length marks.now) }
         requires ready { AreReady self.old.made at (length marks.now) }

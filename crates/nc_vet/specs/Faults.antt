@@ -22,9 +22,9 @@ IsLongest code front = (other : List Piece) (rest : List ℕ) → IsSoundFront c
 abbrev pub bundle_rest : ℕ → List ℕ → List ℕ
 bundle_rest at rest = take (32 - at % 32) rest
 
--- The bytes after the sound instructions, up to the end of the bundle, begin with a whole instruction (`Bare`: if `front`
--- is the longest, it is an indirect transfer without its mask), are only the beginning of one (`Crosses`), or neither
--- (`NotPermitted`). The fault has the address of that place.
+-- The bytes after the sound instructions, up to the end of the bundle, begin with a whole instruction (`Bare`), are only the
+-- beginning of one (`Crosses`), or neither (`NotPermitted`). If `front` is the longest, that whole instruction is an indirect
+-- transfer without its mask. The fault has the address of that place.
 abbrev pub StandsAfter : ℕ → List Piece → List ℕ → VetFault → Type 0
 StandsAfter base front rest (Bare at) = (at ≡ base + place front) × ((i : Instr) × IsAtFront (bundle_rest (place front) rest) i)
 StandsAfter base front rest (Crosses at) = (at ≡ base + place front) × IsProperFront (bundle_rest (place front) rest)

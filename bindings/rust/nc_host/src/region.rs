@@ -180,8 +180,8 @@ fn runs<'b>(region: &Region, buffer: &'b mut [RawAct]) -> Result<Acts<'b>, Fault
 /// A deletion between its two steps. The host makes its acts, and then calls [`finish`](Deletion::finish).
 ///
 /// Meanwhile the region is borrowed. A guard that is dropped or forgotten draws no stamp, since a stamp that was drawn before the stops are in
-/// the host's memory would free the span while a thread is in it: the region then refuses changes with [`Fault::UnderWay`], until the deletion
-/// is taken up again by [`Region::resume_delete`]. The last call can't be made twice:
+/// the host's memory would free the span while a thread is in it. The region then refuses changes with [`Fault::UnderWay`], until
+/// [`Region::resume_delete`] takes the deletion up again. The last call can't be made twice:
 ///
 /// ```compile_fail,E0382
 /// fn end_twice(deletion: nc_host::Deletion<'_>) {

@@ -7,9 +7,12 @@
 //! can do with it: calls, and reading and writing its memory. Call-backs are closures, which get a [`Caller`] that can do the same. A
 //! [`Killer`] ends calls from other threads.
 //!
-//! What the header asks of its caller is kept by types, but for this, which stays with the host: its handlers of signals have `SA_ONSTACK`,
-//! it leaves the library's own signals and alternate stacks alone, it makes no call from a signal handler, and it judges what comes out of
-//! a box. Results, arguments of call-backs and bytes of a box's memory may be anything.
+//! Types keep most of what the header asks of its caller. The rest stays with the host:
+//!
+//! - Its handlers of signals have `SA_ONSTACK`.
+//! - It leaves the library's own signals and alternate stacks alone.
+//! - It makes no call from a signal handler.
+//! - It judges what comes out of a box. Results, arguments of call-backs and bytes of a box's memory may be anything.
 //!
 //! ```
 //! use nc_sandbox::{Access, At, Limits, Module, Sandbox};
