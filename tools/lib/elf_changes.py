@@ -9,9 +9,9 @@ from elf_files import FORMAT, MACHINE, SEGMENT, SYMBOLS, STRINGS, TABLE, UNLINKE
 TABLE_OF_HEADERS = 6
 TYPE = "neither an executable file nor a shared object"
 HEADER = "the file ends in its ELF header"
-NO_CODE = "no executable segment"
+NO_CODE = "no loaded segment is executable and has bytes in the file"
 BEYOND_FILE, BEYOND_MEMORY = "reaches beyond the end of the file", "has more bytes in the file than in memory"
-WRAPS, OUT_OF_ORDER = "wraps around the end of the addresses", "overlaps an earlier segment or lies below it"
+WRAPS, OUT_OF_ORDER = "ends above the last address, ffffffff", "overlaps an earlier segment or lies below it"
 WRITABLE, UNFILLED = "is both writable and executable", "is executable and has bytes in memory that aren't in the file"
 
 # A file of 256 bytes: the ELF header, four program headers from 52 on (their own table, code at 00010000, data at 00020000, code at

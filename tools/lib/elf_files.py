@@ -79,7 +79,7 @@ UNLINKED = "not linked: link it with nc-cc, or with ld -T chunk.ld"
 WIDE = "a 64-bit file: compile its source with nc-cc"
 MACHINE = "not for the Intel 80386: compile its source with nc-cc"
 FORMAT = "not a 32-bit little-endian ELF file of version 1"
-TABLE = "bad table of program headers"
+TABLE = "the program headers aren't 32 bytes long, are 65535 or more, or aren't all in the file"
 SEGMENT = "the segment of program header %d %s"
 
 # Three segments of code with returns, and symbols: one below the first segment, two at one address, of which the later one in the table
@@ -88,7 +88,7 @@ UNNAMED = elf(segment(0x10000, NOPS[3:] + RET[:1] + NOPS[1:] + RET[:1] + NOPS[:2
 NAMED = with_symbols(UNNAMED, (0x10020, b"late", FUNCTION, 1), (0xFFFF, b"below", FUNCTION, 1), (0x10004, b"early", UNTYPED, 1),
                      (0x10004, b"again", FUNCTION, 1), (0x10010, b"table", OBJECT, 1), (0x10018, b"extern", FUNCTION, 0),
                      (0x10060, b"next", FUNCTION, 1), (0x10080, b"between", FUNCTION, 1))
-RETURN = "a return (ret): compile with nc-cc, or pop the address into a register, mask it, and jump through it: see docs/GUIDE.md"
+RETURN = "a return (ret): compile with nc-cc, or pop the address into a register, mask it, and jump through it; see docs/GUIDE.md"
 # the faults of that file: for each segment its address, and for each fault its address, the name of that, and its bundle
 FAULTS = [
     (0x10000, [(0x1001D, "again+0x19", listed(0x10000, "29 x 90 = nop", "> c3", "2 x 90 = nop")),
@@ -154,14 +154,14 @@ MALFORMED = [
      SEGMENT % (0, "has more bytes in the file than in memory")),
     ("more bytes of code in memory", elf(segment(0x10000, NOPS, R | X, memory_len=64)),
      SEGMENT % (0, "is executable and has bytes in memory that aren't in the file")),
-    ("addresses that wrap around", elf(CODE, segment(0xFFFFFFF0, NOPS, R)), SEGMENT % (1, "wraps around the end of the addresses")),
+    ("addresses that wrap around", elf(CODE, segment(0xFFFFFFF0, NOPS, R)), SEGMENT % (1, "ends above the last address, ffffffff")),
     ("writable code", elf(CODE, segment(0x10020, NOPS, R | W | X)), SEGMENT % (1, "is both writable and executable")),
     ("overlapping segments", elf(CODE, segment(0x1001F, b"x", R)), SEGMENT % (1, "overlaps an earlier segment or lies below it")),
     ("data over the code that memory has", elf(CODE, segment(0x10020, b"", R | W, memory_len=64), segment(0x10040, NOPS, R | X)),
      SEGMENT % (2, "overlaps an earlier segment or lies below it")),
-    ("no segment", elf(), "no executable segment"),
-    ("no code", elf(DATA), "no executable segment"),
-    ("code without bytes", elf(segment(0x10000, b"", R | X)), "no executable segment"),
+    ("no segment", elf(), "no loaded segment is executable and has bytes in the file"),
+    ("no code", elf(DATA), "no loaded segment is executable and has bytes in the file"),
+    ("code without bytes", elf(segment(0x10000, b"", R | X)), "no loaded segment is executable and has bytes in the file"),
 ]
 
 
@@ -193,7 +193,7 @@ def try_elf_files(trials):
         '{"file":"file","address":"00010000","verdict":"ok","bytes":32,"instructions":32}\n'
         '{"file":"file","address":"00010040","verdict":"ok","bytes":64,"instructions":64}\n'
         '{"file":"file","address":"000200a0","verdict":"refused","fault":"NotPermitted","at":"000200a0","meaning":'
-        '"a return (ret): compile with nc-cc, or pop the address into a register, mask it, and jump through it: see docs/GUIDE.md",'
+        '"a return (ret): compile with nc-cc, or pop the address into a register, mask it, and jump through it; see docs/GUIDE.md",'
         + nops_around(0x200A0) + "}\n", "", 1))
     trials.lay("file", elf(CODE, DATA))
     trials.lay("elsewhere", elf(segment(0x20000, NOPS, R | X), segment(0x10000, NOPS, R | X)))

@@ -34,7 +34,7 @@ impl Unread {
             Unread::Denied => "cannot be read: permission denied",
             Unread::Directory => "cannot be read: it is a directory",
             Unread::Failed => "cannot be read",
-            Unread::TooLong => "longer than the largest region",
+            Unread::TooLong => "longer than the largest region, 67108864 bytes",
             Unread::OutOfMemory => "out of memory",
         }
     }

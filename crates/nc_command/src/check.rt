@@ -33,7 +33,7 @@ static CHECK: Program = Program {
             },
             Word {
                 name: "raw",
-                help: "Judge each file as raw code, also one that begins as an ELF file",
+                help: "Judge each file as raw code, even one that begins as ELF files do",
                 ..FLAG
             },
             Word { defaults: &["2097152"], ..BUNDLES },
@@ -46,13 +46,13 @@ static CHECK: Program = Program {
             Word {
                 name: "all",
                 conflicts: &["quiet"],
-                help: "Also write each further fault, and how many there are",
+                help: "Also write each further fault, and the number of faults",
                 ..FLAG
             },
             Word {
                 name: "calls",
                 conflicts: &["quiet", "all"],
-                help: "Also write the addresses outside an accepted file that it jumps to and calls (00000000: unresolved symbols)",
+                help: "Also write the outside addresses that an accepted file jumps to or calls; 00000000 stands for unresolved symbols",
                 ..FLAG
             },
             Word {
@@ -60,7 +60,7 @@ static CHECK: Program = Program {
                 value_names: &["FORMAT"],
                 parser: ValueParser::Names(&["text", "json"]),
                 defaults: &["text"],
-                help: "How the verdicts are written",
+                help: "Form of the verdicts",
                 ..OPTION
             },
             Word {

@@ -34,7 +34,7 @@ const SEATS: Word = Word {
 /// The flag by which bad lines and refusals are explained.
 const EXPLAIN: Word = Word {
     name: "explain",
-    help: "Say on standard error what is wrong with each bad line, and why each refusal",
+    help: "Explain each bad line and each refusal on standard error",
     ..FLAG
 };
 
@@ -50,7 +50,7 @@ const STRICT: Word = Word {
 static REPLAY: Program = Program {
     usage: Usage {
         name: "nc_replay",
-        about: "Validator and code region for untrusted 32-bit x86 code",
+        about: "Run a script on a code region, or vet chunks of 32-bit x86 code",
         words: &[],
     },
     subcommands: &[

@@ -12,7 +12,7 @@ pub enum SegmentFault {
     #[error("has more bytes in the file than in memory")]
     BeyondMemory,
     /// It ends above the last address.
-    #[error("wraps around the end of the addresses")]
+    #[error("ends above the last address, ffffffff")]
     Wraps,
     /// It overlaps an earlier loaded segment, or is below one.
     #[error("overlaps an earlier segment or lies below it")]
@@ -50,13 +50,13 @@ pub enum ElfFault {
     #[error("neither an executable file nor a shared object")]
     OtherType,
     /// The program headers aren't 32 bytes long, are too many for the header's count, or aren't all in the file.
-    #[error("bad table of program headers")]
+    #[error("the program headers aren't 32 bytes long, are 65535 or more, or aren't all in the file")]
     BadTable,
     /// A loaded segment has a fault. It is the first such segment; `number` is that of its program header, counted from 0.
     #[error("the segment of program header {number} {fault}")]
     BadSegment { number: usize, fault: SegmentFault },
     /// No loaded segment is executable and has bytes in the file.
-    #[error("no executable segment")]
+    #[error("no loaded segment is executable and has bytes in the file")]
     NoCode,
     /// There was no memory for the list.
     #[error("out of memory")]

@@ -46,7 +46,7 @@ pub(crate) const CUT_PREFIX: &[u8] =
     b"a prefix is the last byte of its bundle: compile with nc-cc, or write rep movsl, not rep; movsl, and assemble with .bundle_align_mode 5";
 /// An indirect transfer without its mask.
 pub(crate) const BARE: &[u8] =
-    b"an indirect jump or call without its mask: compile with nc-cc, or put andl $-32 on its register directly before it, in its bundle: see docs/GUIDE.md";
+    b"an indirect jump or call without its mask: compile with nc-cc, or put andl $-32 on its register directly before it, in its bundle; see docs/GUIDE.md";
 /// A direct transfer whose target is not allowed.
 pub(crate) const BAD_TARGET: &[u8] =
     b"a direct jump or call must go to the start of an instruction that is no second half of a pair, or out of the code to a bundle start below the region's end; a wrong --base shows as this fault too";
@@ -62,21 +62,21 @@ pub(crate) const INSIDE: &[u8] = b"inside the instruction at ";
 pub(crate) const SECOND_HALF: &[u8] = b"the second half of the pair whose mask begins at ";
 /// The words after the number of bundles that begin inside an instruction and the number of all bundles.
 pub(crate) const NOT_IN_BUNDLES: &[u8] =
-    b" bundle starts lie inside an instruction; compile with nc-cc, or assemble with .bundle_align_mode 5: see docs/GUIDE.md";
+    b" bundle starts lie inside an instruction; compile with nc-cc, or assemble with .bundle_align_mode 5; see docs/GUIDE.md";
 /// There was no memory.
 pub(crate) const NO_MEMORY: &[u8] = b"there was no memory for vetting";
 
 pub(crate) const RETURN: &[u8] =
-    b"a return (ret): compile with nc-cc, or pop the address into a register, mask it, and jump through it: see docs/GUIDE.md";
+    b"a return (ret): compile with nc-cc, or pop the address into a register, mask it, and jump through it; see docs/GUIDE.md";
 
 pub(crate) const FAR: &[u8] =
     b"a far transfer (lcall, ljmp, lret, iret): use near calls and jumps, and a masked jump in place of a return";
 
 pub(crate) const CALL_THROUGH_MEMORY: &[u8] =
-    b"a call through memory: compile with nc-cc, or load the address into a register, mask it, and call through it: see docs/GUIDE.md";
+    b"a call through memory: compile with nc-cc, or load the address into a register, mask it, and call through it; see docs/GUIDE.md";
 
 pub(crate) const JUMP_THROUGH_MEMORY: &[u8] =
-    b"a jump through memory: compile with nc-cc, or load the address into a register, mask it, and jump through it: see docs/GUIDE.md";
+    b"a jump through memory: compile with nc-cc, or load the address into a register, mask it, and jump through it; see docs/GUIDE.md";
 
 pub(crate) const FLOATING_POINT: &[u8] =
     b"x87 floating point, or sahf or lahf: compile with nc-cc, or with -mno-80387 -msoft-float";

@@ -42,30 +42,30 @@ static ROWS: [Row; 10] = [
         \x20 00010000 <f+0x1>\n\
         \x20 > 00010000: c3\n\
         \x20   00010001: 90                       nop  # 31 times\n\
-        \x20 a return (ret): compile with nc-cc, or pop the address into a register, mask it, and jump through it: see docs/GUIDE.md\n"),
+        \x20 a return (ret): compile with nc-cc, or pop the address into a register, mask it, and jump through it; see docs/GUIDE.md\n"),
     (b"a", RETURN, &[(0, b"zero"), (0xFFFF_FFFF, b"top")], Detail::Usual, Format::Text, None, Ok(true),
         b"a: refused NotPermitted 00010000\n\
         \x20 00010000 <zero+0x10000>\n\
         \x20 > 00010000: c3\n\
         \x20   00010001: 90                       nop  # 31 times\n\
-        \x20 a return (ret): compile with nc-cc, or pop the address into a register, mask it, and jump through it: see docs/GUIDE.md\n"),
+        \x20 a return (ret): compile with nc-cc, or pop the address into a register, mask it, and jump through it; see docs/GUIDE.md\n"),
     // Bytes that would end the line, or control a terminal; a space, and bytes of UTF-8; an empty name.
     (b"a", RETURN, &[(0x1_0000, b"\x00a\nb\x1b[1m\x1f \x7e\x7f\x80\xc3\xa9\xff")], Detail::Usual, Format::Text, None, Ok(true),
         b"a: refused NotPermitted 00010000\n\
         \x20 00010000 <?a?b?[1m? ~?\x80\xc3\xa9\xff>\n\
         \x20 > 00010000: c3\n\
         \x20   00010001: 90                       nop  # 31 times\n\
-        \x20 a return (ret): compile with nc-cc, or pop the address into a register, mask it, and jump through it: see docs/GUIDE.md\n"),
+        \x20 a return (ret): compile with nc-cc, or pop the address into a register, mask it, and jump through it; see docs/GUIDE.md\n"),
     (b"a", RETURN, &[(0xFFFF, b"")], Detail::Usual, Format::Text, None, Ok(true),
         b"a: refused NotPermitted 00010000\n\
         \x20 00010000 <+0x1>\n\
         \x20 > 00010000: c3\n\
         \x20   00010001: 90                       nop  # 31 times\n\
-        \x20 a return (ret): compile with nc-cc, or pop the address into a register, mask it, and jump through it: see docs/GUIDE.md\n"),
+        \x20 a return (ret): compile with nc-cc, or pop the address into a register, mask it, and jump through it; see docs/GUIDE.md\n"),
     (b"a", LONG, &[(0xFFFF, b"\"\\\n\x7f\xc3\xa9")], Detail::Usual, Format::Json, None, Ok(true),
         b"{\"file\":\"a\",\"address\":\"00010000\",\"verdict\":\"refused\",\"fault\":\"NotPermitted\",\"at\":\"00010000\",\
         \"symbol\":\"\\\"\\\\\\u000a\\u007f\xc3\xa9+0x1\",\"meaning\":\
-        \"a return (ret): compile with nc-cc, or pop the address into a register, mask it, and jump through it: see docs/GUIDE.md\",\
+        \"a return (ret): compile with nc-cc, or pop the address into a register, mask it, and jump through it; see docs/GUIDE.md\",\
         \"bundle\":\"c3c7807856341278563412c7807856341278563412c780785634127856341290\",\"starts\":[{\"at\":\"00010000\"},\
         {\"at\":\"00010001\",\"name\":\"movl $0x12345678,0x12345678(%eax)\"},\
         {\"at\":\"0001000b\",\"name\":\"movl $0x12345678,0x12345678(%eax)\"},\
