@@ -17,12 +17,12 @@ use Rattle.nc_list.specs.declared.chunk.ChunkState.TheVariants.{Live, Retired}
 use Rattle.nc_list.specs.Chunks.{IsRising, FitsAt, Meets}
 use Rattle.nc_list.proofs.Offered.{each_map, rises_above}
 use Rattle.nc_region.specs.declared.acts.Act.TheVariants.{Look}
-use Rattle.nc_region.specs.Acts.{acts_of_delete}
 use Rattle.nc_region.specs.Log.{unsettled, log_of_create, log_of_delete}
 use Rattle.nc_region.specs.Region.{Region, IsLive, IsCreated, live_chunk}
 use Rattle.nc_region.specs.Patch.{IsModified, log_of_modify}
 use Rattle.nc_region.specs.Deletion.{HasLive, IsDeleted, IsReclaimed, freed, kept, unmarked, unmarkings}
-use Rattle.nc_region.proofs.telling.Logged.{told_logged, acts_back, deleted_acts}
+use Rattle.nc_region.proofs.deleting.Deleted.{deleted_is}
+use Rattle.nc_region.proofs.telling.Logged.{told_logged, acts_back}
 
 -- ---- a deletion
 
@@ -46,23 +46,8 @@ abbrev pub deleted_at : (old : Region) (k : ℕ) (c : Chunk) → slice_get old.c
     → old.keeper.numbers.generation < 4611686018427387904
     → IsDeleted old (deleted_region old k c) c.base (old.keeper.numbers.generation + 1)
 deleted_at old k c listed live room =
-    record {
-      index = k;
-      chunk = c;
-      listed = listed;
-      live = live;
-      base_is = refl;
-      room = room;
-      stamp_is = refl;
-      bytes = refl;
-      chunks = refl;
-      keeper = refl;
-      others = refl;
-      acts = told_logged old.logged (old.logged ++ log_of_delete old.marked.marks c.base c.length)
-          (log_of_delete old.marked.marks c.base c.length) (acts_of_delete old.marked.marks c.base c.length)
-          (deleted_acts old.marked.marks c.base c.length) refl;
-      log = refl;
-    }
+    deleted_is old (deleted_region old k c) k c.base (old.keeper.numbers.generation + 1) c listed live refl room refl refl refl refl
+    refl refl refl
 
 -- a live chunk can be deleted unless the generation is the last one
 pub deleted_exists : (old : Region) (base : ℕ) → HasLive old.chunks base → old.keeper.numbers.generation < 4611686018427387904

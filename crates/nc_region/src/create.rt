@@ -10,10 +10,11 @@ ghost use Rattle.nc_text.specs.MarkedText.{IsText, with_marks, KeepsMarks, Names
 ghost use Rattle.nc_region.specs.declared.acts.Act.{Act};
 ghost use Rattle.nc_region.specs.declared.acts.Entry.{Entry};
 ghost use Rattle.nc_region.specs.Log.{Logs, log_of_create};
-ghost use Rattle.nc_region.specs.Chunks.{HasGoodSpan, IsClosedChunk, IsUnused, with_chunk};
+ghost use Rattle.nc_region.specs.Chunks.{HasGoodSpan, with_chunk};
 ghost use Rattle.nc_region.specs.declared.fault.CreateFault.{CreateFault};
 ghost use Rattle.nc_region.specs.Region.{IsRegion, MayRefuse};
 ghost use Rattle.nc_region.specs.machinery.Between.{HasRoom};
+ghost use Rattle.nc_region.specs.machinery.Creating.{CanPutChunk, HasPutChunk};
 
 use crate::acts::Acts;
 use crate::fault::CreateFault;
@@ -90,18 +91,14 @@ pub(crate) fn put_chunk<A: Acts>(
     vetted: &Vetted,
     room: Vec<Mark>,
 )
-    requires whole { IsText (A.marked acts.old) }
+    requires can { CanPutChunk (A.marked acts.old) (A.made acts.old) base code.now vetted.now.marks }
     requires code { code.now ≡ vetted.now.code }
     requires room { (room.items ≡ []) × (512 < length code.now → length code.now ≤ vec_capacity room) }
-    requires chunk { IsClosedChunk base (limit_of (A.marked acts.old).bytes) code.now vetted.now.marks }
     requires registers { All NamesRegister vetted.now.marks }
-    requires unused { IsUnused (A.marked acts.old) base (length code.now) }
-    requires ready { AreReady (A.made acts.old) base (length code.now) }
-    ensures marked { A.marked acts.new ≡ with_chunk (A.marked acts.old) base code.now vetted.now.marks }
-    ensures whole { IsText (A.marked acts.new) }
+    ensures put { HasPutChunk (A.marked acts.old) (A.marked acts.new) (A.logged acts.old) (A.logged acts.new) base code.now
+        vetted.now.marks }
     ensures made { A.made acts.new ≡ A.made acts.old }
     ensures keeper { A.keeper acts.new ≡ A.keeper acts.old }
-    ensures log { Logs (A.logged acts.old) (A.logged acts.new) (log_of_create base code.now) }
 {
     if put_by_bits(acts, base, code, vetted) {
         return;
@@ -111,11 +108,8 @@ pub(crate) fn put_chunk<A: Acts>(
 
 /// Creates a chunk from bits if both sides keep them, and returns whether they do.
 fn put_by_bits<A: Acts>(acts: &mut A, base: u32, code: &[u8], vetted: &Vetted) -> bool
-    requires whole { IsText (A.marked acts.old) }
+    requires can { CanPutChunk (A.marked acts.old) (A.made acts.old) base code.now vetted.now.marks }
     requires code { code.now ≡ vetted.now.code }
-    requires chunk { IsClosedChunk base (limit_of (A.marked acts.old).bytes) code.now vetted.now.marks }
-    requires unused { IsUnused (A.marked acts.old) base (length code.now) }
-    requires ready { AreReady (A.made acts.old) base (length code.now) }
     ensures marked { IsTrue result → A.marked acts.new ≡ with_chunk (A.marked acts.old) base code.now vetted.now.marks }
     ensures log { IsTrue result → Logs (A.logged acts.old) (A.logged acts.new) (log_of_create base code.now) }
     ensures unchanged { result ≡ false → (A.marked acts.new ≡ A.marked acts.old)
@@ -133,18 +127,14 @@ fn put_by_bits<A: Acts>(acts: &mut A, base: u32, code: &[u8], vetted: &Vetted) -
 /// Creates a chunk act by act, with its marks from a list. It isn't inlined, so that it costs nothing where chunks are put from bits.
 #[inline(never)]
 fn put_listed<A: Acts>(acts: &mut A, base: u32, code: &[u8], vetted: &Vetted, room: Vec<Mark>)
-    requires whole { IsText (A.marked acts.old) }
+    requires can { CanPutChunk (A.marked acts.old) (A.made acts.old) base code.now vetted.now.marks }
     requires code { code.now ≡ vetted.now.code }
     requires room { (room.items ≡ []) × (512 < length code.now → length code.now ≤ vec_capacity room) }
-    requires chunk { IsClosedChunk base (limit_of (A.marked acts.old).bytes) code.now vetted.now.marks }
     requires registers { All NamesRegister vetted.now.marks }
-    requires unused { IsUnused (A.marked acts.old) base (length code.now) }
-    requires ready { AreReady (A.made acts.old) base (length code.now) }
-    ensures marked { A.marked acts.new ≡ with_chunk (A.marked acts.old) base code.now vetted.now.marks }
-    ensures whole { IsText (A.marked acts.new) }
+    ensures put { HasPutChunk (A.marked acts.old) (A.marked acts.new) (A.logged acts.old) (A.logged acts.new) base code.now
+        vetted.now.marks }
     ensures made { A.made acts.new ≡ A.made acts.old }
     ensures keeper { A.keeper acts.new ≡ A.keeper acts.old }
-    ensures log { Logs (A.logged acts.old) (A.logged acts.new) (log_of_create base code.now) }
 {
     acts.put_where(base, code, false);
     acts.settle();

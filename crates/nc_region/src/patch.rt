@@ -10,9 +10,9 @@ ghost use Rattle.nc_text.specs.Ready.{AreReady};
 ghost use Rattle.nc_text.specs.MarkedText.{MarkedText, IsText, with_span};
 ghost use Rattle.nc_list.specs.declared.chunk.Chunk.{Chunk};
 ghost use Rattle.nc_region.specs.Log.{Logs};
-ghost use Rattle.nc_region.specs.Region.{HoldsValid, IsInChunk};
+ghost use Rattle.nc_region.specs.Region.{HoldsValid};
 ghost use Rattle.nc_region.specs.Patch.{AreBytesOf, IsRun, log_of_modify};
-ghost use Rattle.nc_region.specs.machinery.PatchSteps.{CanPatch, MayRefuseIn};
+ghost use Rattle.nc_region.specs.machinery.PatchSteps.{CanPatch, LiesInValid, MayRefuseIn};
 
 mod judge;
 mod put;
@@ -45,10 +45,7 @@ pub(crate) fn patch<A: Acts>(
     mark: Mark,
     new: &[u8],
 ) -> Result<(), ModifyFault>
-    requires whole { IsText (A.marked acts.old) }
-    requires holds { HoldsValid (A.marked acts.old) chunk }
-    requires from { IsInChunk chunk at }
-    requires mark { mark ≡ mark_at (A.marked acts.old).marks at }
+    requires place { LiesInValid (A.marked acts.old) chunk at mark }
     requires ends { at + length new.now ≤ chunk.base + chunk.length }
     requires ready { AreReady (A.made acts.old) at (length new.now) }
     ensures can { OnOk result (CanPatch (A.marked acts.old) chunk at new.now) }
@@ -94,10 +91,7 @@ fn judge_single<A: Acts>(
     instr: Instr,
     new: &[u8],
 ) -> Result<(), ModifyFault>
-    requires whole { IsText (A.marked acts.now) }
-    requires holds { HoldsValid (A.marked acts.now) chunk }
-    requires from { IsInChunk chunk at }
-    requires mark { mark ≡ mark_at (A.marked acts.now).marks at }
+    requires place { LiesInValid (A.marked acts.now) chunk at mark }
     requires ends { at + length new.now ≤ chunk.base + chunk.length }
     requires first { first_instruction new.now ≡ Some instr }
     requires only { instr.len ≡ length new.now }
@@ -125,10 +119,7 @@ fn fits_single<A: Acts>(
     instr: Instr,
     new: &[u8],
 ) -> bool
-    requires whole { IsText (A.marked acts.now) }
-    requires holds { HoldsValid (A.marked acts.now) chunk }
-    requires from { IsInChunk chunk at }
-    requires mark { mark ≡ mark_at (A.marked acts.now).marks at }
+    requires place { LiesInValid (A.marked acts.now) chunk at mark }
     requires first { first_instruction new.now ≡ Some instr }
     requires only { instr.len ≡ length new.now }
     ensures run { IsTrue result → IsRun (A.marked acts.now) chunk at new.now }

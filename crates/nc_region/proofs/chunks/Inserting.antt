@@ -1,12 +1,11 @@
 -- A region with one more chunk.
-use Rattle.std.proofs.Common.{◌≡◌, ℕ, ◌+◌, ◌-◌, ◌<◌, ◌≤◌, ◌⊎◌, List, [], ◌∷◌, length, get_or, take, drop, inl, inr, arith}
+use Rattle.std.proofs.Common.{◌≡◌, ℕ, ◌+◌, ◌-◌, ◌<◌, ◌≤◌, List, [], ◌∷◌, length, get_or, take, drop, inl, inr, arith}
 use Rattle.std.proofs.Common.{◌∙◌, sym, ap, subst, zero, suc}
 use Rattle.std.specs.List.{insert}
 use Rattle.std.proofs.lemmas.List.{take-append-drop, get_or-replicate, length-replicate}
 use Rattle.nc_decode.specs.declared.instruction.Mark.{Mark}
 use Rattle.nc_decode.specs.declared.instruction.Mark.TheVariants.{Unmarked}
-use Rattle.nc_text.specs.Places.{limit_of, byte_at}
-use Rattle.nc_text.specs.Marks.{mark_at}
+use Rattle.nc_text.specs.Places.{limit_of}
 use Rattle.std.proofs.lemmas.List.FromFn.{get_or-map-range_with_len}
 use Rattle.nc_text.specs.MarkedText.{MarkedText, IsText, unused_mark}
 use Rattle.nc_text.proofs.Offered.{new_is_text, length-with_span}
@@ -17,6 +16,7 @@ use Rattle.nc_region.specs.Chunks.{HasGoodSpan, IsClosedChunk, with_chunk}
 use Rattle.nc_region.specs.Chunks.{IsUnused}
 use Rattle.nc_region.specs.Each.{Each}
 use Rattle.nc_region.specs.Region.{IsNew, IsLive, IsInChunk, IsRising, HoldsValid, IsRegion, IsAboveAll, IsBelowAll}
+use Rattle.nc_region.proofs.chunks.AgreesOutside.{AgreesOutside, still_holds}
 use Rattle.nc_region.proofs.SpanPlaces.{place_of, Before, Within, Behind, span_before, span_within, span_behind}
 
 -- what holds of each member of a list with an element inserted holds of the element and of each member of the list
@@ -68,52 +68,24 @@ fits_marks : (marked : MarkedText) (chunks : List Chunk) (k : ℕ) (c : Chunk) (
 fits_marks marked chunks k c bytes marks n = omega (arith, n.chunk.placed.high, n.chunk.as_long, n.region.whole.as_long)
 
 -- outside the new chunk nothing changes
-other_byte : (marked : MarkedText) (chunks : List Chunk) (k : ℕ) (c : Chunk) (bytes : List ℕ) (marks : List Mark) (at : ℕ)
-    → Inserts marked chunks k c bytes marks → 65536 ≤ at → (at < c.base) ⊎ (c.base + c.length ≤ at)
-    → byte_at (with_chunk marked c.base bytes marks).bytes at ≡ byte_at marked.bytes at
-other_byte marked chunks k c bytes marks at n low out =
-    elim out [
-      | inl l ↦ span_before marked.bytes c.base bytes at 0 n.chunk.placed.low (fits_bytes marked chunks k c bytes marks n) low l
-      | inr p ↦ span_behind marked.bytes c.base bytes at 0 n.chunk.placed.low (fits_bytes marked chunks k c bytes marks n)
-          (omega (arith, p, n.long))
-    ]
-
--- a mark beside the chunk stays
-other_mark : (marked : MarkedText) (chunks : List Chunk) (k : ℕ) (c : Chunk) (bytes : List ℕ) (marks : List Mark) (at : ℕ)
-    → Inserts marked chunks k c bytes marks → 65536 ≤ at → (at < c.base) ⊎ (c.base + c.length ≤ at)
-    → mark_at (with_chunk marked c.base bytes marks).marks at ≡ mark_at marked.marks at
-other_mark marked chunks k c bytes marks at n low out =
-    elim out [
-      | inl l ↦ span_before marked.marks c.base marks at Unmarked n.chunk.placed.low (fits_marks marked chunks k c bytes marks n) low l
-      | inr p ↦ span_behind marked.marks c.base marks at Unmarked n.chunk.placed.low (fits_marks marked chunks k c bytes marks n)
-          (omega (arith, p, n.long, n.chunk.as_long))
-    ]
-
--- the text's limit stays where a chunk is put in
-same_limit : (marked : MarkedText) (chunks : List Chunk) (k : ℕ) (c : Chunk) (bytes : List ℕ) (marks : List Mark)
-    → Inserts marked chunks k c bytes marks → limit_of (with_chunk marked c.base bytes marks).bytes ≡ limit_of marked.bytes
-same_limit marked chunks k c bytes marks n =
-    ap (λ (m : ℕ). 65536 + m) (length-with_span marked.bytes (c.base - 65536) bytes
-    (omega (arith, n.chunk.placed.low, fits_bytes marked chunks k c bytes marks n)))
-
--- a text that holds a valid chunk still holds it once another one is put beside it
-holds_still : (marked : MarkedText) (chunks : List Chunk) (k : ℕ) (c : Chunk) (bytes : List ℕ) (marks : List Mark)
-    → Inserts marked chunks k c bytes marks → (d : Chunk) → (d.base + d.length ≤ c.base) ⊎ (c.base + c.length ≤ d.base)
-    → HoldsValid marked d → HoldsValid (with_chunk marked c.base bytes marks) d
-holds_still marked chunks k c bytes marks n d apart h =
-    let out : (at : ℕ) → IsInChunk d at → (at < c.base) ⊎ (c.base + c.length ≤ at) =
-    λ at inside. elim apart [ inl l ↦ inl (omega (arith, l, inside.1)) | inr p ↦ inr (omega (arith, p, inside.0)) ] in
-    let low : 65536 ≤ d.base = subst (λ (b : ℕ). 65536 ≤ b) h.base_is h.valid.base_is.1 in
+agrees : (marked : MarkedText) (chunks : List Chunk) (k : ℕ) (c : Chunk) (bytes : List ℕ) (marks : List Mark)
+    → Inserts marked chunks k c bytes marks → AgreesOutside marked (with_chunk marked c.base bytes marks) c.base c.length
+agrees marked chunks k c bytes marks n =
+    let low = n.chunk.placed.low in
+    let bytes_fit = fits_bytes marked chunks k c bytes marks n in
+    let marks_fit = fits_marks marked chunks k c bytes marks n in
     record {
-      vetted = h.vetted;
-      valid = h.valid;
-      base_is = h.base_is;
-      limit_is = h.limit_is ∙ sym (same_limit marked chunks k c bytes marks n);
-      long = h.long;
-      bytes_are = λ at inside. other_byte marked chunks k c bytes marks at n (omega (arith, inside.0, low)) (out at inside)
-          ∙ h.bytes_are at inside;
-      marks_are = λ at inside. other_mark marked chunks k c bytes marks at n (omega (arith, inside.0, low)) (out at inside)
-          ∙ h.marks_are at inside;
+      as_long = length-with_span marked.bytes (c.base - 65536) bytes (omega (arith, low, bytes_fit));
+      bytes = λ at from out.
+          elim out [
+            | inl l ↦ span_before marked.bytes c.base bytes at 0 low bytes_fit from l
+            | inr p ↦ span_behind marked.bytes c.base bytes at 0 low bytes_fit (omega (arith, p, n.long))
+          ];
+      marks = λ at from out.
+          elim out [
+            | inl l ↦ span_before marked.marks c.base marks at Unmarked low marks_fit from l
+            | inr p ↦ span_behind marked.marks c.base marks at Unmarked low marks_fit (omega (arith, p, n.long, n.chunk.as_long))
+          ];
     }
 
 -- the text holds the new chunk, which is valid, once it is put in
@@ -124,7 +96,7 @@ holds_new marked chunks k c bytes marks n =
       vetted = n.vetted;
       valid = n.valid;
       base_is = n.base_is;
-      limit_is = n.limit_is ∙ sym (same_limit marked chunks k c bytes marks n);
+      limit_is = n.limit_is ∙ ap (λ (m : ℕ). 65536 + m) (sym (agrees marked chunks k c bytes marks n).as_long);
       long = ap (λ (bs : List ℕ). length bs) n.code_is ∙ n.long;
       bytes_are = λ at inside. span_within marked.bytes c.base bytes at 0 n.chunk.placed.low
           (fits_bytes marked chunks k c bytes marks n) inside.0 (omega (arith, inside.1, n.long))
@@ -139,12 +111,12 @@ pub region_with_chunk : (marked : MarkedText) (chunks : List Chunk) (k : ℕ) (c
     → Inserts marked chunks k c bytes marks → IsLive c.state → IsText (with_chunk marked c.base bytes marks)
     → IsRegion (with_chunk marked c.base bytes marks) (insert chunks k c)
 region_with_chunk marked chunks k c bytes marks n live whole =
-    let limit = same_limit marked chunks k c bytes marks n in
+    let a = agrees marked chunks k c bytes marks n in
     record {
       whole = whole;
       rising = rising_insert 65536 chunks k c n.region.rising n.chunk.placed.low n.above n.below;
       placed =
-          subst (λ (l : ℕ). Each (λ (d : Chunk). HasGoodSpan d.base l d.length) (insert chunks k c)) (sym limit)
+          subst (λ (l : ℕ). Each (λ (d : Chunk). HasGoodSpan d.base l d.length) (insert chunks k c)) (ap (λ (m : ℕ). 65536 + m) (sym a.as_long))
           (each_insert (λ (d : Chunk). HasGoodSpan d.base (limit_of marked.bytes) d.length) chunks k c
           (subst (λ (l : ℕ). HasGoodSpan c.base (limit_of marked.bytes) l) n.long n.chunk.placed)
           (each_take (λ (d : Chunk). HasGoodSpan d.base (limit_of marked.bytes) d.length) k chunks n.region.placed)
@@ -154,29 +126,25 @@ region_with_chunk marked chunks k c bytes marks n live whole =
           (λ x. holds_new marked chunks k c bytes marks n)
           (each_both (λ (d : Chunk). d.base + d.length ≤ c.base) (λ (d : Chunk). IsLive d.state → HoldsValid marked d)
           (λ (d : Chunk). IsLive d.state → HoldsValid (with_chunk marked c.base bytes marks) d)
-          (λ d apart holds x. holds_still marked chunks k c bytes marks n d (inl apart) (holds x)) (take k chunks) n.above
+          (λ d apart holds x. still_holds marked (with_chunk marked c.base bytes marks) c d a (inl apart) (holds x)) (take k chunks) n.above
           (each_take (λ (d : Chunk). IsLive d.state → HoldsValid marked d) k chunks n.region.live))
           (each_both (λ (d : Chunk). c.base + c.length ≤ d.base) (λ (d : Chunk). IsLive d.state → HoldsValid marked d)
           (λ (d : Chunk). IsLive d.state → HoldsValid (with_chunk marked c.base bytes marks) d)
-          (λ d apart holds x. holds_still marked chunks k c bytes marks n d (inr apart) (holds x)) (drop k chunks) n.below
+          (λ d apart holds x. still_holds marked (with_chunk marked c.base bytes marks) c d a (inr apart) (holds x)) (drop k chunks) n.below
           (each_drop (λ (d : Chunk). IsLive d.state → HoldsValid marked d) k chunks n.region.live));
       stops = λ at inside free.
           let f = each_but (λ (d : Chunk). IsLive d.state → IsInChunk d at → ⊥) chunks k c free in
           elim (place_of c.base c.length at) [
-            | Before l ↦ other_byte marked chunks k c bytes marks at n inside.0 (inl l)
-                ∙ n.region.stops at (inside.0, omega (arith, inside.1, limit)) f.1
-            | Within a b ↦ absurd (f.0 live (a, b))
-            | Behind p ↦ other_byte marked chunks k c bytes marks at n inside.0 (inr p)
-                ∙ n.region.stops at (inside.0, omega (arith, inside.1, limit)) f.1
+            | Before l ↦ a.bytes at inside.0 (inl l) ∙ n.region.stops at (inside.0, omega (arith, inside.1, a.as_long)) f.1
+            | Within low high ↦ absurd (f.0 live (low, high))
+            | Behind p ↦ a.bytes at inside.0 (inr p) ∙ n.region.stops at (inside.0, omega (arith, inside.1, a.as_long)) f.1
           ];
       unused = λ at inside free.
           let f = each_but (λ (d : Chunk). IsInChunk d at → ⊥) chunks k c free in
           elim (place_of c.base c.length at) [
-            | Before l ↦ other_mark marked chunks k c bytes marks at n inside.0 (inl l)
-                ∙ n.region.unused at (inside.0, omega (arith, inside.1, limit)) f.1
-            | Within a b ↦ absurd (f.0 (a, b))
-            | Behind p ↦ other_mark marked chunks k c bytes marks at n inside.0 (inr p)
-                ∙ n.region.unused at (inside.0, omega (arith, inside.1, limit)) f.1
+            | Before l ↦ a.marks at inside.0 (inl l) ∙ n.region.unused at (inside.0, omega (arith, inside.1, a.as_long)) f.1
+            | Within low high ↦ absurd (f.0 (low, high))
+            | Behind p ↦ a.marks at inside.0 (inr p) ∙ n.region.unused at (inside.0, omega (arith, inside.1, a.as_long)) f.1
           ];
     }
 

@@ -185,7 +185,7 @@ with_parts r marks made =
     }
 
 -- what a deletion leaves, by its parts
-pub deleted_is : (old new : Region) (k base stamp : ℕ) (chunk : Chunk) → slice_get old.chunks k ≡ Some chunk → chunk.state ≡ Live
+abbrev pub deleted_is : (old new : Region) (k base stamp : ℕ) (chunk : Chunk) → slice_get old.chunks k ≡ Some chunk → chunk.state ≡ Live
     → chunk.base ≡ base → old.keeper.numbers.generation < 4611686018427387904 → stamp ≡ old.keeper.numbers.generation + 1
     → new.marked.bytes ≡ with_span old.marked.bytes (base - 65536) (replicate chunk.length 244) → new.marked.marks ≡ old.marked.marks
     → new.made ≡ old.made → new.chunks ≡ set old.chunks k (record chunk { state = Retired stamp })

@@ -15,7 +15,7 @@ use Rattle.nc_region.specs.Log.{Logs, unsettled}
 use Rattle.nc_region.specs.Deletion.{is_due, freed, kept, unmarked, unmarkings}
 use Rattle.nc_region.specs.Quiet.{IsQuiet}
 use Rattle.nc_region.specs.Region.{IsRegion}
-use Rattle.nc_region.specs.machinery.Freeing.{AreTakenOut, AreUnmarked}
+use Rattle.nc_region.specs.machinery.Freeing.{AreTakenOut, AreUnmarked, AreFreed, AllFreed}
 use Rattle.nc_region.proofs.schedules.Unmarking.{MayFree}
 use Rattle.nc_region.proofs.deleting.Freed.{span_of, dead_is_quiet, frees, region_freed}
 use Rattle.nc_region.proofs.deleting.Due.{due_dead, kept_and_freed}
@@ -211,13 +211,10 @@ taken_shorter least old new taken t =
       kept_and_freed least t.front,
     )
 
--- Of a region's chunks, the first ones that are due have been taken out and unmarked, which left a region with the others.
-pub record AreFreed (least : ℕ) (old new : List Chunk) (was now : MarkedText) (logged logged_now : List Entry) : Type 0 where
-  pub done : List Chunk
-  pub stay : kept least new ≡ kept least old
-  pub parted : freed least old ≡ done ++ freed least new
-  pub unmarks : AreUnmarked done was now logged logged_now
-  pub region : IsRegion now new
+-- where no chunk is taken, none is due afterwards
+pub none_due : (least : ℕ) (old new taken : List Chunk) → AreTaken least old new taken → taken ≡ [] → freed least new ≡ []
+none_due least old new taken t none =
+    sym (freed_taken least old new taken t ∙ ap (λ (z : List Chunk). z ++ freed least new) none) ∙ t.none none
 
 -- at the beginning no chunk is freed
 pub freed_none : (least : ℕ) (chunks : List Chunk) (marked : MarkedText) (logged : List Entry)
@@ -238,40 +235,31 @@ freed_more least old mid new taken a b c l m n f t' one region = record {
   region = region;
 }
 
--- All chunks that are due have been taken out and unmarked.
-pub record AllFreed (least : ℕ) (old new : List Chunk) (was now : MarkedText) (logged logged_now : List Entry) : Type 0 where
-  pub stay : new ≡ kept least old
-  pub count : length old ≡ length new + length (freed least old)
-  pub unmarks : AreUnmarked (freed least old) was now logged logged_now
-  pub region : IsRegion now new
-
--- all due chunks are freed once none is taken any more
-pub freed_all : (least : ℕ) (old mid new taken : List Chunk) (a b : MarkedText) (l m : List Entry)
-    → AreFreed least old mid a b l m → AreTaken least mid new taken → taken ≡ [] → AllFreed least old new a b l m
-freed_all least old mid new taken a b l m f t' none =
-    let no_more : freed least mid ≡ [] = t'.none none in
+-- where none is taken, the chunks that were freed stay freed
+pub freed_same : (least : ℕ) (old mid new taken : List Chunk) (a b : MarkedText) (l m : List Entry)
+    → AreFreed least old mid a b l m → AreTaken least mid new taken → taken ≡ [] → AreFreed least old new a b l m
+freed_same least old mid new taken a b l m f t' none =
     let same : new ≡ mid = taken_nothing least mid new (subst (AreTaken least mid new) none t') in
-    let stay : new ≡ kept least old = same ∙ (sym (all_stay least mid no_more) ∙ f.stay) in
-    record {
-      stay = stay;
-      count = omega (arith, kept_and_freed least old, ap (λ (z : List Chunk). length z) stay);
-      unmarks =
-          subst (λ (z : List Chunk). AreUnmarked z a b l m)
-          (sym (f.parted ∙ (ap (λ (z : List Chunk). f.done ++ z) no_more ∙ append-nil f.done))) f.unmarks;
-      region = subst (IsRegion b) (sym same) f.region;
-    }
+    subst (λ (z : List Chunk). AreFreed least old z a b l m) (sym same) f
 
--- all due chunks are freed once, after some, all others are taken out and unmarked
+-- all due chunks are freed once none is due any more
+pub freed_all : (least : ℕ) (old new : List Chunk) (a b : MarkedText) (l m : List Entry)
+    → AreFreed least old new a b l m → freed least new ≡ [] → AllFreed least old new a b l m
+freed_all least old new a b l m f none = record {
+  chunks = sym (all_stay least new none) ∙ f.stay;
+  region = f.region;
+  unmarks =
+      subst (λ (z : List Chunk). AreUnmarked z a b l m)
+      (sym (f.parted ∙ (ap (λ (z : List Chunk). f.done ++ z) none ∙ append-nil f.done))) f.unmarks;
+}
+
+-- all due chunks are freed once, after some, all others are
 pub freed_rest : (least : ℕ) (old mid new : List Chunk) (a b c : MarkedText) (l m n : List Entry)
-    → AreFreed least old mid a b l m → new ≡ kept least mid → AreUnmarked (freed least mid) b c m n → IsRegion c new
-    → AllFreed least old new a c l n
-freed_rest least old mid new a b c l m n f left rest region =
-    let stay : new ≡ kept least old = left ∙ f.stay in
-    record {
-      stay = stay;
-      count = omega (arith, kept_and_freed least old, ap (λ (z : List Chunk). length z) stay);
-      unmarks =
-          subst (λ (z : List Chunk). AreUnmarked z a c l n) (sym f.parted)
-          (unmarks_more f.done (freed least mid) a b c l m n f.unmarks rest);
-      region = region;
-    }
+    → AreFreed least old mid a b l m → AllFreed least mid new b c m n → AllFreed least old new a c l n
+freed_rest least old mid new a b c l m n f rest = record {
+  chunks = rest.chunks ∙ f.stay;
+  region = rest.region;
+  unmarks =
+      subst (λ (z : List Chunk). AreUnmarked z a c l n) (sym f.parted)
+      (unmarks_more f.done (freed least mid) a b c l m n f.unmarks rest.unmarks);
+}

@@ -16,6 +16,7 @@ use Rattle.nc_region.specs.Patch.{IsHeldBy, IsPatchSpan, IsPatch, IsRun, LeavesP
 use Rattle.nc_region.specs.machinery.PatchSteps.{CanPatch, MayRefuseIn}
 use Rattle.nc_region.specs.declared.fault.ModifyFault.{ModifyFault}
 use Rattle.nc_region.specs.declared.fault.ModifyFault.TheVariants.{BadSpan, NotLive, NotPermitted, Boundaries, PairTouched, BadTarget}
+use Rattle.nc_region.proofs.chunks.AgreesOutside.{AgreesOutside, still_holds}
 use Rattle.nc_region.proofs.SpanPlaces.{span_before, span_behind}
 use Rattle.nc_region.proofs.patching.Runs.{apart_by_index, held_same}
 
@@ -31,57 +32,38 @@ pub record Patches (old new : MarkedText) (chunks : List Chunk) (c : Chunk) (at 
   pub high : c.base + c.length ≤ 65536 + length old.bytes
   pub ends : at + length bytes ≤ c.base + c.length
 
--- the text is as long
-same_long : (old new : MarkedText) (chunks : List Chunk) (c : Chunk) (at : ℕ) (bytes : List ℕ) → Patches old new chunks c at bytes
-    → length new.bytes ≡ length old.bytes
-same_long old new chunks c at bytes p = ap (λ (z : List ℕ). length z) p.bytes_are
-    ∙ length-with_span old.bytes (at - 65536) bytes (omega (arith, p.low, p.high, p.ends, p.held.2.0))
-
--- outside the chunk no byte is changed
-outside : (old new : MarkedText) (chunks : List Chunk) (c : Chunk) (at : ℕ) (bytes : List ℕ) → Patches old new chunks c at bytes
-    → (k : ℕ) → 65536 ≤ k → (k < c.base) ⊎ (c.base + c.length ≤ k) → byte_at new.bytes k ≡ byte_at old.bytes k
-outside old new chunks c at bytes p k low out =
-    ap (λ (z : List ℕ). byte_at z k) p.bytes_are
-    ∙ elim out [
-      | inl l ↦ span_before old.bytes at bytes k 0 (omega (arith, p.low, p.held.2.0)) (omega (arith, p.ends, p.high)) low
-          (omega (arith, l, p.held.2.0))
-      | inr b ↦ span_behind old.bytes at bytes k 0 (omega (arith, p.low, p.held.2.0)) (omega (arith, p.ends, p.high))
-          (omega (arith, b, p.ends))
-    ]
-
--- a text that holds a valid chunk still holds it once another one is patched
-other_holds : (old new : MarkedText) (chunks : List Chunk) (c : Chunk) (at : ℕ) (bytes : List ℕ) → Patches old new chunks c at bytes
-    → (d : Chunk) → (d.base + d.length ≤ c.base) ⊎ (c.base + c.length ≤ d.base) → HoldsValid old d → HoldsValid new d
-other_holds old new chunks c at bytes p d apart h =
-    let out : (k : ℕ) → IsInChunk d k → (k < c.base) ⊎ (c.base + c.length ≤ k) =
-    λ k inside. elim apart [ inl l ↦ inl (omega (arith, l, inside.1)) | inr b ↦ inr (omega (arith, b, inside.0)) ] in
-    let low : 65536 ≤ d.base = subst (λ (b : ℕ). 65536 ≤ b) h.base_is h.valid.base_is.1 in
+-- outside the chunk nothing is changed
+agrees : (old new : MarkedText) (chunks : List Chunk) (c : Chunk) (at : ℕ) (bytes : List ℕ) → Patches old new chunks c at bytes
+    → AgreesOutside old new c.base c.length
+agrees old new chunks c at bytes p =
+    let low : 65536 ≤ at = omega (arith, p.low, p.held.2.0) in
+    let high : at + length bytes ≤ 65536 + length old.bytes = omega (arith, p.ends, p.high) in
     record {
-      vetted = h.vetted;
-      valid = h.valid;
-      base_is = h.base_is;
-      limit_is = h.limit_is ∙ ap (λ (n : ℕ). 65536 + n) (sym (same_long old new chunks c at bytes p));
-      long = h.long;
-      bytes_are = λ k inside. outside old new chunks c at bytes p k (omega (arith, inside.0, low)) (out k inside) ∙ h.bytes_are k inside;
-      marks_are = λ k inside. ap (λ (z : List Mark). mark_at z k) p.marks_are ∙ h.marks_are k inside;
+      as_long = ap (λ (z : List ℕ). length z) p.bytes_are ∙ length-with_span old.bytes (at - 65536) bytes (omega (arith, low, high));
+      bytes = λ k from out.
+          ap (λ (z : List ℕ). byte_at z k) p.bytes_are
+          ∙ elim out [
+            | inl l ↦ span_before old.bytes at bytes k 0 low high from (omega (arith, l, p.held.2.0))
+            | inr b ↦ span_behind old.bytes at bytes k 0 low high (omega (arith, b, p.ends))
+          ];
+      marks = λ k from out. ap (λ (z : List Mark). mark_at z k) p.marks_are;
     }
 
 -- the region after a patch
 pub region_patched : (old new : MarkedText) (chunks : List Chunk) (c : Chunk) (at : ℕ) (bytes : List ℕ)
     → Patches old new chunks c at bytes → IsRegion new chunks
 region_patched old new chunks c at bytes p =
-    let i = p.held.0 in
-    let long = same_long old new chunks c at bytes p in
+    let a = agrees old new chunks c at bytes p in
     let is : get_or chunks p.held.0.0 c ≡ c = p.held.0.2 in
     record {
       whole = p.whole;
       rising = p.region.rising;
       placed = subst (λ (l : ℕ). Each (λ (d : Chunk). HasGoodSpan d.base l d.length) chunks)
-          (ap (λ (n : ℕ). 65536 + n) (sym long)) p.region.placed;
+          (ap (λ (n : ℕ). 65536 + n) (sym a.as_long)) p.region.placed;
       live = each_from (λ (d : Chunk). IsLive d.state → HoldsValid new d) chunks c (λ k lt live.
           let h = each_get (λ (d : Chunk). IsLive d.state → HoldsValid old d) chunks k c lt p.region.live live in
           ⊎_elim
-          (λ (before : k < p.held.0.0). other_holds old new chunks c at bytes p (get_or chunks k c)
+          (λ (before : k < p.held.0.0). still_holds old new c (get_or chunks k c) a
           (inl (omega (
             arith,
             apart_by_index 65536 chunks c p.region.rising k p.held.0.0 before p.held.0.1,
@@ -89,7 +71,7 @@ region_patched old new chunks c at bytes p =
           ))) h)
           (λ (from : p.held.0.0 ≤ k).
           ⊎_elim
-          (λ (behind : p.held.0.0 < k). other_holds old new chunks c at bytes p (get_or chunks k c)
+          (λ (behind : p.held.0.0 < k). still_holds old new c (get_or chunks k c) a
           (inr (omega (
             arith,
             apart_by_index 65536 chunks c p.region.rising p.held.0.0 k behind lt,
@@ -106,9 +88,9 @@ region_patched old new chunks c at bytes p =
           ⊎_elim (λ (l : k < c.base). inl l)
           (λ (f : c.base ≤ k). ⊎_elim (λ (l : k < c.base + c.length). absurd (not (f, l))) (λ (b : c.base + c.length ≤ k). inr b)
           (cases_lt k (c.base + c.length))) (cases_lt k c.base) in
-          outside old new chunks c at bytes p k inside.0 out ∙ p.region.stops k (inside.0, omega (arith, inside.1, long)) free;
+          a.bytes k inside.0 out ∙ p.region.stops k (inside.0, omega (arith, inside.1, a.as_long)) free;
       unused = λ k inside free. ap (λ (z : List Mark). mark_at z k) p.marks_are
-          ∙ p.region.unused k (inside.0, omega (arith, inside.1, long)) free;
+          ∙ p.region.unused k (inside.0, omega (arith, inside.1, a.as_long)) free;
     }
 
 -- ---- what is said of a chunk that holds the place, said of the region

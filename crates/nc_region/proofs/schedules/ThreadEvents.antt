@@ -1,14 +1,14 @@
 -- What a thread does keeps the world.
-use Rattle.std.proofs.Common.{ℕ, ◌<◌, true, false, Some, None, inl, inr, arith, refl, ◌∙◌, sym}
+use Rattle.std.proofs.Common.{◌≡◌, ℕ, ◌<◌, ◌≤◌, Bool, true, false, Some, None, inl, inr, arith, refl, ◌∙◌, sym}
 use Rattle.std.proofs.lemmas.Bool.{false≢true}
 use Rattle.std.proofs.lemmas.List.Elements.{All-weaker}
 use Rattle.nc_text.specs.Machine.{State, state}
 use Rattle.nc_text.specs.Marks.{IsMarked}
 use Rattle.nc_text.proofs.Offered.{IsKnown, start_is_marked}
-use Rattle.nc_gens.specs.Rule.{generation_taken, generation_seen, since_stored, left_stored}
+use Rattle.nc_gens.specs.Rule.{generation_taken, generation_seen, left_word}
 use Rattle.nc_region.specs.schedules.Spans.{RetiredSpan, IsWithin, IsShut}
 use Rattle.nc_region.specs.schedules.World.{World, seat_at}
-use Rattle.nc_region.specs.schedules.Events.{Steps, Enters, Exits, Takes, Sees, Stores, Leaves, IsAllowed, after}
+use Rattle.nc_region.specs.schedules.Events.{Steps, Enters, Exits, Takes, Sees, Stores, Leaves, IsAllowed, after, with_seat}
 use Rattle.nc_region.proofs.schedules.Invariant.{Keeps, CameBefore, if_none, some_at, none_is_some, with_seat_keeps}
 use Rattle.nc_region.proofs.schedules.Seeing.{as_it_stands}
 use Rattle.nc_region.proofs.schedules.Unmarking.{none_steps_in}
@@ -98,34 +98,31 @@ keeps_sees w k keeps =
       bound_is = s.bound_is;
     })
 
--- the world's invariant stays when a pass that hasn't left stores what it took
-pub keeps_stores : (w : World) (k : ℕ) → Keeps w → IsAllowed w (Stores k) → Keeps (after w (Stores k))
-keeps_stores w k keeps allowed =
-    with_seat_keeps w k (record (seat_at w k) { pass = since_stored (seat_at w k).pass; has_left = false }) keeps
+-- the world's invariant stays when a pass changes its word, and perhaps leaves by that
+keeps_word : (w : World) (k word : ℕ) (left : Bool) → Keeps w → (left ≡ false → word ≤ (seat_at w k).pass.since)
+    → (left ≡ true → (seat_at w k).inside ≡ None) → ((seat_at w k).has_left ≡ true → left ≡ true)
+    → Keeps (with_seat w k (record (seat_at w k) { pass = record ((seat_at w k).pass) { word = word }; has_left = left }))
+keeps_word w k word left keeps small out stays =
+    with_seat_keeps w k (record (seat_at w k) { pass = record ((seat_at w k).pass) { word = word }; has_left = left }) keeps
     (λ lt.
     let s = keeps.seats k lt in
     record {
       stands = s.stands;
       early = s.early;
       since = s.since;
-      word = λ is. omega arith;
-      out = λ is. absurd (false≢true is);
-      found = λ is. absurd (false≢true (sym allowed ∙ s.found is));
+      word = small;
+      out = out;
+      found = λ is. stays (s.found is);
       bound_is = s.bound_is;
     })
+
+-- the world's invariant stays when a pass that hasn't left stores what it took
+pub keeps_stores : (w : World) (k : ℕ) → Keeps w → IsAllowed w (Stores k) → Keeps (after w (Stores k))
+keeps_stores w k keeps allowed =
+    keeps_word w k (seat_at w k).pass.since false keeps (λ is. omega arith) (λ is. absurd (false≢true is))
+    (λ is. absurd (false≢true (sym allowed ∙ is)))
 
 -- the world's invariant stays when a pass leaves
 pub keeps_leaves : (w : World) (k : ℕ) → Keeps w → IsAllowed w (Leaves k) → Keeps (after w (Leaves k))
 keeps_leaves w k keeps allowed =
-    with_seat_keeps w k (record (seat_at w k) { pass = left_stored (seat_at w k).pass; has_left = true }) keeps
-    (λ lt.
-    let s = keeps.seats k lt in
-    record {
-      stands = s.stands;
-      early = s.early;
-      since = s.since;
-      word = λ is. absurd (false≢true (sym is));
-      out = λ is. allowed;
-      found = λ is. refl;
-      bound_is = s.bound_is;
-    })
+    keeps_word w k left_word true keeps (λ is. absurd (false≢true (sym is))) (λ is. allowed) (λ is. refl)

@@ -20,3 +20,17 @@ pub record AreTakenOut (least : ℕ) (marked : MarkedText) (left taken : List Ch
 pub record AreUnmarked (chunks : List Chunk) (was now : MarkedText) (logged logged_now : List Entry) : Type 0 where
   pub marked : now ≡ unmarked was chunks
   pub logs : Logs logged logged_now (unsettled (unmarkings chunks))
+
+-- Of a region's chunks, the first ones that are due have been taken out and unmarked, which left a region with the others.
+pub record AreFreed (least : ℕ) (old new : List Chunk) (was now : MarkedText) (logged logged_now : List Entry) : Type 0 where
+  pub done : List Chunk
+  pub stay : kept least new ≡ kept least old
+  pub parted : freed least old ≡ done ++ freed least new
+  pub unmarks : AreUnmarked done was now logged logged_now
+  pub region : IsRegion now new
+
+-- All chunks of a region that are due have been taken out and unmarked, which left a region with the others.
+pub record AllFreed (least : ℕ) (old new : List Chunk) (was now : MarkedText) (logged logged_now : List Entry) : Type 0 where
+  pub chunks : new ≡ kept least old
+  pub region : IsRegion now new
+  pub unmarks : AreUnmarked (freed least old) was now logged logged_now

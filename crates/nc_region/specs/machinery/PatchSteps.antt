@@ -8,13 +8,20 @@ use Rattle.nc_decode.specs.Transfers.{is_indirect}
 use Rattle.nc_vet.specs.Chunk.{Piece, place}
 use Rattle.nc_text.specs.Places.{limit_of, byte_at, instruction_at}
 use Rattle.nc_text.specs.Machine.{State}
-use Rattle.nc_text.specs.Marks.{IsMarked, IsClosed}
-use Rattle.nc_text.specs.MarkedText.{MarkedText, with_span}
+use Rattle.nc_text.specs.Marks.{IsMarked, IsClosed, mark_at}
+use Rattle.nc_text.specs.MarkedText.{MarkedText, IsText, with_span}
 use Rattle.nc_list.specs.declared.chunk.Chunk.{Chunk}
-use Rattle.nc_region.specs.Region.{HoldsValid}
+use Rattle.nc_region.specs.Region.{HoldsValid, IsInChunk}
 use Rattle.nc_region.specs.declared.fault.ModifyFault.{ModifyFault}
 use Rattle.nc_region.specs.declared.fault.ModifyFault.TheVariants.{BadSpan, NotLive, NotPermitted, Boundaries, PairTouched, BadTarget}
 use Rattle.nc_region.specs.Patch.{AreBytesOf, AreInstructions, IsRunOf, IsRun, LeavesPairs, KeepsTargets}
+
+-- The address lies in a chunk that holds valid code, and has this mark. The text is closed.
+pub record LiesInValid (marked : MarkedText) (c : Chunk) (at : ℕ) (mark : Mark) : Type 0 where
+  pub whole : IsText marked
+  pub holds : HoldsValid marked c
+  pub from : IsInChunk c at
+  pub mark_is : mark ≡ mark_at marked.marks at
 
 -- an instruction of the chunk begins at the address, or the chunk ends there
 pub record Begins (marked : MarkedText) (c : Chunk) (at : ℕ) : Type 0 where

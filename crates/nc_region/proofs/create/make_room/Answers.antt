@@ -1,4 +1,4 @@
-use Rattle.std.proofs.Common.{◌≡◌, length, arith, sym, ◌∙◌, refl, Result, Ok, Err, IfOk, OnErr, true, false}
+use Rattle.std.proofs.Common.{◌≡◌, length, arith, sym, ◌∙◌, Result, Ok, Err, IfOk, OnErr, true, false}
 use Rattle.std.specs.Result.{is_err}
 use Rattle.nc_text.specs.Places.{limit_of}
 use Rattle.nc_text.specs.Ready.{AreReady}
@@ -28,77 +28,51 @@ insert-requires-clause-few g c =
     (omega (arith, region.whole.lawful.1)) in
     omega (arith, n, region.whole.lawful.2)
 
-pub returns-then-limit : goal.returns-then-limit
-returns-then-limit g c =
-    record {
-      room = tt;
-      marks = tt;
-      only = ready_same _ _ _;
-      others = (refl, refl, refl);
-      unlisted = refl;
-      made = λ _. refl;
-      refused = λ same. c.if-limit.true (c.limit.ensures.value ∙ (same ∙ sym c.limit-2.ensures.limit));
-    }
+pub returns-then-limit-clause-only : goal.returns-then-limit-clause-only
+returns-then-limit-clause-only g c = ready_same _ _ _
 
-pub returns-in_default : goal.returns-in_default
-returns-in_default g c =
-    record {
-      room = tt;
-      marks = tt;
-      only = ready_same _ _ _;
-      others = (refl, refl, refl);
-      unlisted = refl;
-      made = λ _. refl;
-      refused = (
-        sym c.limit.ensures.value ∙ (c.if-limit.false ∙ c.limit-2.ensures.limit),
-        rw (← c.base-base.ensures.value, ← c.code.ensures.value) c.in_default.ensures.meets,
-      );
-    }
+pub returns-then-limit-clause-refused : goal.returns-then-limit-clause-refused
+returns-then-limit-clause-refused g c = λ same. c.if-limit.true (c.limit.ensures.value ∙ (same ∙ sym c.limit-2.ensures.limit))
 
-pub returns-in_default-list_room : goal.returns-in_default-list_room
-returns-in_default-list_room g c =
-    record {
-      room = tt;
-      marks = tt;
-      only = ready_same _ _ _;
-      others = (refl, refl, refl);
-      unlisted = refl;
-      made = λ _. refl;
-      refused = (
-        sym c.limit.ensures.value ∙ (c.if-limit.false ∙ c.limit-2.ensures.limit),
-        rw (← c.base-base.ensures.value, ← c.code.ensures.value) c.in-Some.ensures.free,
-      );
-    }
+pub returns-in_default-clause-only : goal.returns-in_default-clause-only
+returns-in_default-clause-only g c = ready_same _ _ _
 
-pub returns-then-is_err : goal.returns-then-is_err
-returns-then-is_err g c =
-    record {
-      room = tt;
-      marks = tt;
-      only = rw (← c.base-base.ensures.value, ← c.code.ensures.value) c.ready.ensures.only;
-      others = (c.ready.ensures.marked, c.ready.ensures.keeper, c.ready.ensures.logged);
-      unlisted = refl;
-      made = λ differ. absurd (differ refl);
-      refused = (
-        sym c.limit.ensures.value ∙ (c.if-limit.false ∙ c.limit-2.ensures.limit),
-        rw (← c.base-base.ensures.value, ← c.code.ensures.value) c.in-Some.ensures.free,
-      );
-    }
+pub returns-in_default-clause-refused : goal.returns-in_default-clause-refused
+returns-in_default-clause-refused g c = (
+  sym c.limit.ensures.value ∙ (c.if-limit.false ∙ c.limit-2.ensures.limit),
+  rw (← c.base-base.ensures.value, ← c.code.ensures.value) c.in_default.ensures.meets,
+)
 
-pub returns-then-is_err-2 : goal.returns-then-is_err-2
-returns-then-is_err-2 g c =
-    record {
-      room = tt;
-      marks = tt;
-      only = rw (← c.base-base.ensures.value, ← c.code.ensures.value) c.ready.ensures.only;
-      others = (c.ready.ensures.marked, c.ready.ensures.keeper, c.ready.ensures.logged);
-      unlisted = at_err c.insert.result _ (sym c.is_err-2.ensures.value ∙ c.if-is_err-2.true) c.insert.ensures.err;
-      made = λ differ. absurd (differ refl);
-      refused = (
-        sym c.limit.ensures.value ∙ (c.if-limit.false ∙ c.limit-2.ensures.limit),
-        rw (← c.base-base.ensures.value, ← c.code.ensures.value) c.in-Some.ensures.free,
-      );
-    }
+pub returns-in_default-list_room-clause-only : goal.returns-in_default-list_room-clause-only
+returns-in_default-list_room-clause-only g c = ready_same _ _ _
+
+pub returns-in_default-list_room-clause-refused : goal.returns-in_default-list_room-clause-refused
+returns-in_default-list_room-clause-refused g c = (
+  sym c.limit.ensures.value ∙ (c.if-limit.false ∙ c.limit-2.ensures.limit),
+  rw (← c.base-base.ensures.value, ← c.code.ensures.value) c.in-Some.ensures.free,
+)
+
+pub returns-then-is_err-clause-only : goal.returns-then-is_err-clause-only
+returns-then-is_err-clause-only g c = rw (← c.base-base.ensures.value, ← c.code.ensures.value) c.ready.ensures.only
+
+pub returns-then-is_err-clause-refused : goal.returns-then-is_err-clause-refused
+returns-then-is_err-clause-refused g c = (
+  sym c.limit.ensures.value ∙ (c.if-limit.false ∙ c.limit-2.ensures.limit),
+  rw (← c.base-base.ensures.value, ← c.code.ensures.value) c.in-Some.ensures.free,
+)
+
+pub returns-then-is_err-2-clause-only : goal.returns-then-is_err-2-clause-only
+returns-then-is_err-2-clause-only g c = rw (← c.base-base.ensures.value, ← c.code.ensures.value) c.ready.ensures.only
+
+pub returns-then-is_err-2-clause-unlisted : goal.returns-then-is_err-2-clause-unlisted
+returns-then-is_err-2-clause-unlisted g c =
+    at_err c.insert.result _ (sym c.is_err-2.ensures.value ∙ c.if-is_err-2.true) c.insert.ensures.err
+
+pub returns-then-is_err-2-clause-refused : goal.returns-then-is_err-2-clause-refused
+returns-then-is_err-2-clause-refused g c = (
+  sym c.limit.ensures.value ∙ (c.if-limit.false ∙ c.limit-2.ensures.limit),
+  rw (← c.base-base.ensures.value, ← c.code.ensures.value) c.in-Some.ensures.free,
+)
 
 pub returns : goal.returns
 returns g c =

@@ -4,9 +4,9 @@ use Rattle.nc_region.proofs.create.put_by_bits.Goals as goal
 pub put_bundles-requires : goal.put_bundles-requires
 put_bundles-requires g c =
     record {
-      chunk = rw (c.requires.code, ← c.in-Some.ensures.marks) (rw c.requires.code at c.requires.chunk);
-      unused = c.requires.unused;
-      ready = c.requires.ready;
+      chunk = rw (c.requires.code, ← c.in-Some.ensures.marks) (rw c.requires.code at c.requires.can.chunk);
+      unused = c.requires.can.unused;
+      ready = c.requires.can.ready;
     }
 
 pub returns-in-Some : goal.returns-in-Some

@@ -21,20 +21,20 @@ joins marked base bytes marks whole chunk unused =
 
 pub put_where-requires-clause-inside : goal.put_where-requires-clause-inside
 put_where-requires-clause-inside g c = λ k lt.
-    let placed = c.requires.chunk.placed in
+    let placed = c.requires.can.chunk.placed in
     (omega (arith, placed.low), omega (arith, placed.high, lt))
 
 pub put_where-requires-clause-closed : goal.put_where-requires-clause-closed
 put_where-requires-clause-closed g c = λ count now few puts.
-    inside_closed (g.A.Acts.marked c.args.acts.now) now c.args.base c.args.code.now count c.requires.chunk.placed few
-    c.requires.whole.closed c.requires.unused puts
+    inside_closed (g.A.Acts.marked c.args.acts.now) now c.args.base c.args.code.now count c.requires.can.chunk.placed few
+    c.requires.can.whole.closed c.requires.can.unused puts
 
 -- the text is the final one, but for stops at bundle starts
 almost : (g : Over) (c : After-put_where g) → IsFinalBut (with_span (g.A.Acts.marked c.args.acts.now).bytes (c.args.base - 65536) c.args.code.now)
     (g.A.Acts.marked c.put_where.new.self).bytes c.args.base (c.args.base + length c.args.code.now)
 almost g c =
     final_but_starts (g.A.Acts.marked c.args.acts.now) (g.A.Acts.marked c.put_where.new.self).bytes c.args.base c.args.code.now
-    c.requires.chunk.placed c.requires.unused c.put_where.ensures.bytes
+    c.requires.can.chunk.placed c.requires.can.unused c.put_where.ensures.bytes
 
 -- the bytes and marks before the bundle starts are put
 bytes_then : (g : Over) (c : After-mark_listed g) → (g.A.Acts.marked c.mark_listed.new.acts).bytes ≡ (g.A.Acts.marked c.put_where.new.self).bytes
@@ -49,12 +49,12 @@ marks_then g c =
     (ap (λ (m : MarkedText). m.marks) c.settle.ensures.marked ∙ c.put_where.ensures.marks)
 
 pub mark_listed-requires-clause-ready : goal.mark_listed-requires-clause-ready
-mark_listed-requires-clause-ready g c = rw (c.settle.ensures.made, c.put_where.ensures.made, ← c.requires.code) c.requires.ready
+mark_listed-requires-clause-ready g c = rw (c.settle.ensures.made, c.put_where.ensures.made, ← c.requires.code) c.requires.can.ready
 
 pub mark_listed-requires-clause-keeps : goal.mark_listed-requires-clause-keeps
 mark_listed-requires-clause-keeps g c =
     let old = g.A.Acts.marked c.args.acts.now in
-    let j = joins old c.args.base c.args.code.now c.args.vetted.now.marks c.requires.whole c.requires.chunk c.requires.unused in
+    let j = joins old c.args.base c.args.code.now c.args.vetted.now.marks c.requires.can.whole c.requires.can.chunk c.requires.can.unused in
     rw c.settle.ensures.marked (subst (λ (marks : List Mark). KeepsMarks marks (with_span marks (c.args.base - 65536) c.args.vetted.now.marks))
     (sym c.put_where.ensures.marks) (chunk_keeps old c.args.base c.args.code.now c.args.vetted.now.marks j))
 
@@ -62,7 +62,7 @@ pub mark_listed-requires-clause-closed : goal.mark_listed-requires-clause-closed
 mark_listed-requires-clause-closed g c =
     let old = g.A.Acts.marked c.args.acts.now in
     let now = g.A.Acts.marked c.put_where.new.self in
-    let j = joins old c.args.base c.args.code.now c.args.vetted.now.marks c.requires.whole c.requires.chunk c.requires.unused in
+    let j = joins old c.args.base c.args.code.now c.args.vetted.now.marks c.requires.can.whole c.requires.can.chunk c.requires.can.unused in
     rw c.settle.ensures.marked (subst (λ (marks : List Mark). IsClosed now.bytes (with_span marks (c.args.base - 65536) c.args.vetted.now.marks))
     (sym c.put_where.ensures.marks)
     (final_but_closed (with_span old.bytes (c.args.base - 65536) c.args.code.now) now.bytes
@@ -71,7 +71,7 @@ mark_listed-requires-clause-closed g c =
 
 pub put_where-requires-2-clause-ready : goal.put_where-requires-2-clause-ready
 put_where-requires-2-clause-ready g c =
-    rw (c.mark_listed.ensures.made, c.settle.ensures.made, c.put_where.ensures.made) c.requires.ready
+    rw (c.mark_listed.ensures.made, c.settle.ensures.made, c.put_where.ensures.made) c.requires.can.ready
 
 pub put_where-requires-2-clause-closed : goal.put_where-requires-2-clause-closed
 put_where-requires-2-clause-closed g c = λ count now few puts.
@@ -79,33 +79,34 @@ put_where-requires-2-clause-closed g c = λ count now few puts.
     let base = c.args.base in
     let code = c.args.code.now in
     let final : List ℕ = with_span old.bytes (base - 65536) code in
-    let j = joins old base code c.args.vetted.now.marks c.requires.whole c.requires.chunk c.requires.unused in
+    let j = joins old base code c.args.vetted.now.marks c.requires.can.whole c.requires.can.chunk c.requires.can.unused in
     let here = goal.at.put_where-requires-2-clause-closed g c in
     let before = subst (λ (bytes : List ℕ). IsFinalBut final bytes base (base + length code)) (sym (bytes_then g here.After-mark_listed))
     (almost g here.After-put_where) in
-    let f = starts_final old.bytes (g.A.Acts.marked c.mark_listed.new.acts).bytes now base code count c.requires.chunk.placed.low
-    (omega (arith, c.requires.chunk.placed.high)) few before puts in
+    let f = starts_final old.bytes (g.A.Acts.marked c.mark_listed.new.acts).bytes now base code count c.requires.can.chunk.placed.low
+    (omega (arith, c.requires.can.chunk.placed.high)) few before puts in
     subst (λ (marks : List Mark). IsClosed now marks) (sym (marks_then g here.After-mark_listed))
     (final_but_closed final now (with_span old.marks (base - 65536) c.args.vetted.now.marks) (base + count) (base + length code)
     (omega (arith, few)) (chunk_joins old base code c.args.vetted.now.marks j) f)
 
-pub returns-clause-marked : goal.returns-clause-marked
-returns-clause-marked g c =
+pub returns-clause-put : goal.returns-clause-put
+returns-clause-put g c =
     let old = g.A.Acts.marked c.args.acts.now in
     let base = c.args.base in
     let code = c.args.code.now in
     let final : List ℕ = with_span old.bytes (base - 65536) code in
-    let here = goal.at.returns-clause-marked g c in
+    let here = goal.at.returns-clause-put g c in
     let before = subst (λ (bytes : List ℕ). IsFinalBut final bytes base (base + length code)) (sym (bytes_then g here.After-mark_listed))
     (almost g here.After-put_where) in
     let now = g.A.Acts.marked c.put_where-2.new.self in
     let f = starts_final old.bytes (g.A.Acts.marked c.mark_listed.new.acts).bytes now.bytes base code (length code)
-    c.requires.chunk.placed.low (omega (arith, c.requires.chunk.placed.high)) (omega arith) before c.put_where-2.ensures.bytes in
-    same_code now (with_chunk old base code c.args.vetted.now.marks) (final_all final now.bytes (base + length code) f)
-    (c.put_where-2.ensures.marks ∙ marks_then g here.After-mark_listed)
-
-pub returns-clause-log : goal.returns-clause-log
-returns-clause-log g c =
-    logs_more _ _ _ _ _ c.put_where.ensures.logged (logs_more _ _ _ (Settled ∷ []) _ c.settle.ensures.logged
-    (logs_more _ _ _ (Did (MarkSpan c.args.base (length c.args.code.now)) ∷ []) _ (rw (← c.requires.code) at c.mark_listed.ensures.logged)
-    c.put_where-2.ensures.logged))
+    c.requires.can.chunk.placed.low (omega (arith, c.requires.can.chunk.placed.high)) (omega arith) before c.put_where-2.ensures.bytes in
+    record {
+      marked = same_code now (with_chunk old base code c.args.vetted.now.marks) (final_all final now.bytes (base + length code) f)
+          (c.put_where-2.ensures.marks ∙ marks_then g here.After-mark_listed);
+      whole = c.put_where-2.ensures.whole;
+      log =
+          logs_more _ _ _ _ _ c.put_where.ensures.logged (logs_more _ _ _ (Settled ∷ []) _ c.settle.ensures.logged
+          (logs_more _ _ _ (Did (MarkSpan base (length code)) ∷ []) _ (rw (← c.requires.code) at c.mark_listed.ensures.logged)
+          c.put_where-2.ensures.logged));
+    }

@@ -1,62 +1,12 @@
-use Rattle.std.proofs.Common.{◌≡◌, ℕ, List, length, take, refl, ap, ◌∙◌, arith}
-use Rattle.std.proofs.lemmas.List.{length-take-le}
+use Rattle.std.proofs.Common.{◌≡◌, false, arith}
+use Rattle.std.proofs.lemmas.Bool.{false_from_ne_true}
+use Rattle.std.proofs.lemmas.List.{length-replicate}
 use Rattle.nc_list.specs.declared.chunk.Chunk.{Chunk}
-use Rattle.nc_region.proofs.deleting.Freeing.{taken_out, taken_shorter, freed_none, freed_more, freed_all, AllFreed}
-use Rattle.nc_region.proofs.reclaim.free_many.Given.{Over}
+use Rattle.nc_region.proofs.deleting.Freeing.{freed_all}
 use Rattle.nc_region.proofs.reclaim.free_many.Goals as goal
-use Rattle.nc_region.proofs.reclaim.free_many.Goals.{Then-count-eq0}
 
--- what the last turn finds
-ended : (g : Over) (c : Then-count-eq0 g) → AllFreed c.args.least c.args.chunks.now c.take_due-count.new.self (g.A.Acts.marked c.args.acts.now)
-    (g.A.Acts.marked c.loop-room.acts)
-    (g.A.Acts.logged c.args.acts.now) (g.A.Acts.logged c.loop-room.acts)
-ended g c =
-    freed_all c.args.least c.args.chunks.now c.loop-room.chunks c.take_due-count.new.self
-    (take c.take_due-count.result c.take_due-count.new.room) _ _ _ _ c.loop-room.invariant.freed c.take_due-count.ensures.taken
-    (ap (λ (n : ℕ). take n c.take_due-count.new.room) c.if-count-eq0.true)
-
-pub loop-room-init : goal.loop-room-init
-loop-room-init g c = record {
-  freed = freed_none c.args.least c.args.chunks.now (g.A.Acts.marked c.args.acts.now)
-      (g.A.Acts.logged c.args.acts.now) c.requires.region;
-  room = refl;
-  made = refl;
-  keeper = refl;
-}
-
-pub unmark_taken-requires : goal.unmark_taken-requires
-unmark_taken-requires g c = (
-  c.args.least,
-  c.take_due-count.new.self,
-  (taken_out c.args.least (g.A.Acts.marked c.loop-room.acts) c.loop-room.chunks c.take_due-count.new.self
-      (take c.take_due-count.result c.take_due-count.new.room) c.loop-room.invariant.freed.region c.take_due-count.ensures.taken),
-)
-
-pub loop-room-preserved : goal.loop-room-preserved
-loop-room-preserved g c =
-    let due : List Chunk = take c.take_due-count.result c.take_due-count.new.room in
-    let out = taken_out c.args.least (g.A.Acts.marked c.loop-room.acts) c.loop-room.chunks c.take_due-count.new.self due
-    c.loop-room.invariant.freed.region c.take_due-count.ensures.taken in
-    record {
-      freed = freed_more c.args.least c.args.chunks.now c.loop-room.chunks c.take_due-count.new.self due _ _ _ _ _ _
-          c.loop-room.invariant.freed c.take_due-count.ensures.taken c.unmark_taken.ensures.unmarks
-          (c.unmark_taken.ensures.region c.args.least c.take_due-count.new.self out);
-      room = c.take_due-count.ensures.room ∙ c.loop-room.invariant.room;
-      made = c.unmark_taken.ensures.made ∙ c.loop-room.invariant.made;
-      keeper = c.unmark_taken.ensures.keeper ∙ c.loop-room.invariant.keeper;
-    }
-
-pub loop-room-smaller : goal.loop-room-smaller
-loop-room-smaller g c =
-    let due : List Chunk = take c.take_due-count.result c.take_due-count.new.room in
-    let many : length due ≡ c.take_due-count.result = length-take-le c.take_due-count.result c.take_due-count.new.room c.take_due-count.ensures.count in
-    omega (arith, many, c.if-count-eq0.false, taken_shorter c.args.least c.loop-room.chunks c.take_due-count.new.self due c.take_due-count.ensures.taken)
-
-pub returns-then-count-eq0-clause-chunks : goal.returns-then-count-eq0-clause-chunks
-returns-then-count-eq0-clause-chunks g c = (ended g c).stay
-
-pub returns-then-count-eq0-clause-region : goal.returns-then-count-eq0-clause-region
-returns-then-count-eq0-clause-region g c = (ended g c).region
-
-pub returns-then-count-eq0-clause-unmarks : goal.returns-then-count-eq0-clause-unmarks
-returns-then-count-eq0-clause-unmarks g c = (ended g c).unmarks
+pub returns-clause-freed : goal.returns-clause-freed
+returns-clause-freed g c =
+    let ended : c.free_until.result ≡ false =
+    false_from_ne_true c.free_until.result (λ is. let over = c.free_until.ensures.full is in omega (arith, over, length-replicate {A = Chunk})) in
+    freed_all c.args.least c.args.chunks.now c.free_until.new.chunks _ _ _ _ c.free_until.ensures.freed (c.free_until.ensures.none ended)

@@ -66,15 +66,17 @@ put_chunk-requires g c =
     let placed : HasGoodSpan v.base (limit_of marked.bytes) (length v.code) =
     subst (λ (l : ℕ). HasGoodSpan v.base l (length v.code)) room.limit (valid_chunk_is_closed v room.valid).placed in
     record {
-      whole = rw others.0 c.self.invariant.0.whole;
+      can = record {
+        whole = rw others.0 c.self.invariant.0.whole;
+        chunk = rw (others.0, c.base.ensures.value, c.code.ensures.value, ← room.limit) (valid_chunk_is_closed v room.valid);
+        unused = rw (others.0, c.base.ensures.value, c.code.ensures.value)
+            (unused_if_apart marked c.self.inside.chunks room.listed.0 v.base (length v.code) c.self.invariant.0 placed
+            room.listed.1.1 room.listed.1.2);
+        ready = rw (c.base.ensures.value, c.code.ensures.value) room.ready;
+      };
       code = c.code.ensures.value;
       room = (c.in-Ok.ensures.marks.0, rw c.code.ensures.value c.in-Ok.ensures.marks.1);
-      chunk = rw (others.0, c.base.ensures.value, c.code.ensures.value, ← room.limit) (valid_chunk_is_closed v room.valid);
       registers = chunk_names_registers v room.valid;
-      unused = rw (others.0, c.base.ensures.value, c.code.ensures.value)
-          (unused_if_apart marked c.self.inside.chunks room.listed.0 v.base (length v.code) c.self.invariant.0 placed
-          room.listed.1.1 room.listed.1.2);
-      ready = rw (c.base.ensures.value, c.code.ensures.value) room.ready;
     }
 
 pub invariant_of-self-2 : goal.invariant_of-self-2
@@ -87,7 +89,7 @@ invariant_of-self-2 g c =
     let k : ℕ = room.listed.0 in
     let chunk : IsClosedChunk v.base (limit_of marked.bytes) v.code v.marks =
     subst (λ (l : ℕ). IsClosedChunk v.base l v.code v.marks) room.limit (valid_chunk_is_closed v room.valid) in
-    let put : g.A.Acts.marked c.put_chunk.new.acts ≡ with_chunk marked v.base v.code v.marks = c.put_chunk.ensures.marked
+    let put : g.A.Acts.marked c.put_chunk.new.acts ≡ with_chunk marked v.base v.code v.marks = c.put_chunk.ensures.put.marked
     ∙ rw (others.0, c.base.ensures.value, c.code.ensures.value) refl in
     let region = region_with_chunk marked chunks k (live_chunk v) v.code v.marks
     (record {
@@ -102,7 +104,7 @@ invariant_of-self-2 g c =
       long = refl;
       above = room.listed.1.1;
       below = room.listed.1.2;
-    }) tt (subst IsText put c.put_chunk.ensures.whole) in
+    }) tt (subst IsText put c.put_chunk.ensures.put.whole) in
     let stay = chunks_stay_ready _ _ _ _ c.make_room.ensures.only chunks c.self.invariant.1 in
     rw (put, room.listed.2, c.put_chunk.ensures.made) (region, ready_inserted _ chunks k (live_chunk v) stay room.ready)
 
@@ -112,7 +114,7 @@ returns g c =
     let v = c.args.vetted in
     let others = c.make_room.ensures.others in
     let room = c.in-Ok.ensures.room in
-    let put : g.A.Acts.marked c.put_chunk.new.acts ≡ with_chunk marked v.base v.code v.marks = c.put_chunk.ensures.marked
+    let put : g.A.Acts.marked c.put_chunk.new.acts ≡ with_chunk marked v.base v.code v.marks = c.put_chunk.ensures.put.marked
     ∙ rw (others.0, c.base.ensures.value, c.code.ensures.value) refl in
     record {
       created = rw (← c.self.view_is) (record {
@@ -125,10 +127,10 @@ returns g c =
       acts = rw (← c.self.view_is, ← others.2, ← c.base.ensures.value, ← c.code.ensures.value)
           (told_logged (g.A.Acts.logged c.make_room.new.acts) (g.A.Acts.logged c.put_chunk.new.acts)
           (log_of_create c.base.result c.code.result.now) (acts_of_create c.base.result c.code.result.now)
-          (created_acts c.base.result c.code.result.now) c.put_chunk.ensures.log);
-      log = rw (← c.self.view_is, ← others.2, ← c.base.ensures.value, ← c.code.ensures.value) c.put_chunk.ensures.log;
+          (created_acts c.base.result c.code.result.now) c.put_chunk.ensures.put.log);
+      log = rw (← c.self.view_is, ← others.2, ← c.base.ensures.value, ← c.code.ensures.value) c.put_chunk.ensures.put.log;
       free = rw (← c.self.view_is) (room.limit, room.free);
       unchanged = tt;
       refused = tt;
-      confined = confined_if_closed _ _ c.put_chunk.ensures.whole.closed;
+      confined = confined_if_closed _ _ c.put_chunk.ensures.put.whole.closed;
     }

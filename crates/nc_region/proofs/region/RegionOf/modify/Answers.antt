@@ -57,10 +57,6 @@ returns-in_default-clause-refused g c =
     let spans : c.is_patch_span.result ≡ true = c.if-not-is_patch_span.false in
     rw (← c.self.view_is) (c.is_patch_span.ensures.0 spans, c.in_default.ensures.none)
 
-pub patch-requires-clause-holds : goal.patch-requires-clause-holds
-patch-requires-clause-holds g c =
-    held_holds (g.A.Acts.marked c.self.inside.acts) c.self.inside.chunks c.args.at c.in-Some.chunk c.self.invariant.0 c.in-Some.ensures.some
-
 pub patch-requires-clause-ends : goal.patch-requires-clause-ends
 patch-requires-clause-ends g c =
     let held : IsHeldBy c.self.inside.chunks c.args.at c.in-Some.chunk = c.in-Some.ensures.some in
@@ -69,12 +65,18 @@ patch-requires-clause-ends g c =
     let spans : c.is_patch_span.result ≡ true = c.if-not-is_patch_span.false in
     omega (arith, (c.is_patch_span.ensures.0 spans).1, held.2.0, held.2.1, l.start, l.whole)
 
-pub patch-requires-clause-mark : goal.patch-requires-clause-mark
-patch-requires-clause-mark g c =
+pub patch-requires-clause-place : goal.patch-requires-clause-place
+patch-requires-clause-place g c =
+    let marked = g.A.Acts.marked c.self.inside.acts in
     let held : IsHeldBy c.self.inside.chunks c.args.at c.in-Some.chunk = c.in-Some.ensures.some in
-    let l = lies (g.A.Acts.marked c.self.inside.acts) c.in-Some.chunk c.self.invariant.0.whole
-    (held_holds (g.A.Acts.marked c.self.inside.acts) c.self.inside.chunks c.args.at c.in-Some.chunk c.self.invariant.0 held) in
-    c.mark_within-mark.ensures (omega (arith, l.low, held.2.0), omega (arith, l.high, held.2.0, held.2.1))
+    let holds = held_holds marked c.self.inside.chunks c.args.at c.in-Some.chunk c.self.invariant.0 held in
+    let l = lies marked c.in-Some.chunk c.self.invariant.0.whole holds in
+    record {
+      whole = c.self.invariant.0.whole;
+      holds = holds;
+      from = held.2;
+      mark_is = c.mark_within-mark.ensures (omega (arith, l.low, held.2.0), omega (arith, l.high, held.2.0, held.2.1));
+    }
 
 pub patch-requires-clause-ready : goal.patch-requires-clause-ready
 patch-requires-clause-ready g c =

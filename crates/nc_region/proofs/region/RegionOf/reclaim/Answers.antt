@@ -14,8 +14,8 @@ use Rattle.nc_region.proofs.region.RegionOf.reclaim.Goals as goal
 pub invariant_of-self : goal.invariant_of-self
 invariant_of-self g c =
     let made = c.free_due.ensures.made ∙ c.look-least.ensures.made in (
-      c.free_due.ensures.region,
-      rw (c.free_due.ensures.chunks, made) (ready_kept (g.A.Acts.made c.self.inside.acts) c.look-least.result c.self.inside.chunks c.self.invariant.1),
+      c.free_due.ensures.freed.region,
+      rw (c.free_due.ensures.freed.chunks, made) (ready_kept (g.A.Acts.made c.self.inside.acts) c.look-least.result c.self.inside.chunks c.self.invariant.1),
     )
 
 pub free_due-requires-clause-least : goal.free_due-requires-clause-least
@@ -41,13 +41,13 @@ returns-clause-reclaimed g c =
     (reclaimed_is old new (g.A.Acts.logged c.look-least.new.self) c.free_due.result c.look-least.result
     (subst (HasLooked (g.A.Acts.keeper c.self.inside.acts)) (sym c.free_due.ensures.keeper) c.look-least.ensures.looked)
     (c.look-least.ensures.least ∙ ap (λ (k : KeeperState). least_number k.numbers) (sym c.free_due.ensures.keeper))
-    c.free_due.ensures.chunks
+    c.free_due.ensures.freed.chunks
     c.free_due.ensures.count
-    (c.free_due.ensures.unmarks.marked ∙ ap (λ (m : MarkedText). unmarked m
+    (c.free_due.ensures.freed.unmarks.marked ∙ ap (λ (m : MarkedText). unmarked m
     (freed c.look-least.result c.self.inside.chunks)) c.look-least.ensures.marked)
     (c.free_due.ensures.made ∙ c.look-least.ensures.made)
     c.look-least.ensures.logged
-    c.free_due.ensures.unmarks.logs)
+    c.free_due.ensures.freed.unmarks.logs)
 
 pub returns-clause-confined : goal.returns-clause-confined
-returns-clause-confined g c = confined_if_closed _ _ c.free_due.ensures.region.whole.closed
+returns-clause-confined g c = confined_if_closed _ _ c.free_due.ensures.freed.region.whole.closed
