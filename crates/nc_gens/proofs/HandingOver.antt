@@ -1,9 +1,11 @@
 -- A pass goes from one view to another, and the rule of the words stays.
-use Rattle.std.proofs.Common.{◌≡◌, ◌≢◌, ℕ, ◌+◌, ◌<◌, ◌≤◌, true, false, List, length, set, sym, refl, slice_index, ap, ◌∙◌, subst, ⊎_elim}
+use Rattle.std.proofs.Common.{◌≡◌, ◌≢◌, ℕ, ◌+◌, ◌<◌, ◌≤◌, true, false, List, [], ◌∷◌, ◌++◌, length, set, sym, refl, slice_index, ap, ◌∙◌, subst, ⊎_elim}
 use Rattle.std.proofs.Common.{inl, inr, arith, le_refl, zero-le}
 use mathlib.Core.Logic.{dite}
+use mathlib.Core.Option.{some}
 use native.Mathlib.Decide.{ℕ_discrete}
-use Rattle.atomic_table.specs.Table.{Splits, Joins}
+use lib.ListN.{get_elem?}
+use Rattle.atomic_table.specs.Table.{State, Splits, Joins}
 use Rattle.atomic_table.proofs.Lists.{set_else}
 use Rattle.nc_gens.specs.declared.view.PassNumbers.{PassNumbers}
 use Rattle.nc_gens.specs.declared.view.KeeperNumbers.{KeeperNumbers}
@@ -85,6 +87,23 @@ keeper_there : (vs : List View) (owner : ℕ → ℕ) (i at : ℕ) → StandsAt 
     → StandsAt vs (owned_by owner (i + 1) at 0) HasKeeper
 keeper_there vs owner i at = subst (λ (z : ℕ). StandsAt vs z HasKeeper) (sym (by_else owner (i + 1) at 0 (λ z. omega arith)))
 
+-- A view is cut in two, and the second half gets a seat that the view owned. The rule stays if both halves fit.
+seat_moved : (s : State (Unit {0}) View) (r : Ruled s) (id : ℕ) (v a b : View) (seat : ℕ) → get_elem? s.views id ≡ some v
+    → r.owner (seat + 1) ≡ id → (HasKeeper v → HasKeeper a) → HasSeat seat b → ((k : ℕ) → k ≢ seat → HasSeat k v → HasSeat k a)
+    → FitsView s.words (owned_by r.owner (seat + 1) (length (set s.views id a))) id a
+    → FitsView s.words (owned_by r.owner (seat + 1) (length (set s.views id a))) (length (set s.views id a)) b
+    → Ruled record { words = s.words; homes = s.homes; views = set s.views id a ++ b ∷ [] }
+seat_moved s r id v a b seat at owns keeper here others left right =
+    let new : ℕ = length (set s.views id a) in record {
+      owner = owned_by r.owner (seat + 1) new;
+      in_range = r.in_range;
+      has_keeper = keeper_there _ r.owner seat new (split_still_there HasKeeper s.views id v a b at keeper (r.owner 0) r.has_keeper);
+      has_seat = λ k l. seats_there _ r.owner seat new k (added_there (HasSeat seat) (set s.views id a) b here)
+          (λ ne. split_still_there (HasSeat k) s.views id v a b at (others k ne) (r.owner (k + 1)) (r.has_seat k l));
+      each_view = split_views_stay (FitsView s.words (owned_by r.owner (seat + 1) new)) s.views id a b left right
+          (λ k x other there. others_fit s.words r.owner (seat + 1) new k x (omega arith) (λ z. other (sym z ∙ owns)) (r.each_view k x there));
+    }
+
 -- the pass of a view goes to a new token
 pub passes_out : (id : ℕ) (v : View) → v.is_pass ≡ true → (v.is_keeper ≡ true → length v.keeper.bounds ≤ v.given)
     → Splits Ruled id v (without_pass v) (without_keeper v)
@@ -92,28 +111,19 @@ passes_out id v is all_given s r at =
     let f = r.each_view id v at in
     let p = f.pass is in
     let i : ℕ = v.seat + 1 in
-    let a : View = without_pass v in
-    let b : View = without_keeper v in
-    let new : ℕ = length (set s.views id a) in
-    let owner : ℕ → ℕ = owned_by r.owner i new in record {
-      owner = owner;
-      in_range = r.in_range;
-      has_keeper = keeper_there _ r.owner v.seat new (split_still_there HasKeeper s.views id v a b at (λ h. h) (r.owner 0) r.has_keeper);
-      has_seat = λ k l. seats_there _ r.owner v.seat new k (added_there (HasSeat v.seat) (set s.views id a) b (inl (is, refl)))
-          (λ ne. split_still_there (HasSeat k) s.views id v a b at (⊎_elim (λ t. absurd (ne (sym t.1))) (λ t. inr t))
-          (r.owner (k + 1)) (r.has_seat k l));
-      each_view = split_views_stay (FitsView s.words owner) s.views id a b
-          record {
-            pass = λ h. let no : false ≡ true = h in cc;
-            keeper = λ h. let q = f.keeper h in
-                moved_keeper s.words r.owner owner id id v.given v.given v.keeper (by_else r.owner i new 0 (λ z. omega arith) ∙ q.owns)
-                (λ k l m. let g = all_given h in absurd (omega arith)) q;
-          }
-          record {
-            pass = λ _. moved_pass s.words r.owner owner id new v.seat v.pass (by_here r.owner i new i refl) p;
-            keeper = λ h. let no : false ≡ true = h in cc;
-          }
-          (λ k x other here. others_fit s.words r.owner i new k x (omega arith) (λ z. other (sym z ∙ p.owns)) (r.each_view k x here));
+    let new : ℕ = length (set s.views id (without_pass v)) in
+    let owner : ℕ → ℕ = owned_by r.owner i new in
+    seat_moved s r id v (without_pass v) (without_keeper v) v.seat at p.owns (λ h. h) (inl (is, refl))
+    (λ k ne. ⊎_elim (λ t. absurd (ne (sym t.1))) (λ t. inr t))
+    record {
+      pass = λ h. let no : false ≡ true = h in cc;
+      keeper = λ h. let q = f.keeper h in
+          moved_keeper s.words r.owner owner id id v.given v.given v.keeper (by_else r.owner i new 0 (λ z. omega arith) ∙ q.owns)
+          (λ k l m. let g = all_given h in absurd (omega arith)) q;
+    }
+    record {
+      pass = λ _. moved_pass s.words r.owner owner id new v.seat v.pass (by_here r.owner i new i refl) p;
+      keeper = λ h. let no : false ≡ true = h in cc;
     }
 
 -- a new pass comes from the keeper
@@ -123,36 +133,26 @@ gives_pass id v bare is room s r at =
     let q = (r.each_view id v at).keeper is in
     let i : ℕ = v.given + 1 in
     let own = q.not_given v.given (le_refl v.given) room in
-    let a : View = given_one_more v in
-    let b : View = new_pass_view v in
-    let new : ℕ = length (set s.views id a) in
-    let owner : ℕ → ℕ = owned_by r.owner i new in record {
-      owner = owner;
-      in_range = r.in_range;
-      has_keeper = keeper_there _ r.owner v.given new (split_still_there HasKeeper s.views id v a b at (λ h. h) (r.owner 0) r.has_keeper);
-      has_seat = λ k l. seats_there _ r.owner v.given new k (added_there (HasSeat v.given) (set s.views id a) b (inl (refl, refl)))
-          (λ ne. split_still_there (HasSeat k) s.views id v a b at
-          (⊎_elim (λ t. let no : false ≡ true = sym bare ∙ t.0 in cc) (λ t. inr (t.0, (let l' = t.1 in omega arith))))
-          (r.owner (k + 1)) (r.has_seat k l));
-      each_view = split_views_stay (FitsView s.words owner) s.views id a b
-          record {
-            pass = λ h. let no : false ≡ true = sym bare ∙ h in cc;
-            keeper = λ _. moved_keeper s.words r.owner owner id id v.given (v.given + 1) v.keeper
-                (by_else r.owner i new 0 (λ z. omega arith) ∙ q.owns)
-                (λ k l m. let c = q.not_given k (omega arith) m in (by_else r.owner i new (k + 1) (λ z. omega arith) ∙ c.0, c.1)) q;
-          }
-          record {
-            pass = λ _. record {
-              inside = let h = q.wide in omega arith;
-              owns = by_here r.owner i new i refl;
-              own_word = own.1;
-              published = λ _. le_refl 0;
-              saw = le_refl 0;
-              current = zero-le;
-            };
-            keeper = λ h. let no : false ≡ true = h in cc;
-          }
-          (λ k x other here. others_fit s.words r.owner i new k x (omega arith) (λ z. other (sym z ∙ own.0)) (r.each_view k x here));
+    let new : ℕ = length (set s.views id (given_one_more v)) in
+    let owner : ℕ → ℕ = owned_by r.owner i new in
+    seat_moved s r id v (given_one_more v) (new_pass_view v) v.given at own.0 (λ h. h) (inl (refl, refl))
+    (λ k ne. ⊎_elim (λ t. let no : false ≡ true = sym bare ∙ t.0 in cc) (λ t. inr (t.0, (let l' = t.1 in omega arith))))
+    record {
+      pass = λ h. let no : false ≡ true = sym bare ∙ h in cc;
+      keeper = λ _. moved_keeper s.words r.owner owner id id v.given (v.given + 1) v.keeper
+          (by_else r.owner i new 0 (λ z. omega arith) ∙ q.owns)
+          (λ k l m. let c = q.not_given k (omega arith) m in (by_else r.owner i new (k + 1) (λ z. omega arith) ∙ c.0, c.1)) q;
+    }
+    record {
+      pass = λ _. record {
+        inside = let h = q.wide in omega arith;
+        owns = by_here r.owner i new i refl;
+        own_word = own.1;
+        published = λ _. le_refl 0;
+        saw = le_refl 0;
+        current = zero-le;
+      };
+      keeper = λ h. let no : false ≡ true = h in cc;
     }
 
 -- the pass of another view goes into this one, which has none

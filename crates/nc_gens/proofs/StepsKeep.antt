@@ -46,28 +46,35 @@ pass_fits old new owner at seat p long same rises f =
       current = le_trans f.current rises;
     }
 
+-- A pass loads the generation and sees it. The rule stays if its word does, and its `since` doesn't fall and is at most the generation.
+sees : (s : Words) (r : Ruled s) (id : ℕ) (me : Known) (p : PassNumbers) → get_elem? s.views id ≡ some me.0 → me.0.is_pass ≡ true
+    → p.word ≡ me.0.pass.word → me.0.pass.since ≤ p.since → p.since ≤ p.seen → p.seen ≡ get_or s.words 0 0
+    → Ruled (stepped s 0 (get_or s.words 0 0) id me.1 (record me.0 { pass = p }) keeps)
+sees s r id me p at is same rises saw seen =
+    let f = r.each_view id me.0 at in
+    let old = f.pass is in
+    loaded s r 0 id me (record me.0 { pass = p }) at (λ h. h) (λ k h. h) record {
+      pass = λ _. record {
+        inside = old.inside;
+        owns = old.owns;
+        own_word = old.own_word ∙ sym same;
+        published = λ ne. let below = old.published (λ e. ne (same ∙ e)) in omega arith;
+        saw = saw;
+        current = omega arith;
+      };
+      keeper = f.keeper;
+    }
+
 -- a pass loads the generation, and takes it
 pub takes_generation : (slots id : ℕ) (me : Known) → me.0.is_pass ≡ true
     → Allows Ruled slots id me 0 (λ n. n) (TakesGeneration (step slots 0 0 0 none) me)
 takes_generation slots id me is s r _ at _ =
     let n : ℕ = get_or s.words 0 0 in
-    let f = r.each_view id me.0 at in
-    let p = f.pass is in
-    let w : View = record me.0 { pass = generation_taken n me.0.pass } in (
-      w,
+    let p = (r.each_view id me.0 at).pass is in (
+      record me.0 { pass = generation_taken n me.0.pass },
       keeps,
       tt,
-      loaded s r 0 id me w at (λ h. h) (λ k h. h) record {
-        pass = λ _. record {
-          inside = p.inside;
-          owns = p.owns;
-          own_word = p.own_word;
-          published = λ ne. le_trans (p.published ne) (le_trans p.saw p.current);
-          saw = le_refl n;
-          current = le_refl n;
-        };
-        keeper = f.keeper;
-      },
+      sees s r id me (generation_taken n me.0.pass) at is refl (le_trans p.saw p.current) (le_refl n) refl,
       record { after = refl; by_pass = is; word = refl; rises = p.current; in_range = r.in_range },
     )
 
@@ -75,24 +82,12 @@ takes_generation slots id me is s r _ at _ =
 pub sees_generation : (slots id : ℕ) (me : Known) → me.0.is_pass ≡ true
     → Allows Ruled slots id me 0 (λ n. n) (SeesGeneration (step slots 0 0 0 none) me)
 sees_generation slots id me is s r _ at _ =
-    let n : ℕ = get_or s.words 0 0 in
     let f = r.each_view id me.0 at in
-    let p = f.pass is in
-    let w : View = record me.0 { pass = generation_seen n me.0.pass } in (
-      w,
+    let p = f.pass is in (
+      record me.0 { pass = generation_seen (get_or s.words 0 0) me.0.pass },
       keeps,
       tt,
-      loaded s r 0 id me w at (λ h. h) (λ k h. h) record {
-        pass = λ _. record {
-          inside = p.inside;
-          owns = p.owns;
-          own_word = p.own_word;
-          published = p.published;
-          saw = le_trans p.saw p.current;
-          current = le_refl n;
-        };
-        keeper = f.keeper;
-      },
+      sees s r id me (generation_seen (get_or s.words 0 0) me.0.pass) at is refl (le_refl me.0.pass.since) (le_trans p.saw p.current) refl,
       record { after = refl; by_pass = is; word = refl; rises = p.current; in_range = r.in_range; met = λ k. (f.keeper k).generation_is },
     )
 

@@ -1,8 +1,8 @@
 //! The lines of a reader, answered one after another.
 
-ghost use Rattle.std.specs.Prelude.{◌≡◌, [], ℕ, List, Option};
+ghost use Rattle.std.specs.Prelude.{◌≡◌, []};
 ghost use Rattle.nc_lines.specs.Answering.{HasAnsweredAll};
-ghost use Rattle.nc_lines.specs.machinery.Progress.{KeepsUp, Finishes};
+ghost use Rattle.nc_lines.specs.machinery.Progress.{FinishesLine};
 
 use crate::fault::ReplayFault;
 use crate::lines::{answer_line, feed};
@@ -19,9 +19,8 @@ fn answer_rest<S: Responder, W: Write>(
     line: &[u8],
 ) -> Result<(), ReplayFault>
     requires { replies.old.held.items ≡ [] }
-    ensures finishes { (start : S) (before : Option (List ℕ)) (bytes : List ℕ)
-        → KeepsUp S.answers start before bytes responder.old (W.contents writer.old) replies.old.held.items line.now
-        → Finishes S.answers start before bytes responder.new (W.contents writer.new) result }
+    ensures finishes { FinishesLine S.answers responder.old (W.contents writer.old) replies.old.held.items line.now
+        responder.new (W.contents writer.new) result }
     ensures most { replies.new.held.most ≡ replies.old.held.most }
 {
     if line.is_empty() {
@@ -45,9 +44,8 @@ fn finish<S: Responder, W: Write>(
     line: &[u8],
 ) -> Result<(), ReplayFault>
     requires { replies.old.held.items ≡ [] }
-    ensures finishes { (start : S) (before : Option (List ℕ)) (bytes : List ℕ)
-        → KeepsUp S.answers start before bytes responder.old (W.contents writer.old) replies.old.held.items line.now
-        → Finishes S.answers start before bytes responder.new (W.contents writer.new) result }
+    ensures finishes { FinishesLine S.answers responder.old (W.contents writer.old) replies.old.held.items line.now
+        responder.new (W.contents writer.new) result }
     ensures most { replies.new.held.most ≡ replies.old.held.most }
 {
     match answer_rest(responder, writer, replies, line) {

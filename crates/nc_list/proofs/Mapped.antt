@@ -1,8 +1,8 @@
 -- Numbers of a list from an index on, gone over one by one.
-use Rattle.std.proofs.Common.{◌≡◌, ℕ, ◌+◌, ◌-◌, ◌<◌, ◌≤◌, List, [], ◌∷◌, ◌++◌, length, get_or, take, drop, map, sym, ap, ◌∙◌, arith, append_assoc, subst}
+use Rattle.std.proofs.Common.{◌≡◌, ℕ, ◌+◌, ◌-◌, ◌<◌, ◌≤◌, List, [], ◌∷◌, ◌++◌, length, get_or, set, take, drop, map, sym, ap, ◌∙◌, arith, append_assoc, subst}
 use Rattle.nc_list.specs.Each.{Each}
 use Rattle.nc_list.proofs.EachMember.{each_get}
-use Rattle.std.proofs.lemmas.List.{take_more, map-append, length-drop, get_or-drop, drop-drop, take_all}
+use Rattle.std.proofs.lemmas.List.{take_more, map-append, length-drop, get_or-drop, drop-drop, length-set, drop-set-lt, take_more_set}
 
 -- numbers of a list mapped up to the next index are those up to this one, and the one here
 pub mapped_tail : (f : ℕ → ℕ) (xs : List ℕ) (m i d : ℕ) → m ≤ i → i < length xs
@@ -23,10 +23,6 @@ mapped_more f xs m i d le lt =
     ap (λ (z : List ℕ). take m xs ++ z) (mapped_tail f xs m i d le lt)
     ∙ sym (append_assoc (take m xs) (map f (take (i - m) (drop m xs))) (f (get_or xs i d) ∷ []))
 
--- once all numbers from an index on are mapped, they are the mapped rest
-pub mapped_all : (f : ℕ → ℕ) (xs : List ℕ) (m i : ℕ) → length xs ≤ i → map f (take (i - m) (drop m xs)) ≡ map f (drop m xs)
-mapped_all f xs m i le = ap (map f) (take_all (i - m) (drop m xs) (omega (arith, le, length-drop m xs)))
-
 -- lists that are the same from an index on are the same from the next one on
 pub rest_more : {X : Type 0} (xs ys : List X) (i : ℕ) → drop i xs ≡ drop i ys → drop (i + 1) xs ≡ drop (i + 1) ys
 rest_more xs ys i same = sym (drop-drop 1 i xs) ∙ (ap (drop 1) same ∙ drop-drop 1 i ys)
@@ -37,6 +33,29 @@ here_same xs ys i d same =
     let e : i + 0 ≡ i = omega arith in
     ap (λ (k : ℕ). get_or xs k d) (sym e)
     ∙ (sym (get_or-drop i xs 0 d) ∙ (ap (λ z. get_or z 0 d) same ∙ (get_or-drop i ys 0 d ∙ ap (λ (k : ℕ). get_or ys k d) e)))
+
+-- the numbers of a list from an index on, mapped one by one as far as `i`
+pub record IsMappedUpTo (f : ℕ → ℕ) (first i : ℕ) (old now : List ℕ) : Type 0 where
+  pub from : first ≤ i
+  pub long : length now ≡ length old
+  pub rest : drop i now ≡ drop i old
+  pub done : take i now ≡ take first old ++ map f (take (i - first) (drop first old))
+
+-- numbers that are mapped up to an index are mapped up to the next one once the one here is
+pub mapped_here : (f : ℕ → ℕ) (first i : ℕ) (old now : List ℕ) → IsMappedUpTo f first i old now → i < length now
+    → IsMappedUpTo f first (i + 1) old (set now i (f (get_or now i 0)))
+mapped_here f first i old now so within =
+    let y = f (get_or now i 0) in
+    let inside : i < length old = omega (arith, within, so.long) in
+    record {
+      from = omega (arith, so.from);
+      long = length-set now i y ∙ so.long;
+      rest = drop-set-lt (i + 1) now i y (omega arith) ∙ rest_more now old i so.rest;
+      done = take_more_set now i y within
+          ∙ (ap (λ (z : List ℕ). z ++ y ∷ []) so.done
+          ∙ (ap (λ (n : ℕ). (take first old ++ map f (take (i - first) (drop first old))) ++ f n ∷ []) (here_same now old i 0 so.rest)
+          ∙ sym (mapped_more f old first i 0 so.from inside)));
+    }
 
 -- what holds of each number from an index on holds of one of them
 pub each_from_index : (P : ℕ → Type 0) (xs : List ℕ) (m i d : ℕ) → m ≤ i → i < length xs → Each P (drop m xs) → P (get_or xs i d)

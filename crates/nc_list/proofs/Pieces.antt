@@ -1,6 +1,6 @@
 -- Chunks in parts.
 use Rattle.std.proofs.Common.{◌≡◌, ℕ, zero, suc, ◌+◌, ◌-◌, ◌<◌, ◌≤◌, List, [], ◌∷◌, ◌++◌, length, get_or, set, take, drop, map, refl, sym, ap, ◌∙◌, arith, append-nil}
-use Rattle.std.proofs.lemmas.List.{length-append, get_or-map, take_more}
+use Rattle.std.proofs.lemmas.List.{length-append, length-map, get_or-map, take_more}
 use Rattle.std.proofs.lemmas.List.Concat.{flat_map-append}
 use Rattle.nc_list.specs.declared.chunk.Chunk.{Chunk}
 use Rattle.nc_list.specs.Each.{Each}
@@ -96,6 +96,11 @@ starts_around before here after n is =
 pub part_is : {X : Type 0} (f : X → List Chunk) (xs : List X) (k : ℕ) (p : X) → k < length xs → p ≡ get_or xs k p
     → f p ≡ get_or (map f xs) k []
 part_is f xs k p lt is = ap f is ∙ sym (get_or-map f xs k p [] lt)
+
+-- an index of a list is one of another whose elements are read as the same
+pub inside_too : {X : Type 0} (f : X → List Chunk) (xs olds : List X) (k : ℕ) → map f xs ≡ map f olds → k < length olds → k < length xs
+inside_too f xs olds k same lt =
+    omega (arith, lt, ap (λ (z : List (List Chunk)). length z) same, length-map xs f, length-map olds f)
 
 -- where there are several parts, each has a chunk
 pub some_at : (parts : List (List Chunk)) (k : ℕ) → HaveSome parts → 1 < length parts → k < length parts → 0 < length (get_or parts k [])

@@ -2,7 +2,6 @@
 use Rattle.std.proofs.Common.{◌≡◌, ℕ, zero, suc, ◌+◌, ◌<◌, ◌≤◌, List, [], ◌∷◌, ◌++◌, length, get_or, ap, inl, inr, arith}
 use Rattle.std.proofs.lemmas.Bool.{cases_lt}
 use Rattle.nc_list.specs.declared.chunk.Chunk.{Chunk}
-use Rattle.nc_list.specs.Each.{Each}
 use Rattle.nc_list.specs.Chunks.{IsRising, IsAboveAll, IsBelowAll, Meets}
 use Rattle.nc_list.proofs.EachMember.{each_map, each_get}
 
@@ -69,12 +68,6 @@ rises_at from chunks i j d rising le lt =
           let same : i ≡ j = omega (arith, le, from_it) in
           omega (arith, ap (λ (n : ℕ). (get_or chunks n d).base) same)
     ]
-
--- no chunk of a list that meets no span overlaps it
-pub meets_none : (base len : ℕ) (chunks : List Chunk) → ¬ Meets base len chunks
-    → Each (λ (d : Chunk). base < d.base + d.length → d.base < base + len → ⊥) chunks
-meets_none base len [] free = tt
-meets_none base len (d ∷ rest) free = (λ a b. free (inl (a, b)), meets_none base len rest (λ m. free (inr m)))
 
 -- a span that meets the first part of a list meets the list
 pub meets_first : (base len : ℕ) (xs ys : List Chunk) → Meets base len xs → Meets base len (xs ++ ys)

@@ -14,6 +14,18 @@ use Rattle.nc_list.proofs.Pieces.{all_around, all_more, around, around_set, star
 use Rattle.nc_list.proofs.Parting.{starts_at, take_seam, drop_seam, starts_before, starts_many}
 use Rattle.nc_list.proofs.Combining.{put_within, retired_within, next_within}
 
+-- The part for a place was found in parts that were lent, and then read at its index.
+pub record IsFound {X : Type 0} (f : X → List Chunk) (xs : List X) (k at : ℕ) (p : X) : Type 0 where
+  pub for : IsPartFor (map f xs) k at
+  pub part : f p ≡ get_or (map f xs) k []
+
+-- what is known of a part that was found in parts that were lent, and then read at its index
+pub found : {X : Type 0} (f : X → List Chunk) (xs lent : List X) (k at : ℕ) (p : X) → lent ≡ xs → IsPartFor (map f lent) k at → p ≡ get_or xs k p
+    → IsFound f xs k at p
+found {X = X} f xs lent k at p loan near is =
+    let for = subst (λ (z : List X). IsPartFor (map f z) k at) loan near in
+    record { for = for; part = part_is f xs k p (omega (arith, for.inside, length-map xs f)) is }
+
 -- all chunks, around a part
 pub all_at : (parts : List (List Chunk)) (k : ℕ) → k < length parts
     → all_of parts ≡ all_of (take k parts) ++ (get_or parts k [] ++ all_of (drop (suc k) parts))

@@ -1,11 +1,12 @@
 -- The part for a place.
-use Rattle.std.proofs.Common.{ℕ, suc, ◌+◌, ◌<◌, ◌≤◌, List, [], ◌∷◌, ◌++◌, length, get_or, take, drop, sym, ap, ◌∙◌, arith, subst, drop-cons}
+use Rattle.std.proofs.Common.{◌≡◌, ℕ, suc, ◌+◌, ◌<◌, ◌≤◌, List, [], ◌∷◌, ◌++◌, length, get_or, take, drop, map, sym, ap, ◌∙◌, arith, subst, drop-cons}
+use Rattle.std.proofs.lemmas.List.{length-map}
 use Rattle.nc_list.specs.declared.chunk.Chunk.{Chunk}
 use Rattle.nc_list.specs.Chunks.{IsRising, IsAboveAll}
 use Rattle.nc_list.specs.Stamps.{BeginsAt}
-use Rattle.nc_list.specs.Parts.{BeginAbove, all_of}
+use Rattle.nc_list.specs.Parts.{BeginAbove, HaveSome, all_of}
 use Rattle.nc_list.proofs.EachMember.{each_map}
-use Rattle.nc_list.proofs.Pieces.{around, all_around}
+use Rattle.nc_list.proofs.Pieces.{around, all_around, part_is, some_at}
 use Rattle.nc_list.proofs.Rising.{rises_before, rises_behind}
 
 -- chunks before one that begins at or below a place
@@ -24,19 +25,36 @@ from_one xs (c ∷ here) ys first at rising some begins lt =
     each_map (λ (d : Chunk). c.base ≤ d.base) (λ (d : Chunk). at < d.base) (λ d h. omega (arith, h, lt, begins)) (c ∷ (here ++ ys))
     (rises_behind 0 xs c (here ++ ys) rising)
 
--- a part that begins at or below a place
-pub part_below : (parts : List (List Chunk)) (k first at : ℕ) (d : List Chunk) → IsRising 0 (all_of parts) → k < length parts
-    → 0 < length (get_or parts k d) → BeginsAt first (get_or parts k d) → first ≤ at → IsAboveAll at (all_of (take k parts))
-part_below parts k first at d rising lt some begins le =
-    before_one (all_of (take k parts)) (get_or parts k d) (all_of (drop (suc k) parts)) first at
-    (subst (IsRising 0) (ap all_of (around parts k d lt) ∙ all_around (take k parts) (get_or parts k d) (drop (suc k) parts)) rising)
-    some begins le
+-- at this index is a part that has a chunk, and it begins there
+pub record HasFirst (parts : List (List Chunk)) (k first : ℕ) : Type 0 where
+  pub inside : k < length parts
+  pub some : 0 < length (get_or parts k [])
+  pub begins : BeginsAt first (get_or parts k [])
+
+-- one of several parts has a chunk, and begins where it says
+pub has_first : {X : Type 0} (f : X → List Chunk) (xs : List X) (k first : ℕ) (p : X) → HaveSome (map f xs) → 1 < length xs → k < length xs
+    → p ≡ get_or xs k p → BeginsAt first (f p) → HasFirst (map f xs) k first
+has_first f xs k first p have several lt is begins =
+    let long = length-map xs f in
+    record {
+      inside = omega (arith, lt, long);
+      some = some_at (map f xs) k have (omega (arith, several, long)) (omega (arith, lt, long));
+      begins = subst (BeginsAt first) (part_is f xs k p lt is) begins;
+    }
+
+-- the chunks before a part that begins at or below a place end there at the latest
+pub part_below : (parts : List (List Chunk)) (k first at : ℕ) → IsRising 0 (all_of parts) → HasFirst parts k first → first ≤ at
+    → IsAboveAll at (all_of (take k parts))
+part_below parts k first at rising has le =
+    before_one (all_of (take k parts)) (get_or parts k []) (all_of (drop (suc k) parts)) first at
+    (subst (IsRising 0) (ap all_of (around parts k [] has.inside) ∙ all_around (take k parts) (get_or parts k []) (drop (suc k) parts)) rising)
+    has.some has.begins le
 
 -- the chunks of a part that begins above a place, and those behind it, begin above the place
-pub part_above : (parts : List (List Chunk)) (k first at : ℕ) (d : List Chunk) → IsRising 0 (all_of parts) → k < length parts
-    → 0 < length (get_or parts k d) → BeginsAt first (get_or parts k d) → at < first → BeginAbove at (all_of (drop k parts))
-part_above parts k first at d rising lt some begins above =
-    subst (λ (z : List (List Chunk)). BeginAbove at (all_of z)) (sym (drop-cons parts k d lt))
-    (from_one (all_of (take k parts)) (get_or parts k d) (all_of (drop (suc k) parts)) first at
-    (subst (IsRising 0) (ap all_of (around parts k d lt) ∙ all_around (take k parts) (get_or parts k d) (drop (suc k) parts)) rising)
-    some begins above)
+pub part_above : (parts : List (List Chunk)) (k first at : ℕ) → IsRising 0 (all_of parts) → HasFirst parts k first → at < first
+    → BeginAbove at (all_of (drop k parts))
+part_above parts k first at rising has above =
+    subst (λ (z : List (List Chunk)). BeginAbove at (all_of z)) (sym (drop-cons parts k [] has.inside))
+    (from_one (all_of (take k parts)) (get_or parts k []) (all_of (drop (suc k) parts)) first at
+    (subst (IsRising 0) (ap all_of (around parts k [] has.inside) ∙ all_around (take k parts) (get_or parts k []) (drop (suc k) parts)) rising)
+    has.some has.begins above)

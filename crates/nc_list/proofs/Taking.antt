@@ -131,19 +131,6 @@ gone_on most least old new taken c why so =
       | inr full ↦ gone_full most least old new taken c full so
     ]
 
--- once all chunks are gone over, the due ones of the front have been taken
-pub gone_all : (most least : ℕ) (old new taken : List Chunk) → 0 < most → AreGoneOver most least old new taken → AreTaken least old new taken
-gone_all most least old new taken some so = record {
-  front = so.front;
-  back = so.back;
-  was = so.was;
-  now = so.now;
-  taken_are = so.taken_are;
-  none = λ none. ap (λ (z : List Chunk). freed least z)
-      (so.was ∙ (ap (λ (z : List Chunk). so.front ++ z) (so.more (rw none some)) ∙ append-nil so.front))
-      ∙ (sym so.taken_are ∙ none);
-}
-
 -- no chunk is taken where none is due
 pub taken_none : (least : ℕ) (cs : List Chunk) → freed least cs ≡ [] → AreTaken least cs cs []
 taken_none least cs none = record { front = []; back = cs; was = refl; now = refl; taken_are = refl; none = λ e. none }

@@ -1,8 +1,7 @@
 -- The bits of a word, from the lowest on.
 use Rattle.std.proofs.Common.{◌≡◌, ◌≢◌, ℕ, suc, ◌+◌, ◌*◌, ◌/◌, ◌%◌, ◌^◌, ◌<◌, ◌≤◌, arith, sym, ◌∙◌, ap, w32, bit_and}
 use Rattle.std.specs.Int.{bit_at, trailing_zeros, bit_not}
-use Rattle.std.proofs.lemmas.Nat.{and_le_l, pow-add}
-use Rattle.std.proofs.Math.Nat.{div-div-eq-div-mul}
+use Rattle.std.proofs.lemmas.Nat.{and_le_l}
 use Rattle.std.proofs.lemmas.Nat.Bits.{bit_at-suc, bit_at_lowest, bit_at-trailing_zeros, bit_at_clear_same, bit_at_clear_other}
 
 -- the lowest bit of twice a number and one bit is that bit
@@ -12,13 +11,6 @@ doubled_low n b small = bit_at_lowest (2 * n + b) ∙ omega (arith, small)
 -- the further bits of twice a number and one bit are those of the number
 pub doubled_high : (n b k : ℕ) → b < 2 → bit_at (2 * n + b) (suc k) ≡ bit_at n k
 doubled_high n b k small = bit_at-suc (2 * n + b) k ∙ ap (λ (m : ℕ). bit_at m k) {x = (2 * n + b) / 2} {y = n} (omega (arith, small))
-
--- a bit of half a word
-pub bit_of_half : (n k : ℕ) → bit_at (n / 2 ^ (k / 16 * 16)) (k % 16) ≡ bit_at n k
-bit_of_half n k =
-    ap (λ (m : ℕ). m % 2) (div-div-eq-div-mul n (2 ^ (k / 16 * 16)) (2 ^ (k % 16))
-    ∙ (ap (λ (m : ℕ). n / m) (sym (pow-add 2 (k / 16 * 16) (k % 16)))
-    ∙ ap (λ (j : ℕ). n / 2 ^ j) {x = k / 16 * 16 + k % 16} {y = k} (omega arith)))
 
 -- the lowest bit of a word is one of the 32
 pub lowest_place : (n : ℕ) → 0 < n → n < 2 ^ 32 → trailing_zeros w32 n < 32

@@ -11,7 +11,7 @@ use Rattle.std.proofs.lemmas.Bool.{cases_eq, cases_lt}
 use Rattle.std.proofs.lemmas.Bool.Decides.{nat_tests}
 use Rattle.std.proofs.lemmas.Nat.Bits.{bit_at-pow_other, bit_at-zero}
 use Rattle.std.proofs.lemmas.List.{ext_get_or, length-set, get_or-set_same, get_or-set_other, get_or-replicate, map-set}
-use Rattle.std.proofs.lemmas.List.{set-get_or, get_or_past}
+use Rattle.std.proofs.lemmas.List.{set-get_or, get_or_default, get_or_past}
 use Rattle.std.proofs.lemmas.List.FromFn.{length-map-range_with_len, get_or-map-range_with_len}
 use Rattle.nc_text.specs.declared.masks.Masks.{Masks}
 use Rattle.nc_text.specs.declared.page.Page.{Page}
@@ -83,22 +83,6 @@ one_page F pages i new k inside same =
       | inr other ↦ ap (λ (o : Slot). F o (k % 4096)) (get_or-set_other pages i (k / 4096) new None other)
     ]
 
--- a page that was lent and came back as another: the byte of a place that is the same on both
-pub byte_kept : (pages : List Slot) (i k : ℕ) (boxed : Box Page Global) (old new : Page) → get_or pages i None ≡ Some boxed
-    → old ≡ boxed.value → i < length pages → (k / 4096 ≡ i → byte_on new (k % 4096) ≡ byte_on old (k % 4096))
-    → byte_of (set pages i (Some (with_value boxed new))) k ≡ byte_of pages k
-byte_kept pages i k boxed old new e is inside same =
-    one_page byte_if_made pages i (Some (with_value boxed new)) k inside (λ here. same here
-    ∙ (ap (λ (p : Page). byte_on p (k % 4096)) is ∙ ap (λ (o : Slot). byte_if_made o (k % 4096)) (sym e)))
-
--- a mark in a table stays where a page is changed to one with the same mark there
-pub mark_kept : (pages : List Slot) (i k : ℕ) (boxed : Box Page Global) (old new : Page) → get_or pages i None ≡ Some boxed
-    → old ≡ boxed.value → i < length pages → (k / 4096 ≡ i → mark_on new (k % 4096) ≡ mark_on old (k % 4096))
-    → mark_in_pages (set pages i (Some (with_value boxed new))) k ≡ mark_in_pages pages k
-mark_kept pages i k boxed old new e is inside same =
-    one_page mark_if_made pages i (Some (with_value boxed new)) k inside (λ here. same here
-    ∙ (ap (λ (p : Page). mark_on p (k % 4096)) is ∙ ap (λ (o : Slot). mark_if_made o (k % 4096)) (sym e)))
-
 -- what is said of a place, by the page of another place
 pub same_page : {X : Type 0} (F : Slot → ℕ → X) (pages : List Slot) (at k : ℕ) → at % 4096 + k < 4096
     → F (get_or pages ((at + k) / 4096) None) ((at + k) % 4096) ≡ F (get_or pages (at / 4096) None) (at % 4096 + k)
@@ -120,11 +104,46 @@ made_at [] i = refl
 made_at (page ∷ pages) zero = refl
 made_at (page ∷ pages) (suc i) = made_at pages i
 
--- a page changed to one that is made, or not, like it leaves which pages are made
-pub same_made : (pages : List Slot) (i : ℕ) (new : Slot) → is_some new ≡ is_some (get_or pages i None)
-    → map is_some (set pages i new) ≡ map is_some pages
-same_made pages i new e =
-    map-set is_some pages i new ∙ (ap (set (map is_some pages) i) (e ∙ sym (made_at pages i)) ∙ set-get_or (map is_some pages) i false)
+-- the page of a number, which was lent from its box
+pub record IsLentPage (pages : List Slot) (i : ℕ) (boxed : Box Page Global) (page : Page) : Type 0 where
+  pub slot : get_or pages i None ≡ Some boxed
+  pub loan : page ≡ boxed.value
+  pub inside : i < length pages
+
+-- a page that was found in a table is lent from its box
+pub lent_page : {pages : List Slot} {i : ℕ} {boxed : Box Page Global} {page : Page} → (found : Slot) → i < length pages
+    → get_or pages i found ≡ Some boxed → page ≡ boxed.value → IsLentPage pages i boxed page
+lent_page {pages = pages} {i = i} found inside is loan =
+    record { slot = get_or_default pages i None found inside ∙ is; loan = loan; inside = inside }
+
+-- the byte of a place stays where a page that was lent came back with the same byte there
+pub byte_kept : {pages : List Slot} {i : ℕ} {boxed : Box Page Global} {page : Page} → IsLentPage pages i boxed page → (new : Page) (k : ℕ)
+    → (k / 4096 ≡ i → byte_on new (k % 4096) ≡ byte_on page (k % 4096))
+    → byte_of (set pages i (Some (with_value boxed new))) k ≡ byte_of pages k
+byte_kept {pages = pages} {i = i} {boxed = boxed} is new k same =
+    one_page byte_if_made pages i (Some (with_value boxed new)) k is.inside (λ here. same here
+    ∙ (ap (λ (p : Page). byte_on p (k % 4096)) is.loan ∙ ap (λ (o : Slot). byte_if_made o (k % 4096)) (sym is.slot)))
+
+-- the mark of a place stays where a page that was lent came back with the same mark there
+pub mark_kept : {pages : List Slot} {i : ℕ} {boxed : Box Page Global} {page : Page} → IsLentPage pages i boxed page → (new : Page) (k : ℕ)
+    → (k / 4096 ≡ i → mark_on new (k % 4096) ≡ mark_on page (k % 4096))
+    → mark_in_pages (set pages i (Some (with_value boxed new))) k ≡ mark_in_pages pages k
+mark_kept {pages = pages} {i = i} {boxed = boxed} is new k same =
+    one_page mark_if_made pages i (Some (with_value boxed new)) k is.inside (λ here. same here
+    ∙ (ap (λ (p : Page). mark_on p (k % 4096)) is.loan ∙ ap (λ (o : Slot). mark_if_made o (k % 4096)) (sym is.slot)))
+
+-- the same pages are made where a page that was lent came back
+pub made_kept : {pages : List Slot} {i : ℕ} {boxed : Box Page Global} {page : Page} → IsLentPage pages i boxed page → (new : Page)
+    → map is_some (set pages i (Some (with_value boxed new))) ≡ map is_some pages
+made_kept {pages = pages} {i = i} {boxed = boxed} is new =
+    map-set is_some pages i (Some (with_value boxed new))
+    ∙ (ap (set (map is_some pages) i) (ap is_some (sym is.slot) ∙ sym (made_at pages i)) ∙ set-get_or (map is_some pages) i false)
+
+-- a place that lies on the page of a span, and not in the span, has a number on the page that isn't in it
+pub out_on_page : (at len k : ℕ) → at % 4096 + len ≤ 4096 → (k < at) ⊎ (at + len ≤ k) → k / 4096 ≡ at / 4096
+    → (k % 4096 < at % 4096) ⊎ (at % 4096 + len ≤ k % 4096)
+out_on_page at len k fits (inl low) same = inl (omega (arith, low, same))
+out_on_page at len k fits (inr high) same = inr (omega (arith, high, same))
 
 -- a page is made in one table where it is made in another with the same pages made
 pub made_too : (pages others : List Slot) (i : ℕ) → map is_some pages ≡ map is_some others → is_some (get_or others i None) ≡ true
@@ -158,15 +177,6 @@ same_but_one d f g n at x inside here other =
       | inr ne ↦ other k ne ∙ (sym (get_or-map-range_with_len f 0 n k k d short (omega arith))
           ∙ sym (get_or-set_other (map f (range_with_len 0 n)) at k x d ne))
     ])
-
--- a page that is not made has its bundle starts alone marked
-bare_if_none : (o : Slot) (k : ℕ) → is_some o ≡ false → mark_if_made o (k % 4096) ≡ unused_mark k
-bare_if_none None k unmade = unused_mark_on k
-bare_if_none (Some page) k contrary = let idle : true ≡ false = contrary in cc
-
--- a place on a page of the table that is not made is marked if it is a bundle start
-pub bare_if_unmade : (pages : List Slot) (k : ℕ) → is_some (get_or pages (k / 4096) None) ≡ false → mark_in_pages pages k ≡ unused_mark k
-bare_if_unmade pages k unmade = bare_if_none (get_or pages (k / 4096) None) k unmade
 
 -- a page that is made is in the table
 pub made_within : (pages : List Slot) (i : ℕ) → is_some (get_or pages i None) ≡ true → i < length pages

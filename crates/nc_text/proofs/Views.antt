@@ -1,22 +1,21 @@
 -- What a text is seen as, after a change of its table.
-use Rattle.std.proofs.Common.{◌≡◌, ◌≢◌, ℕ, ◌+◌, ◌-◌, ◌*◌, ◌/◌, ◌%◌, ◌<◌, ◌≤◌, Bool, true, false, suc, zero, List, ◌∷◌, ◌++◌}
-use Rattle.std.proofs.Common.{map, length, get_or, set, take, drop, replicate, None, arith, ◌⊎◌, refl, sym, ap, subst, ◌∙◌, inl}
+use Rattle.std.proofs.Common.{◌≡◌, ℕ, ◌+◌, ◌-◌, ◌*◌, ◌/◌, ◌%◌, ◌<◌, ◌≤◌, Bool, true, false, suc, zero, List, ◌∷◌, ◌++◌}
+use Rattle.std.proofs.Common.{map, length, get_or, take, drop, replicate, None, arith, ◌⊎◌, refl, sym, ap, subst, ◌∙◌, inl}
 use Rattle.std.proofs.Common.{inr, append-nil, min}
 use Rattle.std.specs.Option.{is_some}
 use Rattle.std.proofs.lemmas.Bool.{cases_lt}
 use Rattle.std.proofs.lemmas.Bool.Decides.{nat_tests}
-use Rattle.std.proofs.lemmas.List.{drop_all, take_all, ext_get_or, length-set, get_or-replicate, get_or_past, length-replicate}
+use Rattle.std.proofs.lemmas.List.{drop_all, take_all, ext_get_or, get_or-replicate, get_or_past, length-replicate}
 use Rattle.std.proofs.lemmas.List.FromFn.{length-map-range_with_len, get_or-map-range_with_len}
 use Rattle.nc_decode.specs.Bundles.{IsLawfulLimit}
 use Rattle.nc_decode.specs.declared.instruction.Mark.{Mark}
 use Rattle.nc_decode.specs.declared.instruction.Mark.TheVariants.{Unmarked}
 use Rattle.nc_text.specs.machinery.Pages.{Slot, byte_if_made, mark_if_made, byte_of, mark_in_pages, text_of}
-use Rattle.nc_text.specs.Places.{InRegion, byte_at}
+use Rattle.nc_text.specs.Places.{InRegion, SpanInRegion, byte_at}
 use Rattle.nc_text.specs.Marks.{IsClosed, mark_at}
-use Rattle.nc_text.specs.MarkedText.{MarkedText, IsText, with_byte, with_marks, with_span, unused_mark, unused_text}
+use Rattle.nc_text.specs.MarkedText.{MarkedText, IsText, unused_mark, unused_text}
 use Rattle.nc_text.specs.Ready.{TextState, IsReady, AreReady, GetsReady, SharesPage, unmade_pages}
-use Rattle.nc_text.proofs.SpanElements.{is_with_span, length-with_span}
-use Rattle.nc_text.proofs.Tables.{same_all, same_but_one, made_at, unused_mark_on}
+use Rattle.nc_text.proofs.Tables.{same_all, made_at, unused_mark_on}
 
 -- a list that was lent whole and came back as long
 pub whole_slice : {X : Type 0} → (new old : List X) (n : ℕ) → n ≡ length old → length new ≡ length old
@@ -40,45 +39,73 @@ byte_seen pages size k inside = get_or-map-range_with_len (byte_of pages) 0 size
 pub mark_seen : (pages : List Slot) (size k : ℕ) → k < size → get_or (text_of pages size).marked.marks k Unmarked ≡ mark_in_pages pages k
 mark_seen pages size k inside = get_or-map-range_with_len (mark_in_pages pages) 0 size k k Unmarked inside (omega arith)
 
--- a place of the region is one of the table
-pub place_inside : (old : List Slot) (size k : ℕ) (now : TextState) → text_of old size ≡ now → k < length now.marked.bytes → k < size
-place_inside old size k now view inside = omega (arith, bytes_long old size, ap (λ (t : TextState). length t.marked.bytes) view, inside)
+-- the table of a text was lent, and what the text is seen as
+pub record IsLent (old lent : List Slot) (size : ℕ) (now : TextState) : Type 0 where
+  pub loan : lent ≡ old
+  pub view : text_of old size ≡ now
+  pub kept : IsText (text_of old size).marked × (length old ≡ (size + 4095) / 4096)
+
+-- the lengths of a table that was lent, and of its text
+pub lent_long : {old lent : List Slot} {size : ℕ} {now : TextState} → IsLent old lent size now
+    → (length lent ≡ (size + 4095) / 4096) × (length now.marked.bytes ≡ size)
+lent_long {old = old} {size = size} is = (
+  ap (λ (ps : List Slot). length ps) is.loan ∙ is.kept.1,
+  sym (ap (λ (t : TextState). length t.marked.bytes) is.view) ∙ bytes_long old size,
+)
+
+-- the pages that are made in a table that was lent
+pub lent_made : {old lent : List Slot} {size : ℕ} {now : TextState} → IsLent old lent size now → map is_some lent ≡ now.made
+lent_made is = ap (λ (ps : List Slot). map is_some ps) is.loan ∙ ap (λ (t : TextState). t.made) is.view
 
 -- the page of a place of the region is in a table that was lent
-pub page_inside : (old lent : List Slot) (size k : ℕ) (now : TextState) → lent ≡ old → text_of old size ≡ now → length old ≡ (size + 4095) / 4096
-    → k < length now.marked.bytes → k / 4096 < length lent
-page_inside old lent size k now loan view long inside =
-    omega (arith, place_inside old size k now view inside, ap (λ (ps : List Slot). length ps) loan, long)
+pub page_inside : {old lent : List Slot} {size : ℕ} {now : TextState} → IsLent old lent size now → (at : ℕ) → InRegion now.marked.bytes at
+    → (at - 65536) / 4096 < length lent
+page_inside is at inside = let long = lent_long is in omega (arith, inside.0, inside.1, long.0, long.1)
 
 -- a byte in a table that was lent is the text's
-pub byte_there : (old lent : List Slot) (size at k : ℕ) (now : TextState) → lent ≡ old → text_of old size ≡ now → 65536 ≤ at
-    → at - 65536 + k < length now.marked.bytes → byte_of lent (at - 65536 + k) ≡ byte_at now.marked.bytes (at + k)
-byte_there old lent size at k now loan view low inside =
-    let same = ap (λ (t : TextState). length t.marked.bytes) view in
-    let moved : at - 65536 + k ≡ at + k - 65536 = omega (arith, low) in
-    ap (λ (ps : List Slot). byte_of ps (at - 65536 + k)) loan
-    ∙ (sym (byte_seen old size (at - 65536 + k) (omega (arith, bytes_long old size, same, inside)))
-    ∙ (ap (λ (t : TextState). get_or t.marked.bytes (at - 65536 + k) 0) view
-    ∙ ap (λ (j : ℕ). get_or now.marked.bytes j 0) moved))
+pub byte_here : {old lent : List Slot} {size : ℕ} {now : TextState} → IsLent old lent size now → (at : ℕ) → InRegion now.marked.bytes at
+    → byte_of lent (at - 65536) ≡ byte_at now.marked.bytes at
+byte_here {old = old} {size = size} is at inside =
+    ap (λ (ps : List Slot). byte_of ps (at - 65536)) is.loan
+    ∙ (sym (byte_seen old size (at - 65536) (omega (arith, inside.0, inside.1, (lent_long is).1)))
+    ∙ ap (λ (t : TextState). byte_at t.marked.bytes at) is.view)
 
 -- a mark in a table that was lent is the text's
-pub mark_there : (old lent : List Slot) (size at k : ℕ) (now : TextState) → lent ≡ old → text_of old size ≡ now → 65536 ≤ at
-    → at - 65536 + k < length now.marked.bytes → mark_in_pages lent (at - 65536 + k) ≡ mark_at now.marked.marks (at + k)
-mark_there old lent size at k now loan view low inside =
-    let same = ap (λ (t : TextState). length t.marked.bytes) view in
-    let moved : at - 65536 + k ≡ at + k - 65536 = omega (arith, low) in
-    ap (λ (ps : List Slot). mark_in_pages ps (at - 65536 + k)) loan
-    ∙ (sym (mark_seen old size (at - 65536 + k) (omega (arith, bytes_long old size, same, inside)))
-    ∙ (ap (λ (t : TextState). get_or t.marked.marks (at - 65536 + k) Unmarked) view
-    ∙ ap (λ (j : ℕ). get_or now.marked.marks j Unmarked) moved))
+pub mark_here : {old lent : List Slot} {size : ℕ} {now : TextState} → IsLent old lent size now → (at : ℕ) → InRegion now.marked.bytes at
+    → mark_in_pages lent (at - 65536) ≡ mark_at now.marked.marks at
+mark_here {old = old} {size = size} is at inside =
+    ap (λ (ps : List Slot). mark_in_pages ps (at - 65536)) is.loan
+    ∙ (sym (mark_seen old size (at - 65536) (omega (arith, inside.0, inside.1, (lent_long is).1)))
+    ∙ ap (λ (t : TextState). mark_at t.marked.marks at) is.view)
 
 -- the places of a bundle are all in a text
-pub bundle_inside : (old : List Slot) (size at k : ℕ) (now : TextState) → text_of old size ≡ now → IsText (text_of old size).marked
-    → InRegion now.marked.bytes at → at % 32 + k < 32 → at - 65536 + k < length now.marked.bytes
-bundle_inside old size at k now view whole inside small =
-    let same = ap (λ (t : TextState). length t.marked.bytes) view in
-    let whole_bundles : length now.marked.bytes % 32 ≡ 0 = omega (arith, same, whole.lawful.0) in
-    omega (arith, whole_bundles, small, inside.0, inside.1)
+pub bundle_inside : {old lent : List Slot} {size : ℕ} {now : TextState} → IsLent old lent size now → (at k : ℕ)
+    → InRegion now.marked.bytes at → at % 32 + k < 32 → InRegion now.marked.bytes (at + k)
+bundle_inside {now = now} is at k inside small =
+    let same = ap (λ (t : TextState). length t.marked.bytes) is.view in
+    let whole_bundles : length now.marked.bytes % 32 ≡ 0 = omega (arith, same, is.kept.0.lawful.0) in
+    (omega (arith, inside.0), omega (arith, whole_bundles, small, inside.0, inside.1))
+
+-- a byte of a bundle in a table that was lent is the text's
+pub byte_there : {old lent : List Slot} {size : ℕ} {now : TextState} → IsLent old lent size now → (at k : ℕ)
+    → InRegion now.marked.bytes at → at % 32 + k < 32 → byte_of lent (at - 65536 + k) ≡ byte_at now.marked.bytes (at + k)
+byte_there {lent = lent} is at k inside small =
+    ap (λ (j : ℕ). byte_of lent j) {x = at - 65536 + k} {y = at + k - 65536} (omega (arith, inside.0))
+    ∙ byte_here is (at + k) (bundle_inside is at k inside small)
+
+-- a mark of a bundle in a table that was lent is the text's
+pub mark_there : {old lent : List Slot} {size : ℕ} {now : TextState} → IsLent old lent size now → (at k : ℕ)
+    → InRegion now.marked.bytes at → at % 32 + k < 32 → mark_in_pages lent (at - 65536 + k) ≡ mark_at now.marked.marks (at + k)
+mark_there {lent = lent} is at k inside small =
+    ap (λ (j : ℕ). mark_in_pages lent j) {x = at - 65536 + k} {y = at + k - 65536} (omega (arith, inside.0))
+    ∙ mark_here is (at + k) (bundle_inside is at k inside small)
+
+-- a span in the region that isn't empty begins and ends in it
+pub span_within : (bytes : List ℕ) (at len : ℕ) → SpanInRegion bytes at len → 0 < len → (65536 ≤ at) × (at - 65536 + len ≤ length bytes)
+span_within bytes at len inside some =
+    let first = inside 0 some in
+    let last = inside (len - 1) (omega (arith, some)) in
+    (omega (arith, first.0), omega (arith, first.0, last.1))
 
 -- what is seen of a text, by its parts
 abbrev pub state : MarkedText → List Bool → TextState
@@ -95,134 +122,72 @@ state_is bs cs ms ns ds es b m d =
     ap (λ (xs : List ℕ). state (both xs ms) ds) b
     ∙ (ap (λ (xs : List Mark). state (both cs xs) ds) m ∙ ap (λ (xs : List Bool). state (both cs ns) xs) d)
 
--- a byte put in a table is put in its text
-pub put_seen : (old new : List Slot) (size at byte : ℕ) → at < size → byte_of new at ≡ byte
-    → ((k : ℕ) → k ≢ at → byte_of new k ≡ byte_of old k) → ((k : ℕ) → mark_in_pages new k ≡ mark_in_pages old k)
-    → map is_some new ≡ map is_some old
-    → text_of new size
-    ≡ state (both (set (text_of old size).marked.bytes at byte) (text_of old size).marked.marks) (text_of old size).made
-put_seen old new size at byte inside here other marks made =
-    state_is _ _ _ _ _ _ (same_but_one 0 (byte_of old) (byte_of new) size at byte inside here other)
-    (same_all Unmarked (mark_in_pages old) (mark_in_pages new) size (λ k lt. marks k)) made
-
--- the marks of a span set
-pub span_seen : (old new : List Slot) (size start : ℕ) (marks : List Mark) → start + length marks ≤ size
-    → ((k : ℕ) → start ≤ k → k < start + length marks → mark_in_pages new k ≡ get_or marks (k - start) Unmarked)
-    → ((k : ℕ) → k < start → mark_in_pages new k ≡ mark_in_pages old k)
-    → ((k : ℕ) → start + length marks ≤ k → mark_in_pages new k ≡ mark_in_pages old k)
-    → ((k : ℕ) → byte_of new k ≡ byte_of old k) → map is_some new ≡ map is_some old
-    → text_of new size
-    ≡ state (both (text_of old size).marked.bytes (with_span (text_of old size).marked.marks start marks)) (text_of old size).made
-span_seen old new size start marks fits within below above bytes made =
-    let long_old = marks_long old size in
-    let long_new = marks_long new size in
-    state_is _ _ _ _ _ _ (same_all 0 (byte_of old) (byte_of new) size (λ k lt. bytes k))
-    (is_with_span (text_of new size).marked.marks (text_of old size).marked.marks start marks Unmarked (omega arith)
-    (long_new ∙ sym long_old)
-    (λ k lt. mark_seen new size k (omega arith) ∙ (below k lt ∙ sym (mark_seen old size k (omega arith))))
-    (λ k low high. mark_seen new size k (omega arith) ∙ within k low high)
-    (λ k past. elim (cases_lt k size) [
-      | inl lt ↦ mark_seen new size k lt ∙ (above k past ∙ sym (mark_seen old size k lt))
-      | inr out ↦ get_or_past (text_of new size).marked.marks k Unmarked (omega arith)
-          ∙ sym (get_or_past (text_of old size).marked.marks k Unmarked (omega arith))
-    ])) made
-
--- a text with one byte put is one if it is closed
-pub text_with_byte : (marked : MarkedText) (at byte : ℕ) → IsText marked → IsClosed (with_byte marked at byte).bytes marked.marks
-    → IsText (with_byte marked at byte)
-text_with_byte marked at byte is closed =
-    let long = length-set marked.bytes (at - 65536) byte in
-    record {
-      lawful = subst IsLawfulLimit (ap (λ (n : ℕ). 65536 + n) (sym long)) is.lawful;
-      as_long = is.as_long ∙ sym long;
-      closed = closed;
-    }
-
--- a text with the marks of a span set is one if it is closed
-pub text_with_marks : (marked : MarkedText) (at : ℕ) (marks : List Mark) → (at - 65536) + length marks ≤ length marked.bytes
-    → IsText marked → IsClosed marked.bytes (with_marks marked at marks).marks → IsText (with_marks marked at marks)
-text_with_marks marked at marks fits is closed =
-    record {
-      lawful = is.lawful;
-      as_long = length-with_span marked.marks (at - 65536) marks (omega (arith, is.as_long)) ∙ is.as_long;
-      closed = closed;
-    }
-
--- what a text's fields have to be where it is seen as this code
+-- what a table's fields have to be where it is seen as this text
 pub record IsSeenAs (table : List Slot) (size : ℕ) (new : TextState) : Type 0 where
-  pub seen : text_of table size ≡ new
-  pub whole : IsText new.marked
+  pub marked : (text_of table size).marked ≡ new.marked
+  pub made : map is_some table ≡ new.made
+  pub whole : IsText (text_of table size).marked
   pub long : length table ≡ (size + 4095) / 4096
 
--- a table that is seen as a text keeps the text's invariant
-pub keeps_invariant : (table : List Slot) (size : ℕ) (new : TextState) → IsSeenAs table size new
-    → IsText (text_of table size).marked × (length table ≡ (size + 4095) / 4096)
-keeps_invariant table size new is = (subst (λ (t : TextState). IsText t.marked) (sym is.seen) is.whole, is.long)
+-- a table that was lent whole and came back
+abbrev pub put_back : List Slot → List Slot → ℕ → List Slot
+put_back old new n = take n (new ++ drop (length new) old)
 
--- a byte was put into a table that was lent
-pub put_done : (old lent new : List Slot) (size n at byte : ℕ) (now : TextState) → lent ≡ old → n ≡ length old → length new ≡ length lent
-    → text_of old size ≡ now → IsText (text_of old size).marked × (length old ≡ (size + 4095) / 4096) → InRegion now.marked.bytes at →
-    byte_of new (at - 65536) ≡ byte → ((k : ℕ) → k ≢ at - 65536 → byte_of new k ≡ byte_of lent k)
-    → ((k : ℕ) → mark_in_pages new k ≡ mark_in_pages lent k) → map is_some new ≡ map is_some lent
-    → IsClosed (with_byte now.marked at byte).bytes now.marked.marks → IsSeenAs (take n (new ++ drop (length new) old)) size
-    (state (with_byte now.marked at byte) now.made)
-put_done old lent new size n at byte now loan many long view kept inside here other marks made closed =
-    let long_old : length (text_of old size).marked.bytes ≡ size = bytes_long old size in
-    let same : length (text_of old size).marked.bytes ≡ length now.marked.bytes = ap (λ (t : TextState). length t.marked.bytes) view in
-    let many_lent : length lent ≡ length old = ap (λ (ps : List Slot). length ps) loan in
-    let table = whole_slice new old n many (long ∙ many_lent) in
-    record {
-      seen = ap (λ (ps : List Slot). text_of ps size) table
-          ∙ (put_seen old new size (at - 65536) byte (omega (arith, inside.0, inside.1, long_old, same)) here
-          (λ k ne. other k ne ∙ ap (λ (ps : List Slot). byte_of ps k) loan)
-          (λ k. marks k ∙ ap (λ (ps : List Slot). mark_in_pages ps k) loan)
-          (made ∙ ap (λ (ps : List Slot). map is_some ps) loan)
-          ∙ ap (λ (t : TextState). state (with_byte t.marked at byte) t.made) view);
-      whole = text_with_byte now.marked at byte (subst (λ (t : TextState). IsText t.marked) view kept.0) closed;
-      long = ap (λ (ps : List Slot). length ps) table ∙ (long ∙ (many_lent ∙ kept.1));
+-- a table that was lent whole and came back is seen as the bytes, marks and pages that it has, if they are closed
+pub changed : {old lent : List Slot} {size : ℕ} {now : TextState} → IsLent old lent size now → (new : List Slot) (n : ℕ) (bytes : List ℕ)
+    (marks : List Mark) (made : List Bool) → n ≡ length old → length new ≡ length lent → (text_of new size).marked.bytes ≡ bytes
+    → (text_of new size).marked.marks ≡ marks → map is_some new ≡ made → IsClosed bytes marks
+    → IsSeenAs (put_back old new n) size (state (both bytes marks) made)
+changed {old = old} {size = size} is new n bytes marks made many as_many bytes_are marks_are made_is closed =
+    let long : length new ≡ length old = as_many ∙ ap (λ (ps : List Slot). length ps) is.loan in
+    let marked = ap (λ (t : TextState). t.marked) (state_is _ _ _ _ made made bytes_are marks_are refl) in
+    subst (λ (ps : List Slot). IsSeenAs ps size (state (both bytes marks) made)) (sym (whole_slice new old n many long)) record {
+      marked = marked;
+      made = made_is;
+      whole = record {
+        lawful = subst IsLawfulLimit (ap (λ (m : ℕ). 65536 + m) (bytes_long old size ∙ sym (bytes_long new size))) is.kept.0.lawful;
+        as_long = marks_long new size ∙ sym (bytes_long new size);
+        closed = subst (λ (t : MarkedText). IsClosed t.bytes t.marks) (sym marked) closed;
+      };
+      long = long ∙ is.kept.1;
     }
 
--- the marks of a span were set in a table that was lent
-pub span_done : (old lent new : List Slot) (size n at : ℕ) (marks : List Mark) (now : TextState) → lent ≡ old → n ≡ length old
-    → length new ≡ length lent → text_of old size ≡ now → IsText (text_of old size).marked × (length old ≡ (size + 4095) / 4096) → at -
-    65536 + length marks ≤ length now.marked.bytes → ((k : ℕ) → at - 65536 ≤ k → k < at - 65536 + length marks
-    → mark_in_pages new k ≡ get_or marks (k - (at - 65536)) Unmarked) → ((k : ℕ) → k < at - 65536 → mark_in_pages new k ≡ mark_in_pages lent k) →
-    ((k : ℕ) → at - 65536 + length marks ≤ k → mark_in_pages new k ≡ mark_in_pages lent k) → ((k : ℕ) → byte_of new k ≡ byte_of lent k)
-    → map is_some new ≡ map is_some lent → IsClosed now.marked.bytes (with_marks now.marked at marks).marks → IsSeenAs
-    (take n (new ++ drop (length new) old)) size (state (with_marks now.marked at marks) now.made)
-span_done old lent new size n at marks now loan many long view kept fits within below above bytes made closed =
-    let long_old : length (text_of old size).marked.bytes ≡ size = bytes_long old size in
-    let same : length (text_of old size).marked.bytes ≡ length now.marked.bytes = ap (λ (t : TextState). length t.marked.bytes) view in
-    let many_lent : length lent ≡ length old = ap (λ (ps : List Slot). length ps) loan in
-    let table = whole_slice new old n many (long ∙ many_lent) in
-    record {
-      seen = ap (λ (ps : List Slot). text_of ps size) table
-          ∙ (span_seen old new size (at - 65536) marks (omega (arith, fits, long_old, same)) within
-          (λ k lt. below k lt ∙ ap (λ (ps : List Slot). mark_in_pages ps k) loan)
-          (λ k past. above k past ∙ ap (λ (ps : List Slot). mark_in_pages ps k) loan)
-          (λ k. bytes k ∙ ap (λ (ps : List Slot). byte_of ps k) loan)
-          (made ∙ ap (λ (ps : List Slot). map is_some ps) loan)
-          ∙ ap (λ (t : TextState). state (with_marks t.marked at marks) t.made) view);
-      whole = text_with_marks now.marked at marks fits (subst (λ (t : TextState). IsText t.marked) view kept.0) closed;
-      long = ap (λ (ps : List Slot). length ps) table ∙ (long ∙ (many_lent ∙ kept.1));
-    }
+-- where no byte of a table that was lent was changed, the bytes are seen as before
+pub same_bytes : {old lent : List Slot} {size : ℕ} {now : TextState} → IsLent old lent size now → (new : List Slot)
+    → ((k : ℕ) → byte_of new k ≡ byte_of lent k) → (text_of new size).marked.bytes ≡ now.marked.bytes
+same_bytes {old = old} {size = size} is new bytes =
+    same_all 0 (byte_of old) (byte_of new) size (λ k lt. bytes k ∙ ap (λ (ps : List Slot). byte_of ps k) is.loan)
+    ∙ ap (λ (t : TextState). t.marked.bytes) is.view
+
+-- where no mark of a table that was lent was changed, the marks are seen as before
+pub same_marks : {old lent : List Slot} {size : ℕ} {now : TextState} → IsLent old lent size now → (new : List Slot)
+    → ((k : ℕ) → mark_in_pages new k ≡ mark_in_pages lent k) → (text_of new size).marked.marks ≡ now.marked.marks
+same_marks {old = old} {size = size} is new marks =
+    same_all Unmarked (mark_in_pages old) (mark_in_pages new) size (λ k lt. marks k ∙ ap (λ (ps : List Slot). mark_in_pages ps k) is.loan)
+    ∙ ap (λ (t : TextState). t.marked.marks) is.view
 
 -- a place that is ready lies on a page of the table that is made
-pub ready_made : (old lent : List Slot) (size at k : ℕ) (now : TextState) → lent ≡ old → text_of old size ≡ now → 65536 ≤ at
-    → IsReady now.made (at + k) → is_some (get_or lent ((at - 65536 + k) / 4096) None) ≡ true
-ready_made old lent size at k now loan view low ready =
+pub ready_made : (table : List Slot) (made : List Bool) (at k : ℕ) → map is_some table ≡ made → 65536 ≤ at → IsReady made (at + k)
+    → is_some (get_or table ((at - 65536 + k) / 4096) None) ≡ true
+ready_made table made at k is low ready =
     let moved : at + k - 65536 ≡ at - 65536 + k = omega arith in
-    let here = subst (λ (j : ℕ). get_or now.made (j / 4096) false ≡ true) moved ready in
-    ap (λ (ps : List Slot). is_some (get_or ps ((at - 65536 + k) / 4096) None)) loan
-    ∙ (sym (made_at old ((at - 65536 + k) / 4096)) ∙ (ap (λ (t : TextState). get_or t.made ((at - 65536 + k) / 4096) false) view ∙ here))
+    sym (made_at table ((at - 65536 + k) / 4096)) ∙ (ap (λ (ds : List Bool). get_or ds ((at - 65536 + k) / 4096) false) is
+    ∙ subst (λ (j : ℕ). get_or made (j / 4096) false ≡ true) moved ready)
+
+-- the pages of a span that is ready are made in a table that was lent
+pub span_made : {old lent : List Slot} {size : ℕ} {now : TextState} → IsLent old lent size now → (at len : ℕ)
+    → SpanInRegion now.marked.bytes at len → AreReady now.made at len → (k : ℕ) → k < len
+    → is_some (get_or lent ((at - 65536 + k) / 4096) None) ≡ true
+span_made {lent = lent} {now = now} is at len inside ready k lt =
+    ready_made lent now.made at k (lent_made is) (span_within now.marked.bytes at len inside (omega (arith, lt))).0 (ready k lt)
 
 -- a place that lies on a page of the table that is made is ready
-pub made_ready : (table : List Slot) (size at k : ℕ) (now : TextState) → text_of table size ≡ now → 65536 ≤ at
-    → is_some (get_or table ((at - 65536 + k) / 4096) None) ≡ true → IsReady now.made (at + k)
-made_ready table size at k now view low made =
+pub made_ready : (table : List Slot) (made : List Bool) (at k : ℕ) → map is_some table ≡ made → 65536 ≤ at
+    → is_some (get_or table ((at - 65536 + k) / 4096) None) ≡ true → IsReady made (at + k)
+made_ready table made at k is low here =
     let moved : at - 65536 + k ≡ at + k - 65536 = omega arith in
-    subst (λ (j : ℕ). get_or now.made (j / 4096) false ≡ true) moved
-    (sym (ap (λ (t : TextState). get_or t.made ((at - 65536 + k) / 4096) false) view) ∙ (made_at table ((at - 65536 + k) / 4096) ∙ made))
+    subst (λ (j : ℕ). get_or made (j / 4096) false ≡ true) moved
+    (ap (λ (ds : List Bool). get_or ds ((at - 65536 + k) / 4096) false) (sym is) ∙ (made_at table ((at - 65536 + k) / 4096) ∙ here))
 
 -- each page of a span has a place of it
 pub place_on : (start len i last : ℕ) → 0 < len → start / 4096 ≤ i → i < last → last ≡ (start + len) / 4096 + min 1 ((start + len) % 4096)
@@ -235,52 +200,30 @@ pub page_within : (start len k last : ℕ) → k < len → last ≡ (start + len
 page_within start len k last within is = (omega arith, omega arith)
 
 -- the pages of a span that is ready are made
-pub all_made : (table : List Slot) (size at len last : ℕ) (now : TextState) → text_of table size ≡ now → 65536 ≤ at → 0 < len
-    → last ≡ (at - 65536 + len) / 4096 + min 1 ((at - 65536 + len) % 4096) → AreReady now.made at len → (i : ℕ) → (at - 65536) / 4096 ≤ i
+pub all_made : (table : List Slot) (made : List Bool) (at len last : ℕ) → map is_some table ≡ made → 65536 ≤ at → 0 < len
+    → last ≡ (at - 65536 + len) / 4096 + min 1 ((at - 65536 + len) % 4096) → AreReady made at len → (i : ℕ) → (at - 65536) / 4096 ≤ i
     → i < last → is_some (get_or table i None) ≡ true
-all_made table size at len last now view low some end ready i from below =
+all_made table made at len last is low some end ready i from below =
     let on = place_on (at - 65536) len i last some from below end in
     subst (λ (j : ℕ). is_some (get_or table j None) ≡ true) on.1
-    (ready_made table table size at (4096 * i - (at - 65536)) now refl view low (ready (4096 * i - (at - 65536)) on.0))
+    (ready_made table made at (4096 * i - (at - 65536)) is low (ready (4096 * i - (at - 65536)) on.0))
 
 -- a span is ready if its pages are made
-pub all_ready : (table : List Slot) (size at len last : ℕ) (now : TextState) → text_of table size ≡ now → 65536 ≤ at
-    → last ≡ (at - 65536 + len) / 4096 + min 1 ((at - 65536 + len) % 4096) →
-    ((i : ℕ) → (at - 65536) / 4096 ≤ i → i < last → is_some (get_or table i None) ≡ true) → AreReady now.made at len
-all_ready table size at len last now view low end made =
+pub all_ready : (table : List Slot) (made : List Bool) (at len last : ℕ) → map is_some table ≡ made → 65536 ≤ at
+    → last ≡ (at - 65536 + len) / 4096 + min 1 ((at - 65536 + len) % 4096)
+    → ((i : ℕ) → (at - 65536) / 4096 ≤ i → i < last → is_some (get_or table i None) ≡ true) → AreReady made at len
+all_ready table made at len last is low end pages =
     λ k within.
     let on = page_within (at - 65536) len k last within end in
-    made_ready table size at k now view low (made ((at - 65536 + k) / 4096) on.0 on.1)
-
--- what is seen of a text of which only pages were made
-abbrev pub with_made : TextState → List Slot → TextState
-with_made now new = state now.marked (map is_some new)
-
--- where only pages were made, bytes and marks are as they were
-pub made_seen : (old lent new : List Slot) (size : ℕ) (now : TextState) → lent ≡ old → text_of old size ≡ now
-    → ((k : ℕ) → byte_of new k ≡ byte_of lent k) → ((k : ℕ) → mark_in_pages new k ≡ mark_in_pages lent k) → text_of new size ≡ with_made now new
-made_seen old lent new size now loan view bytes marks =
-    state_is _ _ _ _ _ _
-    (same_all 0 (byte_of old) (byte_of new) size (λ k lt. bytes k ∙ ap (λ (ps : List Slot). byte_of ps k) loan)
-    ∙ ap (λ (t : TextState). t.marked.bytes) view)
-    (same_all Unmarked (mark_in_pages old) (mark_in_pages new) size (λ k lt. marks k ∙ ap (λ (ps : List Slot). mark_in_pages ps k) loan)
-    ∙ ap (λ (t : TextState). t.marked.marks) view)
-    refl
+    made_ready table made at k is low (pages ((at - 65536 + k) / 4096) on.0 on.1)
 
 -- pages were made in a table that was lent
-pub make_done : (old lent new : List Slot) (size n : ℕ) (now : TextState) → lent ≡ old → n ≡ length old → length new ≡ length lent
-    → text_of old size ≡ now → IsText (text_of old size).marked × (length old ≡ (size + 4095) / 4096) →
-    ((k : ℕ) → byte_of new k ≡ byte_of lent k) → ((k : ℕ) → mark_in_pages new k ≡ mark_in_pages lent k)
-    → IsSeenAs (take n (new ++ drop (length new) old)) size (with_made now new)
-make_done old lent new size n now loan many long view kept bytes marks =
-    let many_lent : length lent ≡ length old = ap (λ (ps : List Slot). length ps) loan in
-    let table = whole_slice new old n many (long ∙ many_lent) in
-    let is : IsText now.marked = subst (λ (t : TextState). IsText t.marked) view kept.0 in
-    record {
-      seen = ap (λ (ps : List Slot). text_of ps size) table ∙ made_seen old lent new size now loan view bytes marks;
-      whole = record { lawful = is.lawful; as_long = is.as_long; closed = is.closed };
-      long = ap (λ (ps : List Slot). length ps) table ∙ (long ∙ (many_lent ∙ kept.1));
-    }
+pub make_done : {old lent : List Slot} {size : ℕ} {now : TextState} → IsLent old lent size now → (new : List Slot) (n : ℕ) → n ≡ length old
+    → length new ≡ length lent → ((k : ℕ) → byte_of new k ≡ byte_of lent k) → ((k : ℕ) → mark_in_pages new k ≡ mark_in_pages lent k)
+    → IsSeenAs (put_back old new n) size (state now.marked (map is_some new))
+make_done {now = now} is new n many long bytes marks =
+    changed is new n now.marked.bytes now.marked.marks (map is_some new) many long (same_bytes is new bytes) (same_marks is new marks) refl
+    (subst (λ (t : TextState). IsClosed t.marked.bytes t.marked.marks) is.view is.kept.0.closed)
 
 -- a place on a page of the span
 meets : (at len place last : ℕ) → 65536 ≤ at → 0 < len → last ≡ (at - 65536 + len) / 4096 + min 1 ((at - 65536 + len) % 4096)
@@ -294,18 +237,17 @@ meets at len place last low some end from below =
     }
 
 -- only pages of the span were made
-pub gets_ready : (old lent new : List Slot) (size at len last : ℕ) (now : TextState) → lent ≡ old → text_of old size ≡ now → 65536 ≤ at
-    → 0 < len → last ≡ (at - 65536 + len) / 4096 + min 1 ((at - 65536 + len) % 4096) →
-    ((i : ℕ) → is_some (get_or lent i None) ≡ true → is_some (get_or new i None) ≡ true)
+pub gets_ready : {old lent : List Slot} {size : ℕ} {now : TextState} → IsLent old lent size now → (new : List Slot) (at len last : ℕ)
+    → 65536 ≤ at → 0 < len → last ≡ (at - 65536 + len) / 4096 + min 1 ((at - 65536 + len) % 4096)
+    → ((i : ℕ) → is_some (get_or lent i None) ≡ true → is_some (get_or new i None) ≡ true)
     → ((i : ℕ) → is_some (get_or new i None) ≡ true → (is_some (get_or lent i None) ≡ true) ⊎ (((at - 65536) / 4096 ≤ i) × (i < last)))
-    → GetsReady now.made (with_made now new).made at len
-gets_ready old lent new size at len last now loan view low some end keeps needs =
+    → GetsReady now.made (map is_some new) at len
+gets_ready {lent = lent} is new at len last low some end keeps needs =
     let page = λ (place : ℕ). (place - 65536) / 4096 in
-    let seen = λ (i : ℕ). ap (λ (ps : List Slot). is_some (get_or ps i None)) loan
-    ∙ (sym (made_at old i) ∙ ap (λ (t : TextState). get_or t.made i false) view) in
+    let seen = λ (i : ℕ). sym (made_at lent i) ∙ ap (λ (ds : List Bool). get_or ds i false) (lent_made is) in
     record {
       kept = λ place was. made_at new (page place) ∙ keeps (page place) (seen (page place) ∙ was);
-      needed = λ place is. elim (needs (page place) (sym (made_at new (page place)) ∙ is)) [
+      needed = λ place here. elim (needs (page place) (sym (made_at new (page place)) ∙ here)) [
         | inl was ↦ inl (sym (seen (page place)) ∙ was)
         | inr r ↦ inr (meets at len place last low some end r.0 r.1)
       ];

@@ -120,8 +120,7 @@ pub(crate) fn set_span(pages: &mut [Option<Box<Page>>], start: usize, marks: &[M
     requires registers { All NamesRegister marks.now }
     requires fits { start + length marks.now < 2 ^ 63 }
     ensures within { (k : ℕ) → k < length marks.now → mark_in_pages pages.new (start + k) ≡ slice_index_or marks.now k Unmarked }
-    ensures below { (k : ℕ) → k < start → mark_in_pages pages.new k ≡ mark_in_pages pages.old k }
-    ensures above { (k : ℕ) → start + length marks.now ≤ k → mark_in_pages pages.new k ≡ mark_in_pages pages.old k }
+    ensures others { (k : ℕ) → (k < start) ⊎ (start + length marks.now ≤ k) → mark_in_pages pages.new k ≡ mark_in_pages pages.old k }
     ensures bytes { (k : ℕ) → byte_of pages.new k ≡ byte_of pages.old k }
     ensures made { map is_some pages.new ≡ map is_some pages.old }
 {
@@ -203,9 +202,8 @@ fn unmark_page(pages: &mut [Option<Box<Page>>], at: usize, len: usize)
 pub(crate) fn unmark(pages: &mut [Option<Box<Page>>], start: usize, len: usize)
     requires fits { start + len < 2 ^ 63 }
     requires inside { (k : ℕ) → k < len → (start + k) / 4096 < length pages.old }
-    ensures within { (k : ℕ) → start ≤ k → k < start + len → mark_in_pages pages.new k ≡ unused_mark k }
-    ensures below { (k : ℕ) → k < start → mark_in_pages pages.new k ≡ mark_in_pages pages.old k }
-    ensures above { (k : ℕ) → start + len ≤ k → mark_in_pages pages.new k ≡ mark_in_pages pages.old k }
+    ensures within { (k : ℕ) → k < len → mark_in_pages pages.new (start + k) ≡ unused_mark (start + k) }
+    ensures others { (k : ℕ) → (k < start) ⊎ (start + len ≤ k) → mark_in_pages pages.new k ≡ mark_in_pages pages.old k }
     ensures bytes { (k : ℕ) → byte_of pages.new k ≡ byte_of pages.old k }
     ensures made { map is_some pages.new ≡ map is_some pages.old }
 {

@@ -113,3 +113,10 @@ Finishes answers start before bytes now after (Err ReadFailed) = ⊥
 Finishes answers start before bytes now after (Err BadSize) = ⊥
 Finishes answers start before bytes now after (Err BadSeats) = ⊥
 Finishes answers start before bytes now after (Err BadWorkers) = ⊥
+
+-- `Finishes` after a call that takes the last line, whatever was read before it
+abbrev pub FinishesLine : {S T : Type 0} → (S → List ℕ → List ℕ → S → Type 0) → S → Option (List ℕ) → List ℕ → List ℕ → S
+    → Option (List ℕ) → Result T ReplayFault → Type 0
+FinishesLine {S} answers old after held line new later result =
+    (start : S) (before : Option (List ℕ)) (bytes : List ℕ) → KeepsUp answers start before bytes old after held line
+    → Finishes answers start before bytes new later result

@@ -2,7 +2,7 @@ use Rattle.std.proofs.Common.{◌≡◌, ℕ, ◌<◌, List, [], length, get_or,
 use Rattle.std.proofs.lemmas.List.{length-map, length-take-le}
 use Rattle.nc_list.specs.declared.chunk.Chunk.{Chunk}
 use Rattle.nc_list.specs.Chunks.{AreTaken, freed}
-use Rattle.nc_list.proofs.Pieces.{part_is}
+use Rattle.nc_list.proofs.Pieces.{inside_too, part_is}
 use Rattle.nc_list.proofs.Parting.{kept_parts}
 use Rattle.nc_list.proofs.Stamps.{none_freed}
 use Rattle.nc_list.proofs.Taking.{taken_at, taken_nothing, passed_more}
@@ -12,16 +12,8 @@ use Rattle.nc_list.proofs.parts.take_one.Goals.{then-oldest-least+else-count-ne0
 pub returns-then-count-ne0-clause-some : goal.returns-then-count-ne0-clause-some
 returns-then-count-ne0-clause-some g c =
     let so = c.loop-k.invariant in
-    let lt : c.loop-k.k < length c.loop-k.parts.items =
-    omega (
-      arith,
-      c.loop-k-test.true,
-      c.len-k-end.ensures,
-      c.args.parts.now.ok.0,
-      ap (λ (z : List (List Chunk)). length z) so.same,
-      length-map c.loop-k.parts.items g.T.Part.items,
-      length-map c.args.parts.now.items g.T.Part.items,
-    ) in
+    let lt = inside_too g.T.Part.items c.loop-k.parts.items c.args.parts.now.items c.loop-k.k so.same
+    (omega (arith, c.loop-k-test.true, c.len-k-end.ensures, c.args.parts.now.ok.0)) in
     let many = length-take-le c.take_due-count.result c.take_due-count.new.room c.take_due-count.ensures.count in
     taken_at g.T.Part.items c.loop-k.parts.items c.args.parts.now.items c.loop-k.k c.index_mut.result.now c.take_due-count.new.self
     c.args.least (take c.take_due-count.result c.take_due-count.new.room) lt so.same c.index_mut.ensures.value c.take_due-count.ensures.taken so.earlier
@@ -32,16 +24,8 @@ loop-k-preserved g c =
     let so = c.loop-k.invariant in
     let parts = map g.T.Part.items c.args.parts.now.items in
     let long : length parts ≡ length c.args.parts.now.items = length-map c.args.parts.now.items g.T.Part.items in
-    let lt : c.loop-k.k < length c.loop-k.parts.items =
-    omega (
-      arith,
-      c.loop-k-test.true,
-      c.len-k-end.ensures,
-      c.args.parts.now.ok.0,
-      ap (λ (z : List (List Chunk)). length z) so.same,
-      length-map c.loop-k.parts.items g.T.Part.items,
-      long,
-    ) in
+    let lt = inside_too g.T.Part.items c.loop-k.parts.items c.args.parts.now.items c.loop-k.k so.same
+    (omega (arith, c.loop-k-test.true, c.len-k-end.ensures, c.args.parts.now.ok.0)) in
     let inside : c.loop-k.k < length parts = omega (arith, c.loop-k-test.true, c.len-k-end.ensures, c.args.parts.now.ok.0, long) in
     elim c.if-oldest-least.branch [
       | then-oldest-least+else-count-ne0 w ↦

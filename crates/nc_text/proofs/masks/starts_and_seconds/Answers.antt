@@ -1,4 +1,4 @@
-use Rattle.std.proofs.Common.{◌≡◌, ℕ, ◌+◌, ◌-◌, ◌*◌, ◌/◌, ◌%◌, ◌<◌, ◌^◌, zero, suc, get_or, arith, refl, ap, subst, ◌∙◌}
+use Rattle.std.proofs.Common.{◌≡◌, ℕ, ◌+◌, ◌-◌, ◌*◌, ◌/◌, ◌%◌, ◌<◌, ◌^◌, zero, suc, List, get_or, arith, refl, ap, subst, ◌∙◌}
 use Rattle.std.specs.Int.{bit_at}
 use Rattle.std.proofs.Math.Nat.{pow-succ'}
 use Rattle.nc_decode.specs.declared.instruction.Mark.{Mark}
@@ -47,27 +47,29 @@ loop-n-preserved c =
           (small_second mark) refl so.seconds;
     }
 
--- the halves of what both words are in
+-- the halves of what both words are in, once the marks of all places are
 halves : (both low high n : ℕ) → both ≡ low + 2 ^ 32 * high → low < 2 ^ n → n ≡ 32
     → (both % 2 ^ 32 ≡ low) × (both / 2 ^ 32 ≡ high)
 halves both low high n is small all =
     let less : low < 2 ^ 32 = subst (λ (m : ℕ). low < 2 ^ m) all small in
     (omega (arith, is, less), omega (arith, is, less))
 
+-- a bit of a word that has the bits of the marks of all places
+bit_of_all : (bit_of : Mark → ℕ) (marks : List Mark) (n word half k : ℕ) → n ≡ 32 → half ≡ word
+    → ((k : ℕ) → k < n → bit_at word k ≡ bit_of (get_or marks (32 - n + k) Unmarked)) → k < 32
+    → bit_at half k ≡ bit_of (get_or marks k Unmarked)
+bit_of_all bit_of marks n word half k all is bits lt =
+    ap (λ (w : ℕ). bit_at w k) is ∙ (bits k (omega (arith, lt, all))
+    ∙ ap (λ (j : ℕ). bit_of (get_or marks j Unmarked)) {x = 32 - n + k} {y = k} (omega (arith, all)))
+
 pub returns-clause-starts : goal.returns-clause-starts
 returns-clause-starts c = λ k lt.
     let so = c.loop-n.invariant in
     let all : c.loop-n.n ≡ 32 = omega arith in
-    let half = halves c.loop-n.both so.low so.high c.loop-n.n so.both so.low_small all in
-    ap (λ (word : ℕ). bit_at word k) half.0
-    ∙ (so.starts k (omega (arith, lt))
-    ∙ ap (λ (j : ℕ). plain_bit (get_or c.args.marks.now j Unmarked)) {x = 32 - c.loop-n.n + k} {y = k} (omega arith))
+    bit_of_all plain_bit c.args.marks.now c.loop-n.n so.low _ k all (halves c.loop-n.both so.low so.high c.loop-n.n so.both so.low_small all).0 so.starts lt
 
 pub returns-clause-seconds : goal.returns-clause-seconds
 returns-clause-seconds c = λ k lt.
     let so = c.loop-n.invariant in
     let all : c.loop-n.n ≡ 32 = omega arith in
-    let half = halves c.loop-n.both so.low so.high c.loop-n.n so.both so.low_small all in
-    ap (λ (word : ℕ). bit_at word k) half.1
-    ∙ (so.seconds k (omega (arith, lt))
-    ∙ ap (λ (j : ℕ). second_bit (get_or c.args.marks.now j Unmarked)) {x = 32 - c.loop-n.n + k} {y = k} (omega arith))
+    bit_of_all second_bit c.args.marks.now c.loop-n.n so.high _ k all (halves c.loop-n.both so.low so.high c.loop-n.n so.both so.low_small all).1 so.seconds lt

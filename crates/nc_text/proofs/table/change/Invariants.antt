@@ -1,6 +1,7 @@
-use Rattle.std.proofs.Common.{◌≡◌, ℕ, ◌+◌, ◌-◌, ◌%◌, ◌<◌, ◌≤◌, ◌⊎◌, map}
+use Rattle.std.proofs.Common.{◌≡◌, ℕ, ◌+◌, ◌-◌, ◌%◌, ◌≤◌, map}
 use Rattle.std.specs.Option.{is_some}
 use Rattle.nc_text.specs.machinery.Pages.{byte_of, mark_in_pages}
+use Rattle.nc_text.proofs.Spans.{IsSetUpTo}
 use Rattle.nc_text.proofs.table.change.Given as goal
 
 abbrev pub invariant-loop-done : goal.invariant-loop-done
@@ -8,11 +9,11 @@ invariant-loop-done g l =
     record {
       few : l.done ≤ l.size;
       whole : l.done % 32 ≡ 0;
-      bytes : (k : ℕ) → k < l.done → byte_of l.pages (l.start + k)
-          ≡ g.C.Change.byte l.what k (mark_in_pages l.initial.pages (l.start + k)) (byte_of l.initial.pages (l.start + k));
-      marks : (k : ℕ) → k < l.done → mark_in_pages l.pages (l.start + k) ≡ g.C.Change.mark l.what k (mark_in_pages l.initial.pages (l.start + k));
-      other_bytes : (k : ℕ) → (k < l.start) ⊎ (l.start + l.done ≤ k) → byte_of l.pages k ≡ byte_of l.initial.pages k;
-      other_marks : (k : ℕ) → (k < l.start) ⊎ (l.start + l.done ≤ k) → mark_in_pages l.pages k ≡ mark_in_pages l.initial.pages k;
+      bytes : IsSetUpTo
+          (λ (k : ℕ). g.C.Change.byte l.what k (mark_in_pages l.initial.pages (l.start + k)) (byte_of l.initial.pages (l.start + k)))
+          l.start l.done (byte_of l.initial.pages) (byte_of l.pages);
+      marks : IsSetUpTo (λ (k : ℕ). g.C.Change.mark l.what k (mark_in_pages l.initial.pages (l.start + k)))
+          l.start l.done (mark_in_pages l.initial.pages) (mark_in_pages l.pages);
       made : map is_some l.pages ≡ map is_some l.initial.pages;
     }
 

@@ -1,19 +1,14 @@
-use Rattle.std.proofs.Common.{◌/◌, ◌%◌, Some, None, ap, sym, ◌∙◌}
-use Rattle.std.specs.Box.{with_value}
-use Rattle.std.specs.Option.{is_some}
-use Rattle.std.proofs.lemmas.List.{get_or_default}
-use Rattle.nc_text.proofs.Tables.{made_within, mark_kept, same_made}
+use Rattle.std.proofs.Common.{◌/◌, ◌%◌}
+use Rattle.nc_text.proofs.Tables.{IsLentPage, lent_page, made_within, made_kept, mark_kept}
 use Rattle.nc_text.proofs.table.put.Goals as goal
 
+-- the page of the place was lent
+lent_of : (c : goal.After-pages-1) → IsLentPage c.args.pages.now (c.args.at / 4096) c.in-Some.page c.deref_mut.result.now
+lent_of c = lent_page c.index-pages-at.result (made_within c.args.pages.now (c.args.at / 4096) c.requires.ready) c.in-Some.is
+    c.deref_mut.ensures.value
+
 pub returns-in-Some-clause-marks : goal.returns-in-Some-clause-marks
-returns-in-Some-clause-marks c =
-    let inside = made_within c.args.pages.now (c.args.at / 4096) c.requires.ready in
-    let e = get_or_default c.args.pages.now (c.args.at / 4096) None c.index-pages-at.result inside ∙ c.in-Some.is in
-    λ k. mark_kept c.args.pages.now (c.args.at / 4096) k c.in-Some.page c.deref_mut.result.now c.put.new.self e c.deref_mut.ensures.value inside
-    (λ _. c.put.ensures.marks (k % 4096))
+returns-in-Some-clause-marks c = λ k. mark_kept (lent_of c) c.put.new.self k (λ _. c.put.ensures.marks (k % 4096))
 
 pub returns-in-Some-clause-made : goal.returns-in-Some-clause-made
-returns-in-Some-clause-made c =
-    let inside = made_within c.args.pages.now (c.args.at / 4096) c.requires.ready in
-    let e = get_or_default c.args.pages.now (c.args.at / 4096) None c.index-pages-at.result inside ∙ c.in-Some.is in
-    same_made c.args.pages.now (c.args.at / 4096) (Some (with_value c.in-Some.page c.put.new.self)) (ap is_some (sym e))
+returns-in-Some-clause-made c = made_kept (lent_of c) c.put.new.self

@@ -2,31 +2,25 @@ use Rattle.std.proofs.Common.{◌≡◌, ◌+◌, ◌<◌, List, length, get_or,
 use Rattle.std.proofs.lemmas.List.{length-map}
 use Rattle.nc_list.specs.declared.chunk.Chunk.{Chunk}
 use Rattle.nc_list.specs.Chunks.{IsRising, IsAboveAll, IsNextChunk}
-use Rattle.nc_list.specs.Parts.{IsPartFor}
 use Rattle.nc_list.proofs.Pieces.{part_is, some_at}
-use Rattle.nc_list.proofs.Rows.{rise_here, next_all, next_first, next_none}
+use Rattle.nc_list.proofs.Rows.{found, rise_here, next_all, next_first, next_none}
 use Rattle.nc_list.proofs.row.RowPart.next.Goals as goal
 
 pub next-found-requires : goal.next-found-requires
 next-found-requires g c =
-    let xs = c.self.inside.parts.items in
-    let for = subst (λ (z : List g.row.T.Denot). IsPartFor (map g.T.Part.items z) c.part_near-k.result c.args.at) c.deref.ensures.value
-    c.part_near-k.ensures in
-    let lt : c.part_near-k.result < length xs = omega (arith, for.inside, length-map xs g.T.Part.items) in
-    subst (IsRising 0) (sym (part_is g.T.Part.items xs c.part_near-k.result c.index.result.now lt c.index.ensures))
-    (rise_here (map g.T.Part.items xs) c.part_near-k.result for.inside (subst (IsRising 0) (sym c.self.view_is) c.requires))
+    let is = found g.T.Part.items c.self.inside.parts.items c.deref.result.now c.part_near-k.result c.args.at c.index.result.now c.deref.ensures.value
+    c.part_near-k.ensures c.index.ensures in
+    subst (IsRising 0) (sym is.part)
+    (rise_here (map g.T.Part.items c.self.inside.parts.items) c.part_near-k.result is.for.inside (subst (IsRising 0) (sym c.self.view_is) c.requires))
 
 pub returns-in-Some-clause-found : goal.returns-in-Some-clause-found
 returns-in-Some-clause-found g c =
-    let xs = c.self.inside.parts.items in
-    let for = subst (λ (z : List g.row.T.Denot). IsPartFor (map g.T.Part.items z) c.part_near-k.result c.args.at) c.deref.ensures.value
-    c.part_near-k.ensures in
-    let lt : c.part_near-k.result < length xs = omega (arith, for.inside, length-map xs g.T.Part.items) in
-    let found = subst (λ (o : Option Chunk). IfSome o (IsNextChunk (g.T.Part.items c.index.result.now) c.args.at)) c.in-Some.is c.next-found.ensures.found in
+    let is = found g.T.Part.items c.self.inside.parts.items c.deref.result.now c.part_near-k.result c.args.at c.index.result.now c.deref.ensures.value
+    c.part_near-k.ensures c.index.ensures in
+    let next = subst (λ (o : Option Chunk). IfSome o (IsNextChunk (g.T.Part.items c.index.result.now) c.args.at)) c.in-Some.is c.next-found.ensures.found in
     subst (λ (z : List Chunk). IsNextChunk z c.args.at c.in-Some.chunk) c.self.view_is
-    (next_all (map g.T.Part.items xs) c.part_near-k.result c.args.at c.in-Some.chunk for
-    (subst (λ (z : List Chunk). IsNextChunk z c.args.at c.in-Some.chunk)
-    (part_is g.T.Part.items xs c.part_near-k.result c.index.result.now lt c.index.ensures) found))
+    (next_all (map g.T.Part.items c.self.inside.parts.items) c.part_near-k.result c.args.at c.in-Some.chunk is.for
+    (subst (λ (z : List Chunk). IsNextChunk z c.args.at c.in-Some.chunk) is.part next))
 
 pub at-requires : goal.at-requires
 at-requires g c =
@@ -42,29 +36,23 @@ pub returns-then-k-len-clause-found : goal.returns-then-k-len-clause-found
 returns-then-k-len-clause-found g c =
     let xs = c.self.inside.parts.items in
     let parts = map g.T.Part.items xs in
+    let is = found g.T.Part.items c.self.inside.parts.items c.deref.result.now c.part_near-k.result c.args.at c.index.result.now c.deref.ensures.value
+    c.part_near-k.ensures c.index.ensures in
+    let none = subst (λ (z : List Chunk). IsAboveAll c.args.at z) is.part (c.next-found.ensures.none (rw c.in_default.is refl)) in
     let long : length parts ≡ length xs = length-map xs g.T.Part.items in
-    let for = subst (λ (z : List g.row.T.Denot). IsPartFor (map g.T.Part.items z) c.part_near-k.result c.args.at) c.deref.ensures.value
-    c.part_near-k.ensures in
-    let lt : c.part_near-k.result < length xs = omega (arith, for.inside, long) in
-    let none = subst (λ (z : List Chunk). IsAboveAll c.args.at z)
-    (part_is g.T.Part.items xs c.part_near-k.result c.index.result.now lt c.index.ensures) (c.next-found.ensures.none (rw c.in_default.is refl)) in
     let behind : c.part_near-k.result + 1 < length xs = omega (arith, c.if-k-len.true, c.len.ensures, c.self.inside.parts.ok.0) in
     let part = part_is g.T.Part.items xs (c.part_near-k.result + 1) c.index-then-k-len.result.now behind c.index-then-k-len.ensures in
     let some = some_at parts (c.part_near-k.result + 1) c.self.invariant.some (omega (arith, behind, long)) (omega (arith, behind, long)) in
     subst (λ (z : List Chunk). IsNextChunk z c.args.at c.at.result) c.self.view_is
-    (next_first parts c.part_near-k.result c.args.at c.at.result for none (omega (arith, behind, long)) some
+    (next_first parts c.part_near-k.result c.args.at c.at.result is.for none (omega (arith, behind, long)) some
     (c.at.ensures ∙ ap (λ (z : List Chunk). get_or z 0 c.at.result) part))
 
 pub returns-clause-none : goal.returns-clause-none
 returns-clause-none g c = λ _.
     let xs = c.self.inside.parts.items in
-    let parts = map g.T.Part.items xs in
-    let long : length parts ≡ length xs = length-map xs g.T.Part.items in
-    let for = subst (λ (z : List g.row.T.Denot). IsPartFor (map g.T.Part.items z) c.part_near-k.result c.args.at) c.deref.ensures.value
-    c.part_near-k.ensures in
-    let lt : c.part_near-k.result < length xs = omega (arith, for.inside, long) in
-    let none = subst (λ (z : List Chunk). IsAboveAll c.args.at z)
-    (part_is g.T.Part.items xs c.part_near-k.result c.index.result.now lt c.index.ensures) (c.next-found.ensures.none (rw c.in_default.is refl)) in
+    let is = found g.T.Part.items c.self.inside.parts.items c.deref.result.now c.part_near-k.result c.args.at c.index.result.now c.deref.ensures.value
+    c.part_near-k.ensures c.index.ensures in
+    let none = subst (λ (z : List Chunk). IsAboveAll c.args.at z) is.part (c.next-found.ensures.none (rw c.in_default.is refl)) in
     subst (λ (z : List Chunk). IsAboveAll c.args.at z) c.self.view_is
-    (next_none parts c.part_near-k.result c.args.at for none
-    (omega (arith, c.if-k-len.false, c.len.ensures, c.self.inside.parts.ok.0, long)))
+    (next_none (map g.T.Part.items xs) c.part_near-k.result c.args.at is.for none
+    (omega (arith, c.if-k-len.false, c.len.ensures, c.self.inside.parts.ok.0, length-map xs g.T.Part.items)))

@@ -12,18 +12,16 @@ same_bits : (m n : Masks) (k : ℕ) → bit_at n.starts k ≡ bit_at m.starts k 
     → mark_in n k ≡ mark_in m k
 same_bits m n k s t l i h = rw (s, t, l, i, h) refl
 
+-- a number that is a bit, by the test that sets it
+tested : (n : ℕ) → n < 2 → (if n == 1 then 1 else 0) ≡ n
+tested zero small = refl
+tested (suc zero) small = refl
+tested (suc (suc n)) contrary = absurd (omega (arith, contrary))
+
 -- a register by its three bits
 by_bits : (r : ℕ) → r < 8 → (if r % 2 == 1 then 1 else 0) + 2 * (if r / 2 % 2 == 1 then 1 else 0)
     + 4 * (if r / 4 % 2 == 1 then 1 else 0) ≡ r
-by_bits zero lt = refl
-by_bits (suc zero) lt = refl
-by_bits (suc (suc zero)) lt = refl
-by_bits (suc (suc (suc zero))) lt = refl
-by_bits (suc (suc (suc (suc zero)))) lt = refl
-by_bits (suc (suc (suc (suc (suc zero))))) lt = refl
-by_bits (suc (suc (suc (suc (suc (suc zero)))))) lt = refl
-by_bits (suc (suc (suc (suc (suc (suc (suc zero))))))) lt = refl
-by_bits (suc (suc (suc (suc (suc (suc (suc (suc r)))))))) lt = absurd (omega (arith, lt))
+by_bits r lt = omega (arith, tested (r % 2) (omega arith), tested (r / 2 % 2) (omega arith), tested (r / 4 % 2) (omega arith))
 
 -- the mark of a second half, by its bits
 second_half : (m : Masks) (at r : ℕ) → r < 8 → bit_at m.starts at ≡ 0 → bit_at m.seconds at ≡ 1

@@ -1,9 +1,10 @@
-use Rattle.std.proofs.Common.{◌≡◌, ℕ, ◌+◌, ◌-◌, ◌*◌, ◌/◌, ◌%◌, ◌<◌, List, get_or, arith, subst, ap, ◌∙◌, inl, inr}
+use Rattle.std.proofs.Common.{◌≡◌, ℕ, ◌+◌, ◌*◌, ◌/◌, ◌%◌, ◌<◌, List, get_or, arith, subst, ap, ◌∙◌}
 use Rattle.std.specs.Prelude.{slice_index}
-use Rattle.std.proofs.lemmas.Bool.{cases_lt}
 use Rattle.nc_decode.specs.declared.bundle.Bundle.{Bundle}
+use Rattle.nc_decode.specs.declared.instruction.Mark.{Mark}
 use Rattle.nc_decode.specs.Bits.{no_bits, bit_mark, mark_by_bits}
 use Rattle.nc_text.specs.machinery.Pages.{mark_on}
+use Rattle.nc_text.proofs.Spans.{IsSetUpTo, one_part_more}
 use Rattle.nc_text.proofs.page.Page.set_bundles.Goals as goal
 
 -- the mark of a place by the bits of its bundle
@@ -21,24 +22,15 @@ in_its_bundle code bundles from n k w is start lt =
 pub loop-n-preserved : goal.loop-n-preserved
 loop-n-preserved c =
     let so = c.loop-n.invariant in
-    let at = c.args.at in
     let n = c.loop-n.n in
+    let up : 32 * n + 32 ≡ 32 * (n + 1) = omega arith in
     let code = c.args.code.now in
     let bundles = c.args.bundles.now in
+    let given : ℕ → Mark = λ j. mark_by_bits code bundles (c.args.from + j) in
     record {
-      within = λ k lt. elim (cases_lt k (32 * n)) [
-        | inl before ↦ c.set_bundle.ensures.others (at + k) (inl (omega arith)) ∙ so.within k before
-        | inr from ↦
-            let place : at + 32 * n + (k - 32 * n) ≡ at + k = omega arith in
-            let number : 32 * n + (k - 32 * n) ≡ k = omega arith in
-            subst (λ (j : ℕ). mark_on c.set_bundle.new.self (at + k) ≡ mark_by_bits code bundles (c.args.from + j)) number
-            (subst (λ (j : ℕ). mark_on c.set_bundle.new.self j ≡ mark_by_bits code bundles (c.args.from + (32 * n + (k - 32 * n)))) place
-            (c.set_bundle.ensures.within (k - 32 * n) (omega arith) ∙ (c.of_bits-masks.ensures (k - 32 * n) (omega arith)
-            ∙ in_its_bundle code bundles c.args.from n (k - 32 * n) _ c.bundle_at-bundle.ensures c.requires.from (omega arith))))
-      ];
-      others = λ k out. elim out [
-        | inl low ↦ c.set_bundle.ensures.others k (inl (omega arith)) ∙ so.others k (inl low)
-        | inr high ↦ c.set_bundle.ensures.others k (inr (omega arith)) ∙ so.others k (inr (omega arith))
-      ];
+      marks = subst (λ (m : ℕ). IsSetUpTo given c.args.at m (mark_on c.args.self.now) (mark_on c.set_bundle.new.self)) up
+          (one_part_more so.marks (mark_on c.set_bundle.new.self) 32 (λ k lt. c.set_bundle.ensures.within k lt
+          ∙ (c.of_bits-masks.ensures k lt ∙ in_its_bundle code bundles c.args.from n k _ c.bundle_at-bundle.ensures c.requires.from lt))
+          c.set_bundle.ensures.others);
       bytes = λ k. c.set_bundle.ensures.bytes k ∙ so.bytes k;
     }

@@ -1,17 +1,14 @@
-use Rattle.std.proofs.Common.{◌-◌, List, get_or, arith, ap, sym, ◌∙◌}
-use Rattle.nc_text.specs.machinery.Pages.{Slot, byte_of}
-use Rattle.nc_text.specs.Ready.{TextState}
-use Rattle.nc_text.proofs.Views.{place_inside, page_inside, byte_seen}
+use Rattle.std.proofs.Common.{◌∙◌}
+use Rattle.nc_text.proofs.Views.{IsLent, page_inside, byte_here}
+use Rattle.nc_text.proofs.text.Text.byte.Goals.{After-deref}
 use Rattle.nc_text.proofs.text.Text.byte.Goals as goal
 
+-- the table of the text was lent
+lent_of : (c : After-deref) → IsLent c.self.inside.pages.items c.deref.result.now c.self.inside.size c.args.self.now
+lent_of c = record { loan = c.deref.ensures.value; view = c.self.view_is; kept = c.self.invariant }
+
 pub byte-requires : goal.byte-requires
-byte-requires c =
-    page_inside c.self.inside.pages.items c.deref.result.now c.self.inside.size (c.args.at - 65536) c.args.self.now c.deref.ensures.value c.self.view_is
-    c.self.invariant.1 (omega (arith, c.requires.0, c.requires.1))
+byte-requires c = page_inside (lent_of c) c.args.at c.requires
 
 pub returns : goal.returns
-returns c =
-    c.byte.ensures ∙ (ap (λ (ps : List Slot). byte_of ps (c.args.at - 65536)) c.deref.ensures.value
-    ∙ (sym (byte_seen c.self.inside.pages.items c.self.inside.size (c.args.at - 65536)
-    (place_inside c.self.inside.pages.items c.self.inside.size _ c.args.self.now c.self.view_is (omega (arith, c.requires.0, c.requires.1))))
-    ∙ ap (λ (t : TextState). get_or t.marked.bytes (c.args.at - 65536) 0) c.self.view_is))
+returns c = c.byte.ensures ∙ byte_here (lent_of (goal.at.returns c).After-deref) c.args.at c.requires
