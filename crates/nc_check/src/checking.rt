@@ -10,7 +10,7 @@ use crate::outcome::{Failure, Outcome};
 use crate::progress::Progress;
 use crate::working::{Report, judge_files};
 use nc_command::CheckAsk;
-use nc_output::{Piped, write_out};
+use nc_output::{PipeWriter, write_out};
 use std::alloc::Global;
 use std::io;
 use std::io::Input;
@@ -51,7 +51,7 @@ fn judge_alone<R: Threads + Wait + Sync + AllocGlobal + Input + Files + Print + 
     file: &str,
 ) -> Result<(), Failure> {
     state.progress.yield_output(rt);
-    let mut writer = Piped::new(io::writer(rt));
+    let mut writer = PipeWriter::new(io::writer(rt));
     match judge_file(rt, ask, file, &mut writer) {
         Ok(is_refused) => {
             state.outcome.is_refused |= is_refused;
@@ -72,7 +72,7 @@ fn judge_alone<R: Threads + Wait + Sync + AllocGlobal + Input + Files + Print + 
 fn print<R: Print + Eprint>(rt: &R, state: &mut State, report: &Report) -> Result<(), Failure> {
     state.progress.yield_output(rt);
     state.outcome.is_refused |= report.is_refused;
-    let mut writer = Piped::new(io::writer(rt));
+    let mut writer = PipeWriter::new(io::writer(rt));
     match write_out(&mut writer, &report.text) {
         Ok(()) => Ok(()),
         Err(_) => Err(Failure::of_writing(writer.is_closed())),

@@ -1,2 +1,2 @@
 pub mod Verdicts
-pub mod Piped
+pub mod PipeWriter

@@ -18,7 +18,7 @@ use explaining::{ExplainedInput, ExplainedOutput};
 use gathering::most_held;
 use nc_command::{Ask, arguments, ask, replay_words};
 use nc_lines::ReplayFault;
-use nc_output::Piped;
+use nc_output::PipeWriter;
 use program::{Halt, start};
 use std::io::{self, BufReader, ErrorKind, Input, Write};
 use std::process::ExitCode;
@@ -119,7 +119,7 @@ fn stop<R: Print + Eprint>(rt: &R, halt: &Halt, is_closed: bool) -> u8
 }
 
 fn main(rt: HostRuntime) -> ExitCode {
-    let mut writer = Piped::new(io::writer(&rt));
+    let mut writer = PipeWriter::new(io::writer(&rt));
     match run_words(&rt, &mut writer, most_held(&rt)) {
         Ok(0) => ExitCode::SUCCESS,
         Ok(bad) => {

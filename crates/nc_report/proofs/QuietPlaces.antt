@@ -12,7 +12,7 @@ use Rattle.nc_vet.specs.declared.fault.VetFault.{VetFault}
 use Rattle.nc_vet.specs.declared.fault.VetFault.TheVariants as vet
 use Rattle.nc_report.specs.declared.spot.Spot.{Spot}
 use Rattle.nc_report.specs.declared.spot.Spot.TheVariants.{Inside, Skipped, Entry, Second, NotPermitted, Crosses, Bare}
-use Rattle.nc_report.specs.Further.{may_go, goes_astray, fault_by, fault_at, listed, others_at, others_to}
+use Rattle.nc_report.specs.Further.{may_go, has_bad_target, fault_by, fault_at, listed, others_at, others_to}
 use Rattle.nc_report.specs.Totals.{counts_to}
 use Rattle.nc_report.specs.machinery.Seen.{is_quiet, counted}
 use Rattle.nc_report.proofs.CountedFaults.{counts_more}
@@ -34,38 +34,38 @@ first_byte bytes i f direct = go f.front refl
         (direct_begins b more i (subst (λ (z : List ℕ). Spells z i) e f.spells) direct)
 
 -- the test of a direct transfer fails where it fails on the flow
-astray_by : (direct goes : Bool) → direct ≡ false → direct && not goes ≡ false
-astray_by true goes e = absurd cc
-astray_by false goes e = refl
+bad_target_by : (direct goes : Bool) → direct ≡ false → direct && not goes ≡ false
+bad_target_by true goes e = absurd cc
+bad_target_by false goes e = refl
 
--- where no direct transfer begins with the byte, none goes astray
-none_astray : (base limit : ℕ) (spots : List Spot) (at : ℕ) (bytes : List ℕ) (found : Option Instr) → first_instruction bytes ≡ found
-    → may_transfer (get_or bytes 0 0) ≡ false → goes_astray base limit spots at found ≡ false
-none_astray base limit spots at bytes None is other = refl
-none_astray base limit spots at bytes (Some i) is other =
+-- where no direct transfer begins with the byte, none has a bad target
+no_bad_target : (base limit : ℕ) (spots : List Spot) (at : ℕ) (bytes : List ℕ) (found : Option Instr) → first_instruction bytes ≡ found
+    → may_transfer (get_or bytes 0 0) ≡ false → has_bad_target base limit spots at found ≡ false
+no_bad_target base limit spots at bytes None is other = refl
+no_bad_target base limit spots at bytes (Some i) is other =
     elim (true_or_false (is_direct i.flow)) [
       | inl direct ↦ absurd (let f : true ≡ false = sym (first_byte bytes i ((exact bytes i).0 is) direct) ∙ other in cc)
-      | inr indirect ↦ astray_by (is_direct i.flow) (may_go base limit spots (target i at)) indirect
+      | inr indirect ↦ bad_target_by (is_direct i.flow) (may_go base limit spots (target i at)) indirect
     ]
 
 -- no fault by a quiet spot and byte
-quiet_by : (spot : Spot) (byte : ℕ) (astray : Bool) (at : ℕ) → is_quiet spot byte ≡ true → (may_transfer byte ≡ false → astray ≡ false)
-    → fault_by spot astray at ≡ None
-quiet_by Inside byte astray at q f = refl
-quiet_by Skipped byte astray at q f = refl
-quiet_by Second byte astray at q f = refl
-quiet_by Entry byte astray at q f = ap (λ (b : Bool). cond b (Some (vet.BadTarget at)) None) (f (not_true (may_transfer byte) q))
-quiet_by NotPermitted byte astray at q f = absurd cc
-quiet_by Crosses byte astray at q f = absurd cc
-quiet_by Bare byte astray at q f = absurd cc
+quiet_by : (spot : Spot) (byte : ℕ) (bad_target : Bool) (at : ℕ) → is_quiet spot byte ≡ true → (may_transfer byte ≡ false → bad_target ≡ false)
+    → fault_by spot bad_target at ≡ None
+quiet_by Inside byte bad_target at q f = refl
+quiet_by Skipped byte bad_target at q f = refl
+quiet_by Second byte bad_target at q f = refl
+quiet_by Entry byte bad_target at q f = ap (λ (b : Bool). cond b (Some (vet.BadTarget at)) None) (f (not_true (may_transfer byte) q))
+quiet_by NotPermitted byte bad_target at q f = absurd cc
+quiet_by Crosses byte bad_target at q f = absurd cc
+quiet_by Bare byte bad_target at q f = absurd cc
 
 -- a quiet place has no fault
 pub quiet_none : (base limit : ℕ) (code : List ℕ) (spots : List Spot) (k : ℕ)
     → is_quiet (get_or spots k Inside) (slice_index code k) ≡ true → fault_at base limit code spots k ≡ None
 quiet_none base limit code spots k q =
     quiet_by (get_or spots k Inside) (slice_index code k)
-    (goes_astray base limit spots (base + k) (first_instruction (drop k code))) (base + k) q
-    (λ other. none_astray base limit spots (base + k) (drop k code) (first_instruction (drop k code)) refl
+    (has_bad_target base limit spots (base + k) (first_instruction (drop k code))) (base + k) q
+    (λ other. no_bad_target base limit spots (base + k) (drop k code) (first_instruction (drop k code)) refl
     (ap may_transfer (get_or-drop k code 0 0 ∙ ap (λ (n : ℕ). get_or code n 0) (let e : k + 0 ≡ k = omega arith in e)) ∙ other))
 
 -- no place from `k` on and before `next` has a fault

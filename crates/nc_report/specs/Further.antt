@@ -24,24 +24,24 @@ may_go base limit spots to =
     else (to % 32 == 0 && nat_lt to limit)
 
 -- the instruction at this address, if there is one, is a direct transfer to an address that it may not target
-abbrev pub goes_astray : ℕ → ℕ → List Spot → ℕ → Option Instr → Bool
-goes_astray base limit spots at None = false
-goes_astray base limit spots at (Some i) = is_direct i.flow && not (may_go base limit spots (target i at))
+abbrev pub has_bad_target : ℕ → ℕ → List Spot → ℕ → Option Instr → Bool
+has_bad_target base limit spots at None = false
+has_bad_target base limit spots at (Some i) = is_direct i.flow && not (may_go base limit spots (target i at))
 
--- the fault at an address, by the spot there; an instruction that is otherwise allowed may still go astray
+-- the fault at an address, by the spot there; an instruction that is otherwise allowed may still have a bad target
 abbrev pub fault_by : Spot → Bool → ℕ → Option VetFault
-fault_by Inside astray at = None
-fault_by Skipped astray at = None
-fault_by Second astray at = None
-fault_by Entry astray at = if astray then Some (vet.BadTarget at) else None
-fault_by NotPermitted astray at = Some (vet.NotPermitted at)
-fault_by Crosses astray at = Some (vet.Crosses at)
-fault_by Bare astray at = Some (vet.Bare at)
+fault_by Inside bad_target at = None
+fault_by Skipped bad_target at = None
+fault_by Second bad_target at = None
+fault_by Entry bad_target at = if bad_target then Some (vet.BadTarget at) else None
+fault_by NotPermitted bad_target at = Some (vet.NotPermitted at)
+fault_by Crosses bad_target at = Some (vet.Crosses at)
+fault_by Bare bad_target at = Some (vet.Bare at)
 
 -- the fault at a place of the code, if there is one
 abbrev pub fault_at : ℕ → ℕ → List ℕ → List Spot → ℕ → Option VetFault
 fault_at base limit code spots k =
-    fault_by (get_or spots k Inside) (goes_astray base limit spots (base + k) (first_instruction (drop k code))) (base + k)
+    fault_by (get_or spots k Inside) (has_bad_target base limit spots (base + k) (first_instruction (drop k code))) (base + k)
 
 -- a step of the reading begins at this byte: an instruction, or the bytes that are skipped after one, end before it
 abbrev pub is_begun : Spot → Bool

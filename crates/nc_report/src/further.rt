@@ -2,7 +2,7 @@
 
 ghost use Rattle.std.specs.Prelude.{◌≡◌, ◌<◌, ◌+◌, ◌^◌, length};
 ghost use Rattle.nc_decode.specs.Front.{first_instruction};
-ghost use Rattle.nc_report.specs.Further.{is_open, is_begun, may_go, goes_astray, fault_by, fault_at};
+ghost use Rattle.nc_report.specs.Further.{is_open, is_begun, may_go, has_bad_target, fault_by, fault_at};
 
 use crate::spot::{Spot, spot_at};
 use nc_decode::{decode, is_bundle_start};
@@ -36,10 +36,10 @@ fn may_go(base: u32, limit: u32, spots: &[Spot], to: u32) -> bool
 
 /// The instruction at the front of these bytes, which begin at this address, is a direct transfer to an address that it may
 /// not target.
-fn goes_astray(base: u32, limit: u32, spots: &[Spot], rest: &[u8], at: u32) -> bool
+fn has_bad_target(base: u32, limit: u32, spots: &[Spot], rest: &[u8], at: u32) -> bool
     requires span { base + length spots.now < 2 ^ 32 }
     requires fits { at + length rest.now < 2 ^ 32 }
-    ensures { result ≡ goes_astray base limit spots.now at (first_instruction rest.now) }
+    ensures { result ≡ has_bad_target base limit spots.now at (first_instruction rest.now) }
 {
     let Ok(instr) = decode(rest) else {
         return false;
@@ -48,12 +48,12 @@ fn goes_astray(base: u32, limit: u32, spots: &[Spot], rest: &[u8], at: u32) -> b
 }
 
 /// The fault at an address, by the spot there.
-fn fault_by(spot: Spot, astray: bool, at: u32) -> Option<VetFault>
-    ensures { result ≡ fault_by spot astray at }
+fn fault_by(spot: Spot, bad_target: bool, at: u32) -> Option<VetFault>
+    ensures { result ≡ fault_by spot bad_target at }
 {
     match spot {
         Spot::Inside | Spot::Skipped | Spot::Second => None,
-        Spot::Entry if astray => Some(VetFault::BadTarget { at }),
+        Spot::Entry if bad_target => Some(VetFault::BadTarget { at }),
         Spot::Entry => None,
         Spot::NotPermitted => Some(VetFault::NotPermitted { at }),
         Spot::Crosses => Some(VetFault::Crosses { at }),
@@ -76,6 +76,6 @@ pub(crate) fn fault_at(
 {
     let at = base + k as u32;
     let spot = spot_at(spots, k);
-    let astray = spot == Spot::Entry && goes_astray(base, limit, spots, &code[k..], at);
-    fault_by(spot, astray, at)
+    let bad_target = spot == Spot::Entry && has_bad_target(base, limit, spots, &code[k..], at);
+    fault_by(spot, bad_target, at)
 }

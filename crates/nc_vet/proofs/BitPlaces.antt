@@ -63,14 +63,19 @@ fewer_left n some fits =
     below : (a b : ℕ) → a ≤ b → a ≢ b → a < b
     below a b le ne = omega (arith, le, ne)
 
--- once one of the bits is cleared and done, each bit is still left or done
-pub one_done : (G : ℕ → Type 0) (left rest at k : ℕ) → k < 64 → ((i : ℕ) → i < 64 → i ≢ at → bit_at rest i ≡ bit_at left i) → G at
-    → (bit_at left k ≡ 1) ⊎ G k → (bit_at rest k ≡ 1) ⊎ G k
-one_done G left rest at k lt others done (inr good) = inr good
-one_done G left rest at k lt others done (inl bit) = elim (true_or_false (k == at)) [
-  | inl here ↦ inr (subst G (sym (eqb-true k at here)) done)
-  | inr other ↦ inl (others k lt (eqb-false k at other) ∙ bit)
-]
+-- once one of the bits is cleared and its target judged, each bit that was set at first is still left, or its target is judged
+pub one_done : (G : ℕ → Type 0) (target : ℕ → ℕ) (ends left rest at to : ℕ)
+    → ((i : ℕ) → i < 64 → i ≢ at → bit_at rest i ≡ bit_at left i) → to ≡ target at → G to
+    → ((k : ℕ) → k < 64 → bit_at ends k ≡ 1 → (bit_at left k ≡ 1) ⊎ G (target k))
+    → (k : ℕ) → k < 64 → bit_at ends k ≡ 1 → (bit_at rest k ≡ 1) ⊎ G (target k)
+one_done G target ends left rest at to others is good before k lt set =
+    elim (before k lt set) [
+      | inr done ↦ inr done
+      | inl bit ↦ elim (true_or_false (k == at)) [
+        | inl here ↦ inr (subst (λ (i : ℕ). G (target i)) (sym (eqb-true k at here)) (subst G is good))
+        | inr other ↦ inl (others k lt (eqb-false k at other) ∙ bit)
+      ]
+    ]
 
 -- ---- two bundles
 

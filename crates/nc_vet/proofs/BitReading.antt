@@ -256,7 +256,7 @@ unfolding read_told
 read_bits code bundles fits t len =
     read_told code bundles t len (scans code (length code) (state_after code) (all_told code bundles fits t len))
 
--- where the first bundles are judged, each instruction that begins in them goes well
+-- where the first bundles are judged, no instruction that begins in them has a bad target
 pub judged_bits : (base limit : ℕ) (code : List ℕ) (bundles : List Bundle) (n : ℕ) → ((k : ℕ) → Fits w8 (get_or code k 0))
     → AreTold code bundles → length code ≡ 32 * length bundles → AreJudged base limit code bundles n
     → HasJudged base limit code (marks_in code bundles) (32 * n)

@@ -13,8 +13,8 @@ use Rattle.nc_decode.specs.Spelling.{Spells, IsAtFront}
 use Rattle.nc_decode.specs.Transfers.{is_direct, is_indirect, target, may_transfer}
 use Rattle.nc_decode.proofs.Offered.{direct_begins}
 use Rattle.nc_vet.specs.Chunk.{Piece, code_of, place, AreSpelled, AreSound, IsTarget, marks_of}
-use Rattle.nc_vet.specs.Faults.{IsMistargeted}
-use Rattle.nc_vet.specs.machinery.Steps.{HasReadAll, GoesWellAt, GoesAstrayAt, HasJudged, HasJudgedAll}
+use Rattle.nc_vet.specs.Faults.{HasFirstBadTarget}
+use Rattle.nc_vet.specs.machinery.Steps.{HasReadAll, HasNoBadTargetAt, HasBadTargetAt, HasJudged, HasJudgedAll}
 use Rattle.nc_vet.proofs.Pieces.{code_of-append, place-append, piece_some, rest_is, front_within}
 use Rattle.nc_vet.proofs.OneReading.{one_at_front}
 use Rattle.nc_vet.proofs.MarkedPlaces.{marked, mark_at, first_plain}
@@ -33,7 +33,7 @@ front_at code marks at w r before after p e here w-is =
     subst (λ (z : List ℕ). IsAtFront (take w z) p.instr) (sym tail)
     (front_within p.bytes (code_of after) p.instr w (r.sound.spelled before after p e) (omega (arith, inside, here, w-is)))
 
--- ---- what is no direct transfer goes well
+-- ---- what is no direct transfer has no bad target
 
 -- a direct transfer begins with one of its bytes
 byte_at : (code : List ℕ) (marks : List Mark) (at d : ℕ) (r : HasReadAll code marks) (before after : List Piece) (p : Piece)
@@ -52,9 +52,9 @@ byte_at code marks at d r before after p e here direct = go p.bytes refl
         ∙ get_or_at (code_of before) b (bytes ++ code_of after) d at here in
         subst (λ (k : ℕ). may_transfer k ≡ true) (sym here_is) (direct_begins b bytes p.instr spells direct)
 
--- a place goes well where no direct transfer begins with its byte
+-- a place has no bad target where no direct transfer begins with its byte
 pub other_byte : (base limit : ℕ) (code : List ℕ) (marks : List Mark) (at d : ℕ) (r : HasReadAll code marks)
-    → may_transfer (get_or code at d) ≡ false → GoesWellAt base limit r.pieces at
+    → may_transfer (get_or code at d) ≡ false → HasNoBadTargetAt base limit r.pieces at
 other_byte base limit code marks at d r none before after p e here direct =
     absurd (let f : true ≡ false = sym (byte_at code marks at d r before after p e here direct) ∙ none in cc)
 
@@ -70,7 +70,7 @@ not_indirect Stop e = absurd cc
 
 -- a direct transfer's mark is plain
 pub other_mark : (base limit : ℕ) (code : List ℕ) (marks : List Mark) (at : ℕ) (d : Mark) (r : HasReadAll code marks)
-    → get_or marks at d ≢ Plain → GoesWellAt base limit r.pieces at
+    → get_or marks at d ≢ Plain → HasNoBadTargetAt base limit r.pieces at
 other_mark base limit code marks at d r other before after p e here direct =
     absurd (other
     (ap (λ (k : ℕ). get_or marks k d) (sym here)
@@ -78,27 +78,27 @@ other_mark base limit code marks at d r other before after p e here direct =
     ∙ mark_at r.pieces before after p d r.sound.spelled e
     ∙ first_plain (is_indirect p.instr.flow) p.instr.reg (not_indirect p.instr.flow direct)))
 
--- a place goes well where no instruction is read
+-- a place has no bad target where no instruction is read
 pub none_read : (base limit : ℕ) (code : List ℕ) (marks : List Mark) (at w : ℕ) (r : HasReadAll code marks) → w + at % 32 ≡ 32
-    → ((i : Instr) → IsAtFront (take w (drop at code)) i → ⊥) → GoesWellAt base limit r.pieces at
+    → ((i : Instr) → IsAtFront (take w (drop at code)) i → ⊥) → HasNoBadTargetAt base limit r.pieces at
 none_read base limit code marks at w r w-is none before after p e here direct =
     absurd (none p.instr (front_at code marks at w r before after p e here w-is))
 
 -- ---- what is read there
 
--- a place goes well where an instruction is read that is no direct transfer, or has a good target
-pub good_at : (base limit : ℕ) (code : List ℕ) (marks : List Mark) (at w : ℕ) (i : Instr) (r : HasReadAll code marks) → w + at % 32 ≡ 32
+-- a place has no bad target where an instruction is read that is no direct transfer, or has a good target
+pub no_bad_target_at : (base limit : ℕ) (code : List ℕ) (marks : List Mark) (at w : ℕ) (i : Instr) (r : HasReadAll code marks) → w + at % 32 ≡ 32
     → IsAtFront (take w (drop at code)) i → (IsTrue (is_direct i.flow) → IsTarget base limit r.pieces (target i (base + at)))
-    → GoesWellAt base limit r.pieces at
-good_at base limit code marks at w i r w-is f good before after p e here direct =
+    → HasNoBadTargetAt base limit r.pieces at
+no_bad_target_at base limit code marks at w i r w-is f good before after p e here direct =
     let same : i ≡ p.instr = one_at_front (take w (drop at code)) i p.instr f (front_at code marks at w r before after p e here w-is) in
     subst (λ (j : Instr). IsTrue (is_direct j.flow) → IsTarget base limit r.pieces (target j (base + at))) same good direct
 
--- a place goes astray where a direct transfer is read that has no good target
-pub astray_at : (base limit : ℕ) (code : List ℕ) (marks : List Mark) (at w : ℕ) (d : Mark) (i : Instr) (r : HasReadAll code marks)
+-- a place has a bad target where a direct transfer is read that has no good one
+pub bad_target_at : (base limit : ℕ) (code : List ℕ) (marks : List Mark) (at w : ℕ) (d : Mark) (i : Instr) (r : HasReadAll code marks)
     → w + at % 32 ≡ 32 → at < length marks → get_or marks at d ≡ Plain → IsAtFront (take w (drop at code)) i → IsTrue (is_direct i.flow)
-    → (IsTarget base limit r.pieces (target i (base + at)) → ⊥) → GoesAstrayAt base limit r.pieces at
-astray_at base limit code marks at w d i r w-is lt plain f direct bad =
+    → (IsTarget base limit r.pieces (target i (base + at)) → ⊥) → HasBadTargetAt base limit r.pieces at
+bad_target_at base limit code marks at w d i r w-is lt plain f direct bad =
     let in_marks : at < length (marks_of r.pieces) = omega (arith, lt, ap (λ (z : List Mark). length z) r.marks_are) in
     let plain_there : get_or (marks_of r.pieces) at Unmarked ≡ Plain = ap (λ (z : List Mark). get_or z at Unmarked) (sym r.marks_are)
     ∙ get_or_default marks at Unmarked d lt ∙ plain in
@@ -117,13 +117,13 @@ astray_at base limit code marks at w d i r w-is lt plain f direct bad =
 
 -- ---- place by place
 
--- with one more place that goes well, all places up to it are judged
+-- with one more place that has no bad target, all places up to it are judged
 pub judged_more : (base limit : ℕ) (code : List ℕ) (marks : List Mark) (at : ℕ) (h : HasJudged base limit code marks at)
-    → GoesWellAt base limit h.read.pieces at → HasJudged base limit code marks (at + 1)
+    → HasNoBadTargetAt base limit h.read.pieces at → HasJudged base limit code marks (at + 1)
 judged_more base limit code marks at h well = record {
   read = h.read;
   good = λ k lt. elim (eq-or-lt_of_le {n = k} {m = at} (omega (arith, lt))) [
-    | inl here ↦ subst (λ (j : ℕ). GoesWellAt base limit h.read.pieces j) (sym here) well
+    | inl here ↦ subst (λ (j : ℕ). HasNoBadTargetAt base limit h.read.pieces j) (sym here) well
     | inr earlier ↦ h.good k earlier
   ];
 }
@@ -136,10 +136,10 @@ lower pieces before b a after p q s e f =
     let one = piece_some pieces b (a ++ q ∷ after) p s parts in
     (parts, omega (arith, one.0, one.1, ap (λ (z : List Piece). place z) f, place-append b (p ∷ a), length-append p.bytes (code_of a)))
 
--- the first place that goes astray has a transfer with a bad target (`IsMistargeted`)
-pub mistargeted : (base limit : ℕ) (code : List ℕ) (marks : List Mark) (at : ℕ) (h : HasJudged base limit code marks at)
-    → GoesAstrayAt base limit h.read.pieces at → IsMistargeted base limit code (base + at)
-mistargeted base limit code marks at h g = record {
+-- the first place with a bad target is the first of the code
+pub first_bad_target : (base limit : ℕ) (code : List ℕ) (marks : List Mark) (at : ℕ) (h : HasJudged base limit code marks at)
+    → HasBadTargetAt base limit h.read.pieces at → HasFirstBadTarget base limit code (base + at)
+first_bad_target base limit code marks at h g = record {
   before = g.before;
   piece = g.piece;
   after = g.after;

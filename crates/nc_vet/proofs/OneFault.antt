@@ -7,35 +7,15 @@ use Rattle.nc_vet.specs.declared.fault.VetFault.{VetFault}
 use Rattle.nc_vet.specs.declared.fault.VetFault.TheVariants.{BadBase, BadLength, OutOfRange, NotPermitted, Crosses, Bare, BadTarget}
 use Rattle.nc_vet.specs.declared.fault.VetFault.TheVariants.{OutOfMemory}
 use Rattle.nc_vet.specs.Chunk.{Piece, code_of, place, IsBase, IsLength, IsInRange, IsTarget, MarkedChunk, IsValid}
-use Rattle.nc_vet.specs.Faults.{IsStuck, IsMistargeted, HasGoodSpan, HasFault}
+use Rattle.nc_vet.specs.Faults.{IsStuck, HasFirstBadTarget, HasGoodSpan, HasFault}
 use Rattle.nc_vet.proofs.OneReading.{same_pieces}
-
--- ---- what the parts of the vetting find
+use Rattle.nc_vet.proofs.Stuck.{sound_not_stuck}
 
 -- ---- a valid chunk has no fault
 
--- the longest sound front of a valid chunk is all of it
-not_stuck : (c : MarkedChunk) (fault : VetFault) → IsValid c → IsStuck c.base c.code fault → ⊥
-not_stuck c fault v s =
-    let long = s.longest v.pieces [] (record { parts = v.parts ∙ sym (append-nil (code_of v.pieces)); sound = v.sound }) in
-    s.some
-    (none s.rest
-    (omega (
-      arith,
-      long,
-      ap (λ (z : List ℕ). length z) v.parts,
-      ap (λ (z : List ℕ). length z) s.reads.parts,
-      length-append
-          (code_of s.front) s.rest,
-    )))
-  where
-    none : (xs : List ℕ) → length xs ≡ 0 → xs ≡ []
-    none [] e = refl
-    none (x ∷ xs) e = absurd (omega arith)
-
 -- a valid chunk's transfers have good targets
-not_mistargeted : (c : MarkedChunk) (at : ℕ) → IsValid c → IsMistargeted c.base c.limit c.code at → ⊥
-not_mistargeted c at v m =
+no_first_bad_target : (c : MarkedChunk) (at : ℕ) → IsValid c → HasFirstBadTarget c.base c.limit c.code at → ⊥
+no_first_bad_target c at v m =
     let same : v.pieces ≡ m.before ++ m.piece ∷ m.after = same_pieces v.pieces
     (m.before ++ m.piece ∷ m.after) v.sound.spelled m.sound.spelled (sym v.parts ∙ m.parts) in
     m.bad
@@ -48,10 +28,10 @@ pub none_valid : (base limit : ℕ) (code : List ℕ) (marks : List Mark) (fault
 none_valid base limit code marks BadBase v f = absurd (f v.base_is)
 none_valid base limit code marks BadLength v f = absurd (f.1 v.length_is)
 none_valid base limit code marks OutOfRange v f = absurd (f.2 v.range)
-none_valid base limit code marks (NotPermitted at) v f = absurd (not_stuck _ (NotPermitted at) v f.1)
-none_valid base limit code marks (Crosses at) v f = absurd (not_stuck _ (Crosses at) v f.1)
-none_valid base limit code marks (Bare at) v f = absurd (not_stuck _ (Bare at) v f.1)
-none_valid base limit code marks (BadTarget at) v f = absurd (not_mistargeted _ at v f.1)
+none_valid base limit code marks (NotPermitted at) v f = absurd (sound_not_stuck base code v.pieces (NotPermitted at) v.parts v.sound f.1)
+none_valid base limit code marks (Crosses at) v f = absurd (sound_not_stuck base code v.pieces (Crosses at) v.parts v.sound f.1)
+none_valid base limit code marks (Bare at) v f = absurd (sound_not_stuck base code v.pieces (Bare at) v.parts v.sound f.1)
+none_valid base limit code marks (BadTarget at) v f = absurd (no_first_bad_target _ at v f.1)
 none_valid base limit code marks OutOfMemory v f = refl
 
 -- ---- the first three faults are given exactly when they are due

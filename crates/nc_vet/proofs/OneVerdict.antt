@@ -7,12 +7,12 @@ use Rattle.nc_vet.specs.declared.fault.VetFault.{VetFault}
 use Rattle.nc_vet.specs.declared.fault.VetFault.TheVariants.{BadBase, BadLength, OutOfRange, NotPermitted, Crosses, Bare, BadTarget}
 use Rattle.nc_vet.specs.declared.fault.VetFault.TheVariants.{OutOfMemory}
 use Rattle.nc_vet.specs.Chunk.{Piece, code_of, place, marks_of, AreSpelled, IsTarget}
-use Rattle.nc_vet.specs.Faults.{IsSoundFront, IsStuck, StandsAfter, IsMistargeted}
+use Rattle.nc_vet.specs.Faults.{IsSoundFront, IsStuck, StandsAfter, HasFirstBadTarget}
 use Rattle.nc_vet.specs.Laws.{HasOneFault, HasOneReading}
 use Rattle.nc_vet.proofs.Splits.{split_two}
 use Rattle.nc_vet.proofs.Pieces.{place-append}
 use Rattle.nc_vet.proofs.OneReading.{agree, none_after, same_pieces}
-use Rattle.nc_vet.proofs.Stuck.{none_cut}
+use Rattle.nc_vet.proofs.Stuck.{none_cut, sound_not_stuck}
 use Rattle.nc_vet.proofs.OneFault.{due}
 
 -- the longest sound fronts of one code are the same
@@ -66,26 +66,11 @@ same_stuck base code f g s t =
     (subst (λ (z : List Piece). StandsAfter base z s.rest f) same.0 s.why)) t.why
 
 -- a code that is all sound isn't stuck
-stuck_or_sound : (base limit at : ℕ) (code : List ℕ) (f : VetFault) → IsStuck base code f → IsMistargeted base limit code at → ⊥
-stuck_or_sound base limit at code f s m =
-    let pieces : List Piece = m.before ++ m.piece ∷ m.after in
-    let long = s.longest (m.before ++ m.piece ∷ m.after) []
-    (record { parts = m.parts ∙ sym (append-nil (code_of (m.before ++ m.piece ∷ m.after))); sound = m.sound }) in
-    s.some (none s.rest (omega (
-      arith,
-      long,
-      ap (λ (z : List ℕ). length z) m.parts,
-      ap (λ (z : List ℕ). length z) s.reads.parts,
-      length-append
-          (code_of s.front) s.rest,
-    )))
-  where
-    none : (xs : List ℕ) → length xs ≡ 0 → xs ≡ []
-    none [] e = refl
-    none (x ∷ xs) e = absurd (omega arith)
+stuck_or_sound : (base limit at : ℕ) (code : List ℕ) (f : VetFault) → IsStuck base code f → HasFirstBadTarget base limit code at → ⊥
+stuck_or_sound base limit at code f s m = sound_not_stuck base code (m.before ++ m.piece ∷ m.after) f m.parts m.sound s
 
 -- there is one first transfer with a bad target
-same_transfer : (base limit : ℕ) (code : List ℕ) (a b : ℕ) → IsMistargeted base limit code a → IsMistargeted base limit code b → a ≡ b
+same_transfer : (base limit : ℕ) (code : List ℕ) (a b : ℕ) → HasFirstBadTarget base limit code a → HasFirstBadTarget base limit code b → a ≡ b
 same_transfer base limit code a b m n =
     let same : m.before ++ m.piece ∷ m.after ≡ n.before ++ n.piece ∷ n.after
     = same_pieces (m.before ++ m.piece ∷ m.after) (n.before ++ n.piece ∷ n.after) m.sound.spelled n.sound.spelled

@@ -8,7 +8,7 @@ use Rattle.std.specs.Int.Count.{leading_of_zero}
 use Rattle.std.proofs.lemmas.Nat.{leading_top}
 use Rattle.std.proofs.Math.Nat.{div-eq_of_lt-le, pow-succ'}
 use Rattle.std.proofs.lemmas.Bool.{cases_lt, eqb-false}
-use Rattle.std.proofs.lemmas.List.{length-drop, length-take-le, take_more, get_or-take, get_or-drop, get_or-set_same, get_or-set_other}
+use Rattle.std.proofs.lemmas.List.{length-drop, length-take-le, take_more, get_or-take, get_or-drop, get_or-set_same, get_or-set_other, length-take}
 use Rattle.std.proofs.lemmas.List.{length-set, get_or_append_left, get_or-append_right, length-append}
 use Rattle.nc_decode.specs.declared.automaton.TheConstants.{END, AFTER_SHORT, AFTER_NEAR, AFTER_PAIR}
 use Rattle.nc_decode.specs.Automaton.{next_state}
@@ -173,6 +173,22 @@ told_more code bundles more items count t is le f whole = (
           subst (λ (w : Bundle). TellsBundle code (32 * n) w × (END ≤ state_after code (32 * n + 31))) (sym word)
           (tells, whole_told code (32 * n) (get_or more (n - length bundles) no_bits) tells (whole (n - length bundles) m-lt)))
     ]
+
+-- the bundles that were read are told, and so are the whole ones at the front of the next four, of which `few` are in the code
+pub told_few : (code : List ℕ) (bundles more items : List Bundle) (at few count : ℕ) → AreTold code bundles → length more ≡ 4 → few ≤ 4
+    → at ≡ 32 * length bundles → at + 32 * few ≤ length code
+    → ((n : ℕ) → n < 4 → at + 32 * n < length code → TellsBundle code (at + 32 * n) (get_or more n no_bits))
+    → items ≡ bundles ++ take count more → count ≤ length (take few more)
+    → ((n : ℕ) → n < count → bit_at (get_or (take few more) n no_bits).ends 31 ≡ 1)
+    → (AreTold code items × (length items ≡ length bundles + count)) × (count ≤ few)
+told_few code bundles more items at few count t four small here room f is within whole =
+    let le : count ≤ few = omega (arith, within, length-take few more) in (
+      told_more code bundles more items count t is (omega (arith, le, small, four))
+          (λ n lt. moved code (at + 32 * n) (32 * length bundles + 32 * n) (get_or more n no_bits) (omega (arith, here))
+          (f n (omega (arith, lt, le, small)) (omega (arith, lt, le, room))))
+          (λ n lt. ap (λ (b : Bundle). bit_at b.ends 31) (sym (get_or-take few more n no_bits (omega (arith, lt, le)))) ∙ whole n lt),
+      le,
+    )
 
 -- the bundles that were read, and one more that is whole, are told
 pub told_next : (code : List ℕ) (bundles items : List Bundle) (w : Bundle) → AreTold code bundles → items ≡ bundles ++ w ∷ []

@@ -1,5 +1,5 @@
 -- Where the reading stops, no longer front is sound.
-use Rattle.std.proofs.Common.{◌≡◌, ◌↔◌, ℕ, ◌+◌, ◌-◌, ◌%◌, ◌<◌, ◌≤◌, List, [], ◌∷◌, ◌++◌, length, take, drop, Option, Some, sym, subst}
+use Rattle.std.proofs.Common.{◌≡◌, ◌↔◌, ℕ, ◌+◌, ◌-◌, ◌%◌, ◌<◌, ◌≤◌, List, [], ◌∷◌, ◌++◌, length, take, drop, Option, Some, refl, sym, subst}
 use Rattle.std.proofs.Common.{◌∙◌, ap, arith, inl, inr, append_assoc, append-nil}
 use Rattle.std.specs.Prelude.{IsTrue}
 use Rattle.std.proofs.lemmas.List.{length-append, append_cancel_left}
@@ -11,7 +11,7 @@ use Rattle.nc_decode.proofs.Offered.{prefix_free}
 use Rattle.nc_vet.specs.declared.fault.VetFault.{VetFault}
 use Rattle.nc_vet.specs.declared.fault.VetFault.TheVariants.{BadBase, BadLength, OutOfRange, NotPermitted, Crosses, Bare, BadTarget}
 use Rattle.nc_vet.specs.declared.fault.VetFault.TheVariants.{OutOfMemory}
-use Rattle.nc_vet.specs.Chunk.{Piece, code_of, place, FollowsMask}
+use Rattle.nc_vet.specs.Chunk.{Piece, code_of, place, FollowsMask, AreSound}
 use Rattle.nc_vet.specs.Faults.{IsSoundFront, IsLongest, bundle_rest, StandsAfter, IsStuck}
 use Rattle.nc_vet.specs.machinery.Steps.{NoneMayFollow, HasRead, EndsReading}
 use Rattle.nc_vet.proofs.Pieces.{code_of-append, place-append, rest_is, front_within}
@@ -122,3 +122,21 @@ stuck base code at w masked marks fault h lt w-is none =
       );
       why = stands_after base at h.front h.rest masked fault h.here none2;
     })
+
+-- code that consists of sound instructions isn't stuck
+pub sound_not_stuck : (base : ℕ) (code : List ℕ) (pieces : List Piece) (fault : VetFault) → code ≡ code_of pieces → AreSound pieces
+    → IsStuck base code fault → ⊥
+sound_not_stuck base code pieces fault parts sound s =
+    let long = s.longest pieces [] (record { parts = parts ∙ sym (append-nil (code_of pieces)); sound = sound }) in
+    let none : length s.rest ≡ 0 = omega (
+      arith,
+      long,
+      ap (λ (z : List ℕ). length z) parts,
+      ap (λ (z : List ℕ). length z) s.reads.parts,
+      length-append (code_of s.front) s.rest,
+    ) in
+    s.some (empty s.rest none)
+  where
+    empty : (xs : List ℕ) → length xs ≡ 0 → xs ≡ []
+    empty [] e = refl
+    empty (x ∷ xs) e = absurd (omega arith)

@@ -44,7 +44,7 @@ pub record IsStuck (base : ℕ) (code : List ℕ) (fault : VetFault) : Type 0 wh
 
 -- All of the code is sound. The direct transfer at the address doesn't go to a target, and each direct transfer before it
 -- does.
-pub record IsMistargeted (base limit : ℕ) (code : List ℕ) (at : ℕ) : Type 0 where
+pub record HasFirstBadTarget (base limit : ℕ) (code : List ℕ) (at : ℕ) : Type 0 where
   pub before : List Piece
   pub piece : Piece
   pub after : List Piece
@@ -81,6 +81,6 @@ abbrev pub HasFault : ℕ → ℕ → List ℕ → VetFault → Type 0
 HasFault base limit code (NotPermitted at) = HasGoodSpan base limit (length code) × IsStuck base code (NotPermitted at)
 HasFault base limit code (Crosses at) = HasGoodSpan base limit (length code) × IsStuck base code (Crosses at)
 HasFault base limit code (Bare at) = HasGoodSpan base limit (length code) × IsStuck base code (Bare at)
-HasFault base limit code (BadTarget at) = HasGoodSpan base limit (length code) × IsMistargeted base limit code at
+HasFault base limit code (BadTarget at) = HasGoodSpan base limit (length code) × HasFirstBadTarget base limit code at
 HasFault base limit code OutOfMemory = HasGoodSpan base limit (length code)
 HasFault base limit code fault = HasSpanFault base limit (length code) fault

@@ -4,10 +4,10 @@ ghost use Rattle.std.specs.Prelude.{◌≡◌, ◌<◌, ◌+◌, ◌%◌, ◌^�
 ghost use Rattle.nc_decode.specs.declared.instruction.Mark.{Mark};
 ghost use Rattle.nc_decode.specs.Transfers.{is_direct, target};
 ghost use Rattle.nc_vet.specs.Chunk.{IsTarget, Piece, marks_of, AreSpelled};
-ghost use Rattle.nc_vet.specs.Faults.{IsMistargeted};
+ghost use Rattle.nc_vet.specs.Faults.{HasFirstBadTarget};
 ghost use Rattle.nc_vet.specs.Listed.{listed};
 ghost use Rattle.nc_vet.specs.machinery.Running.{AreBitsTold};
-ghost use Rattle.nc_vet.specs.machinery.Steps.{HasReadAll, GoesWellAt, GoesAstrayAt, HasJudged, HasJudgedAll};
+ghost use Rattle.nc_vet.specs.machinery.Steps.{HasReadAll, HasNoBadTargetAt, HasBadTargetAt, HasJudged, HasJudgedAll};
 
 use crate::marks::Marks;
 use crate::transfers::judged_bundles;
@@ -20,6 +20,13 @@ fn is_plain(mark: Mark) -> bool
     matches!(mark, Mark::Plain)
 }
 
+/// Whether a direct transfer may go to this address outside the chunk.
+fn is_good_outside(limit: u32, to: u32) -> bool
+    ensures { IsTrue result ↔ ((to % 32 ≡ 0) × (to < limit)) }
+{
+    is_bundle_start(to) && to < limit
+}
+
 /// Whether a direct transfer may go to this address.
 fn is_good(base: u32, limit: u32, code: &[u8], marks: &Marks, to: u32) -> bool
     requires each { length (listed code.now marks.now) ≡ length code.now }
@@ -29,12 +36,12 @@ fn is_good(base: u32, limit: u32, code: &[u8], marks: &Marks, to: u32) -> bool
     if base <= to && ((to - base) as usize) < code.len() {
         is_plain(marks.at(code, (to - base) as usize))
     } else {
-        is_bundle_start(to) && to < limit
+        is_good_outside(limit, to)
     }
 }
 
 /// Whether the instruction at this address is a direct transfer with a target that isn't permitted.
-fn is_misdirected(base: u32, limit: u32, code: &[u8], marks: &Marks, instr: Instr, at: u32) -> bool
+fn has_bad_target(base: u32, limit: u32, code: &[u8], marks: &Marks, instr: Instr, at: u32) -> bool
     requires fits { at + instr.len < 2 ^ 32 }
     requires each { length (listed code.now marks.now) ≡ length code.now }
     ensures bad { (pieces : List Piece) → listed code.now marks.now ≡ marks_of pieces → AreSpelled pieces
@@ -49,15 +56,15 @@ fn is_misdirected(base: u32, limit: u32, code: &[u8], marks: &Marks, instr: Inst
 }
 
 /// Whether a direct transfer with a target that isn't permitted begins at this place.
-fn goes_astray(base: u32, limit: u32, code: &[u8], marks: &Marks, at: usize) -> bool
+fn has_bad_target_at(base: u32, limit: u32, code: &[u8], marks: &Marks, at: usize) -> bool
     requires place { at < length code.now }
     requires each { length (listed code.now marks.now) ≡ length code.now }
     requires bundles { length code.now % 32 ≡ 0 }
     requires fits { base + length code.now < 2 ^ 32 }
     ensures bad { (r : HasReadAll code.now (listed code.now marks.now)) → IsTrue result
-        → GoesAstrayAt base limit r.pieces at }
+        → HasBadTargetAt base limit r.pieces at }
     ensures good { (r : HasReadAll code.now (listed code.now marks.now)) → IsFalse result
-        → GoesWellAt base limit r.pieces at }
+        → HasNoBadTargetAt base limit r.pieces at }
 {
     // The byte is tested first: few bytes pass, while the marks are hard to predict.
     if !may_transfer(code[at]) {
@@ -71,7 +78,7 @@ fn goes_astray(base: u32, limit: u32, code: &[u8], marks: &Marks, at: usize) -> 
     let Ok(instr) = decode(&code[at..end]) else {
         return false;
     };
-    is_misdirected(base, limit, code, marks, instr, base + at as u32)
+    has_bad_target(base, limit, code, marks, instr, base + at as u32)
 }
 
 /// A place before which all direct transfers have permitted targets. If the marks are kept as bits, the code is judged by
@@ -96,11 +103,11 @@ pub(crate) fn bad_target(base: u32, limit: u32, code: &[u8], marks: &Marks) -> O
     requires bundles { length code.now % 32 ≡ 0 }
     requires fits { base + length code.now < 2 ^ 32 }
     ensures good { IfNone result (HasJudgedAll base limit code.now (listed code.now marks.now)) }
-    ensures bad { IfSome result (IsMistargeted base limit code.now) }
+    ensures bad { IfSome result (HasFirstBadTarget base limit code.now) }
 {
     let mut at = judged_front(base, limit, code, marks);
     while at < code.len() {
-        if goes_astray(base, limit, code, marks, at) {
+        if has_bad_target_at(base, limit, code, marks, at) {
             return Some(base + at as u32);
         }
         at += 1;

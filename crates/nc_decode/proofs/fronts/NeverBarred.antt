@@ -92,33 +92,20 @@ escape_dead p n (o ∷ rest) d s h =
           (Ok s) may_not h in cc)
     ]
 
--- FF /3 is no form of FF, after any prefix or none
-far_3 : (p : Prefix) (b : Bool) → permits_at (forms_of p (opcode_entry false 0xFF)) 3 b ≡ false
+-- FF /3 and FF /5 are no forms of FF, after any prefix or none
+far_forms : (p : Prefix) (b : Bool) → (permits_at (forms_of p (opcode_entry false 0xFF)) 3 b ≡ false)
+    × (permits_at (forms_of p (opcode_entry false 0xFF)) 5 b ≡ false)
 unfolding opcode_entry forms_of
-far_3 Unprefixed true = refl
-far_3 Unprefixed false = refl
-far_3 Word true = refl
-far_3 Word false = refl
-far_3 Repeat true = refl
-far_3 Repeat false = refl
-far_3 RepeatNot true = refl
-far_3 RepeatNot false = refl
-far_3 Lock true = refl
-far_3 Lock false = refl
-
--- FF /5 is no form of FF, after any prefix or none
-far_5 : (p : Prefix) (b : Bool) → permits_at (forms_of p (opcode_entry false 0xFF)) 5 b ≡ false
-unfolding opcode_entry forms_of
-far_5 Unprefixed true = refl
-far_5 Unprefixed false = refl
-far_5 Word true = refl
-far_5 Word false = refl
-far_5 Repeat true = refl
-far_5 Repeat false = refl
-far_5 RepeatNot true = refl
-far_5 RepeatNot false = refl
-far_5 Lock true = refl
-far_5 Lock false = refl
+far_forms Unprefixed true = (refl, refl)
+far_forms Unprefixed false = (refl, refl)
+far_forms Word true = (refl, refl)
+far_forms Word false = (refl, refl)
+far_forms Repeat true = (refl, refl)
+far_forms Repeat false = (refl, refl)
+far_forms RepeatNot true = (refl, refl)
+far_forms RepeatNot false = (refl, refl)
+far_forms Lock true = (refl, refl)
+far_forms Lock false = (refl, refl)
 
 -- FF /3 and FF /5 are permitted after no prefix
 far : (p : Prefix) (m : ℕ) → ((reg_of m == 3) || (reg_of m == 5)) ≡ true → permits (forms_of p (opcode_entry false 0xFF)) m ≡ false
@@ -126,9 +113,9 @@ far p m h =
     permits_is (forms_of p (opcode_entry false 0xFF)) m
     ∙ elim (either (reg_of m == 3) (reg_of m == 5) h) [
       | inl is ↦ ap (λ (r : ℕ). permits_at (forms_of p (opcode_entry false 0xFF)) r (mod_of m == 3)) (eqb-true (reg_of m) 3 is)
-          ∙ far_3 p (mod_of m == 3)
+          ∙ (far_forms p (mod_of m == 3)).0
       | inr is ↦ ap (λ (r : ℕ). permits_at (forms_of p (opcode_entry false 0xFF)) r (mod_of m == 3)) (eqb-true (reg_of m) 5 is)
-          ∙ far_5 p (mod_of m == 3)
+          ∙ (far_forms p (mod_of m == 3)).1
     ]
 
 -- FF has an operand

@@ -1,5 +1,5 @@
 -- What it means that a row and an entry agree.
-use Rattle.std.proofs.Common.{◌≡◌, ℕ, zero, suc, Bool, true, false, List, [], ◌∷◌, ◌++◌, length, Option, ◌==◌, ◌&&◌, ◌||◌, cond, refl, sym}
+use Rattle.std.proofs.Common.{◌≡◌, ℕ, ℤ, zero, suc, Bool, true, false, List, [], ◌∷◌, ◌++◌, length, Option, ◌==◌, ◌&&◌, ◌||◌, cond, if◌then◌else◌, refl, sym}
 use Rattle.std.proofs.Common.{◌∙◌, ap, arith, eqb-true, pos}
 use Rattle.std.specs.Prelude.{slice_index}
 use Rattle.std.specs.Int.{w8, w32, cast_signed, from_le_bytes}
@@ -61,38 +61,20 @@ agreed_is p e reg row h =
       indirect = same_is _ _ a.1;
     }
 
--- a number that is no displacement has the displacement 0
-rel_none : (c : coded.Number) (ys : List ℕ) → coded_kind c ≡ 0 → rel_of c ys ≡ pos 0
-rel_none Short ys e = absurd (omega arith)
-rel_none Near ys e = absurd (omega arith)
-rel_none Absent ys e = refl
-rel_none Byte ys e = refl
-rel_none Sized ys e = refl
-rel_none Offset ys e = refl
-rel_none TestByte ys e = refl
-rel_none TestSized ys e = refl
+-- the displacement of a number of this kind
+abbrev rel_by : ℕ → List ℕ → ℤ
+rel_by kind ys = if kind == 1 then cast_signed w8 (slice_index ys 0) else (if kind == 2 then cast_signed w32 (from_le_bytes w32 ys) else pos 0)
 
--- the code's short displacement is one signed byte
-rel_short : (c : coded.Number) (ys : List ℕ) → coded_kind c ≡ 1 → rel_of c ys ≡ cast_signed w8 (slice_index ys 0)
-rel_short Short ys e = refl
-rel_short Near ys e = absurd (omega arith)
-rel_short Absent ys e = absurd (omega arith)
-rel_short Byte ys e = absurd (omega arith)
-rel_short Sized ys e = absurd (omega arith)
-rel_short Offset ys e = absurd (omega arith)
-rel_short TestByte ys e = absurd (omega arith)
-rel_short TestSized ys e = absurd (omega arith)
-
--- the code's near displacement is four signed bytes
-rel_near : (c : coded.Number) (ys : List ℕ) → coded_kind c ≡ 2 → rel_of c ys ≡ cast_signed w32 (from_le_bytes w32 ys)
-rel_near Near ys e = refl
-rel_near Short ys e = absurd (omega arith)
-rel_near Absent ys e = absurd (omega arith)
-rel_near Byte ys e = absurd (omega arith)
-rel_near Sized ys e = absurd (omega arith)
-rel_near Offset ys e = absurd (omega arith)
-rel_near TestByte ys e = absurd (omega arith)
-rel_near TestSized ys e = absurd (omega arith)
+-- the code reads the displacement by the number's kind
+read_by : (c : coded.Number) (ys : List ℕ) → rel_of c ys ≡ rel_by (coded_kind c) ys
+read_by Absent ys = refl
+read_by Byte ys = refl
+read_by Sized ys = refl
+read_by Offset ys = refl
+read_by Short ys = refl
+read_by Near ys = refl
+read_by TestByte ys = refl
+read_by TestSized ys = refl
 
 -- the only byte of a list is still its first with more bytes behind it
 short_front : (xs r : List ℕ) → length xs ≡ 1 → slice_index xs 0 ≡ slice_index (xs ++ r) 0
@@ -107,15 +89,20 @@ near_front (a ∷ b ∷ []) r e = absurd (omega arith)
 near_front (a ∷ b ∷ c ∷ []) r e = absurd (omega arith)
 near_front (a ∷ b ∷ c ∷ d ∷ xs) r e = refl
 
+-- a row's number spells the displacement of its kind, whatever bytes follow
+spelled_by : (prefix : Option ℕ) (n : Number) (xs r : List ℕ) → length xs ≡ number_len prefix n → displacement n xs ≡ rel_by (row_kind n) (xs ++ r)
+spelled_by prefix rel8 xs r len = ap (λ (b : ℕ). cast_signed w8 b) (short_front xs r len)
+spelled_by prefix rel32 xs r len = ap (λ (b : ℕ). cast_signed w32 b) (near_front xs r len)
+spelled_by prefix absent xs r len = refl
+spelled_by prefix byte xs r len = refl
+spelled_by prefix sized xs r len = refl
+spelled_by prefix offset xs r len = refl
+
 -- the displacement that the number spells is the one that the code reads
 pub same_rel : (prefix : Option ℕ) (n : Number) (c : coded.Number) (xs r : List ℕ) → row_kind n ≡ coded_kind c
     → length xs ≡ number_len prefix n → displacement n xs ≡ rel_of c (xs ++ r)
-same_rel prefix rel8 c xs r kind len = rw (rel_short c (xs ++ r) (sym kind)) (ap (λ (b : ℕ). cast_signed w8 b) (short_front xs r len))
-same_rel prefix rel32 c xs r kind len = rw (rel_near c (xs ++ r) (sym kind)) (ap (λ (b : ℕ). cast_signed w32 b) (near_front xs r len))
-same_rel prefix absent c xs r kind len = sym (rel_none c (xs ++ r) (sym kind))
-same_rel prefix byte c xs r kind len = sym (rel_none c (xs ++ r) (sym kind))
-same_rel prefix sized c xs r kind len = sym (rel_none c (xs ++ r) (sym kind))
-same_rel prefix offset c xs r kind len = sym (rel_none c (xs ++ r) (sym kind))
+same_rel prefix n c xs r kind len =
+    spelled_by prefix n xs r len ∙ ap (λ (k : ℕ). rel_by k (xs ++ r)) kind ∙ sym (read_by c (xs ++ r))
 
 -- only an indirect transfer names a register
 register_if : (f : Flow) (operand : List ℕ) → register_of f operand ≡ cond (is_indirect f) (rm_of (slice_index operand 0)) 0

@@ -1,5 +1,5 @@
 -- The prefix and the opcode at the front of some bytes.
-use Rattle.std.proofs.Common.{◌≡◌, ℕ, ◌+◌, Bool, true, false, List, [], ◌∷◌, ◌++◌, length, Some, Result, Ok, Err, ◌==◌, cond, refl, sym}
+use Rattle.std.proofs.Common.{◌≡◌, ℕ, ◌+◌, Bool, true, false, List, [], ◌∷◌, ◌++◌, length, Option, Some, Result, Ok, Err, ◌==◌, cond, refl, sym}
 use Rattle.std.proofs.Common.{subst, ◌∙◌, ap, arith, inl, inr, ◌⊎◌, eqb-true}
 use Rattle.std.specs.Prelude.{option_to_list}
 use Rattle.nc_decode.specs.declared.instruction.DecodeFault.{DecodeFault}
@@ -99,41 +99,18 @@ length_code b false o = refl
 
 -- an opcode after a prefix
 begins_behind : (p : Prefix) (b : ℕ) (rest : List ℕ) (s : Shape) → prefix_byte p ≡ Some b → Opens p rest s 1 → Begins (b ∷ rest) s
-begins_behind Unprefixed b rest s e o = absurd cc
-begins_behind Word b rest s e o = record {
-  prefix = Word;
-  escaped = o.escaped;
-  opcode = o.opcode;
-  rest = o.rest;
-  parts = rw o.parts (let same : b ≡ 0x66 = cc in rw same refl);
-  reads = subst (λ (k : ℕ). entry_shape Word k (opcode_entry o.escaped o.opcode) o.rest ≡ Ok s) (length_code 0x66 o.escaped o.opcode) o.reads;
-}
-begins_behind Repeat b rest s e o = record {
-  prefix = Repeat;
-  escaped = o.escaped;
-  opcode = o.opcode;
-  rest = o.rest;
-  parts = rw o.parts (let same : b ≡ 0xF3 = cc in rw same refl);
-  reads = subst (λ (k : ℕ). entry_shape Repeat k (opcode_entry o.escaped o.opcode) o.rest ≡ Ok s)
-      (length_code 0xF3 o.escaped o.opcode) o.reads;
-}
-begins_behind RepeatNot b rest s e o = record {
-  prefix = RepeatNot;
-  escaped = o.escaped;
-  opcode = o.opcode;
-  rest = o.rest;
-  parts = rw o.parts (let same : b ≡ 0xF2 = cc in rw same refl);
-  reads = subst (λ (k : ℕ). entry_shape RepeatNot k (opcode_entry o.escaped o.opcode) o.rest ≡ Ok s)
-      (length_code 0xF2 o.escaped o.opcode) o.reads;
-}
-begins_behind Lock b rest s e o = record {
-  prefix = Lock;
-  escaped = o.escaped;
-  opcode = o.opcode;
-  rest = o.rest;
-  parts = rw o.parts (let same : b ≡ 0xF0 = cc in rw same refl);
-  reads = subst (λ (k : ℕ). entry_shape Lock k (opcode_entry o.escaped o.opcode) o.rest ≡ Ok s) (length_code 0xF0 o.escaped o.opcode) o.reads;
-}
+begins_behind p b rest s e o =
+    let front : b ∷ code o.escaped o.opcode ≡ header p o.escaped o.opcode
+    = sym (ap (λ (x : Option ℕ). option_to_list x ++ code o.escaped o.opcode) e) in
+    record {
+      prefix = p;
+      escaped = o.escaped;
+      opcode = o.opcode;
+      rest = o.rest;
+      parts = ap (λ (z : List ℕ). b ∷ z) o.parts ∙ ap (λ (z : List ℕ). z ++ o.rest) front;
+      reads = subst (λ (k : ℕ). entry_shape p k (opcode_entry o.escaped o.opcode) o.rest ≡ Ok s)
+          (length_code b o.escaped o.opcode ∙ ap (λ (z : List ℕ). length z) front) o.reads;
+    }
 
 -- after a prefix the opcode comes next
 pub prefixed_reads : (p : Prefix) (b : ℕ) (first rest : List ℕ) (s : Shape) → prefix_byte p ≡ Some b

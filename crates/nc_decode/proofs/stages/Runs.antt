@@ -1,14 +1,15 @@
 -- Runs of the automaton read instructions.
-use Rattle.std.proofs.Common.{◌≡◌, ℕ, suc, ◌+◌, ◌-◌, ◌<◌, ◌≤◌, Bool, true, false, List, [], ◌∷◌, ◌++◌, Option, Some, None, Ok, length}
-use Rattle.std.proofs.Common.{refl, sym, subst, ◌∙◌, ap, arith, inl, inr, ◌==◌, ◌&&◌, nat_lt, ltb-true, All, eqb-true}
-use Rattle.std.specs.Prelude.{IfSome, IsTrue}
+use Rattle.std.proofs.Common.{◌≡◌, ℕ, suc, ◌+◌, ◌-◌, ◌<◌, ◌≤◌, Bool, true, false, List, [], ◌∷◌, ◌++◌, Option, Some, None, Ok, length, drop}
+use Rattle.std.proofs.Common.{refl, sym, subst, ◌∙◌, ap, arith, inl, inr, ◌⊎◌, ◌==◌, ◌&&◌, nat_lt, ltb-true, All, eqb-true}
+use Rattle.std.specs.Prelude.{IfSome, IsTrue, slice_index}
+use Rattle.std.specs.Int.{w8, w32, cast_signed, from_le_bytes}
 use Rattle.std.proofs.lemmas.List.{take_all}
 use Rattle.nc_decode.specs.declared.automaton.TheConstants.{STATES, END, AFTER_SHORT, AFTER_NEAR, AFTER_PAIR}
 use Rattle.nc_decode.specs.declared.instruction.Instr.{Instr}
 use Rattle.nc_decode.specs.Automaton.{next_state, masked_at, LeadsToEnd, Ends, ReadsByStates, NoneIsPaired}
 use Rattle.nc_decode.specs.machinery.Reading.{reading}
 use Rattle.nc_decode.specs.Spelling.{Spells, masks_of}
-use Rattle.nc_decode.specs.Transfers.{is_direct}
+use Rattle.nc_decode.specs.Transfers.{is_direct, is_indirect}
 use Rattle.nc_decode.proofs.opcodes.EntriesMatchRows.{each_below, not}
 use Rattle.nc_decode.proofs.BoolTests.{each_below-at, both, not_is}
 use Rattle.nc_decode.proofs.reading.SpelledIsRead.{bytes_from_all}
@@ -112,20 +113,32 @@ never false e t = absurd cc
 abbrev some_mask : ℕ → Option ℕ
 some_mask r = Some r
 
+-- no register, of a stage after no mask
+abbrev no_mask : Option ℕ
+no_mask = None
+
+-- an instruction that is no indirect transfer ends in a state that tells neither a mask nor a pair
+unmasked_ends : (m e to : ℕ) (bytes : List ℕ) (i : Instr) → e ≡ to → (to == AFTER_PAIR) ≡ false → masked_at to ≡ None → Spells bytes i
+    → is_indirect i.flow ≡ false
+    → (IsTrue (is_direct i.flow) → ((to ≡ AFTER_SHORT) × (i.rel ≡ cast_signed w8 (slice_index bytes (length bytes - 1))))
+    ⊎ ((to ≡ AFTER_NEAR) × (4 ≤ length bytes) × (i.rel ≡ cast_signed w32 (from_le_bytes w32 (drop (length bytes - 4) bytes)))))
+    → Ends m e bytes i
+unmasked_ends m e to bytes i is other none spells indirect direct = subst (λ (x : ℕ). Ends m x bytes i) (sym is) (record {
+  spells = spells;
+  indirect = indirect ∙ sym other;
+  direct = direct;
+  masks = λ r h. absurd (let g : no_mask ≡ some_mask r = sym none ∙ h in cc);
+  paired = λ p. absurd (let g : (AFTER_PAIR == AFTER_PAIR) ≡ false = ap (λ (x : ℕ). x == AFTER_PAIR) (sym p) ∙ other in cc);
+})
+
 -- what a finished instruction says is what its state tells
 finished_ends : (m e : ℕ) (bytes : List ℕ) (k : Ended) → All (λ b. b < 256) bytes → tells (ended k) e ≡ true
     → Finished (masked_at m) k bytes → (i : Instr) × Ends m e bytes i
-finished_ends m e bytes plain fits t f =
-    let is : e ≡ END = eqb-true e END t in (
-      f.instr,
-      record {
-        spells = spelled_whole bytes f.instr fits f.read f.len;
-        indirect = rw is f.kind.1;
-        direct = λ d. absurd (never (is_direct f.instr.flow) f.kind.0 d);
-        masks = λ r h. absurd (let g : masked_at END ≡ some_mask r = ap masked_at (sym is) ∙ h in cc);
-        paired = λ p. absurd (omega (arith, is, p));
-      },
-    )
+finished_ends m e bytes plain fits t f = (
+  f.instr,
+  unmasked_ends m e END bytes f.instr (eqb-true e END t) refl refl (spelled_whole bytes f.instr fits f.read f.len) f.kind.1
+      (λ d. absurd (never (is_direct f.instr.flow) f.kind.0 d)),
+)
 finished_ends m e bytes (masked r) fits t f =
     let a = both (nat_lt r 8 && names (masked_at e) r) (not (e == AFTER_PAIR)) t in
     let b = both (nat_lt r 8) (names (masked_at e) r) a.0 in
@@ -147,28 +160,16 @@ finished_ends m e bytes (masked r) fits t f =
   where
     one : (x y : ℕ) → some_mask x ≡ some_mask y → x ≡ y
     one x y h = cc
-finished_ends m e bytes by_short fits t f =
-    let is : e ≡ AFTER_SHORT = eqb-true e AFTER_SHORT t in (
-      f.instr,
-      record {
-        spells = spelled_whole bytes f.instr fits f.read f.len;
-        indirect = rw is f.kind.0;
-        direct = λ d. inl (is, f.kind.1);
-        masks = λ r h. absurd (let g : masked_at AFTER_SHORT ≡ some_mask r = ap masked_at (sym is) ∙ h in cc);
-        paired = λ p. absurd (omega (arith, is, p));
-      },
-    )
-finished_ends m e bytes by_near fits t f =
-    let is : e ≡ AFTER_NEAR = eqb-true e AFTER_NEAR t in (
-      f.instr,
-      record {
-        spells = spelled_whole bytes f.instr fits f.read f.len;
-        indirect = rw is f.kind.0;
-        direct = λ d. inr (is, f.kind.1, f.kind.2);
-        masks = λ r h. absurd (let g : masked_at AFTER_NEAR ≡ some_mask r = ap masked_at (sym is) ∙ h in cc);
-        paired = λ p. absurd (omega (arith, is, p));
-      },
-    )
+finished_ends m e bytes by_short fits t f = (
+  f.instr,
+  unmasked_ends m e AFTER_SHORT bytes f.instr (eqb-true e AFTER_SHORT t) refl refl (spelled_whole bytes f.instr fits f.read f.len)
+      f.kind.0 (λ d. inl (refl, f.kind.1)),
+)
+finished_ends m e bytes by_near fits t f = (
+  f.instr,
+  unmasked_ends m e AFTER_NEAR bytes f.instr (eqb-true e AFTER_NEAR t) refl refl (spelled_whole bytes f.instr fits f.read f.len)
+      f.kind.0 (λ d. inr (refl, f.kind.1, f.kind.2)),
+)
 finished_ends m e bytes paired fits t f =
     let is : e ≡ AFTER_PAIR = eqb-true e AFTER_PAIR t in (
       f.instr,

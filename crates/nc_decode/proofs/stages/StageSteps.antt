@@ -45,36 +45,36 @@ calm_form p e b = given (permits (calm (forms_of p e)) b) (permits (forms_of p e
 
 -- An entry's own flow is never indirect, and direct only with a displacement, which no entry with an operand has. Only
 -- indirect transfers are marked so, and the stage leaves them out.
-abbrev pub tame : Prefix → Entry → Bool
-tame p e =
+abbrev pub transfers_as_marked : Prefix → Entry → Bool
+transfers_as_marked p e =
     not (is_indirect e.flow)
     && given (coded_kind e.number == 0) (not (is_direct e.flow))
     && given e.operand (coded_kind e.number == 0)
     && (elim e.indirect [ true ↦ each_below (calm_form p e) 256 | false ↦ not (forms_of p e == 0x5743) ])
 
--- each opcode of one byte, or each one after 0F, is tame with each prefix
-abbrev all_tame : Bool → Bool
-all_tame two = each_below (λ o. each_prefix (λ p. tame p (opcode_entry two o))) 256
+-- with each prefix each opcode of one byte, or each one after 0F, transfers only as its entry is marked
+abbrev all_as_marked : Bool → Bool
+all_as_marked two = each_below (λ o. each_prefix (λ p. transfers_as_marked p (opcode_entry two o))) 256
 
--- computed: each opcode of one byte is tame with each prefix
-tame_one : all_tame false ≡ true
+-- computed: with each prefix each opcode of one byte transfers only as its entry is marked
+first_as_marked : all_as_marked false ≡ true
 unfolding opcode_entry forms_of permits flow_of
-tame_one = refl
+first_as_marked = refl
 
--- computed: each opcode after 0F is tame with each prefix
-tame_two : all_tame true ≡ true
+-- computed: with each prefix each opcode after 0F transfers only as its entry is marked
+second_as_marked : all_as_marked true ≡ true
 unfolding opcode_entry forms_of permits flow_of
-tame_two = refl
+second_as_marked = refl
 
--- an opcode of one byte or after 0F is tame with any prefix
-pub tame_at : (two : Bool) (o : ℕ) (p : Prefix) → o < 256 → tame p (opcode_entry two o) ≡ true
-tame_at false o p lt = each_prefix-at (λ q. tame q (opcode_entry false o)) p
-    (each_below-at (λ x. each_prefix (λ q. tame q (opcode_entry false x))) 256 o tame_one lt)
-tame_at true o p lt = each_prefix-at (λ q. tame q (opcode_entry true o)) p
-    (each_below-at (λ x. each_prefix (λ q. tame q (opcode_entry true x))) 256 o tame_two lt)
+-- with any prefix an opcode of one byte or after 0F transfers only as its entry is marked
+pub as_marked_at : (two : Bool) (o : ℕ) (p : Prefix) → o < 256 → transfers_as_marked p (opcode_entry two o) ≡ true
+as_marked_at false o p lt = each_prefix-at (λ q. transfers_as_marked q (opcode_entry false o)) p
+    (each_below-at (λ x. each_prefix (λ q. transfers_as_marked q (opcode_entry false x))) 256 o first_as_marked lt)
+as_marked_at true o p lt = each_prefix-at (λ q. transfers_as_marked q (opcode_entry true o)) p
+    (each_below-at (λ x. each_prefix (λ q. transfers_as_marked q (opcode_entry true x))) 256 o second_as_marked lt)
 
--- what it comes to that an entry is tame with a prefix
-pub record IsTame (p : Prefix) (e : Entry) : Type 0 where
+-- what it comes to that with a prefix an entry transfers only as it is marked
+pub record TransfersAsMarked (p : Prefix) (e : Entry) : Type 0 where
   pub indirect : is_indirect e.flow ≡ false
   pub direct : (coded_kind e.number == 0) ≡ true → is_direct e.flow ≡ false
   pub permitted : e.operand ≡ true → (b : ℕ) → b < 256 → permits (calm (forms_of p e)) b ≡ true
@@ -90,9 +90,9 @@ own_flow : (e : Entry) (reg : ℕ) → e.indirect ≡ false → flow_of e reg �
 unfolding flow_of
 own_flow e reg h = rw h refl
 
--- an entry that passes the test is tame (`IsTame`)
-is_tame : (p : Prefix) (e : Entry) → tame p e ≡ true → IsTame p e
-is_tame p e h =
+-- an entry that passes the test transfers only as it is marked
+as_marked : (p : Prefix) (e : Entry) → transfers_as_marked p e ≡ true → TransfersAsMarked p e
+as_marked p e h =
     let a = both (not (is_indirect e.flow) && given (coded_kind e.number == 0) (not (is_direct e.flow))
     && given e.operand (coded_kind e.number == 0)) (elim e.indirect [
       | true ↦ each_below (calm_form p e) 256
@@ -126,9 +126,9 @@ is_tame p e h =
       ];
     }
 
--- the entry of each opcode is tame
-entry_tame : (two : Bool) (b : ℕ) (p : Prefix) → b < 256 → IsTame p (opcode_entry two b)
-entry_tame two b p lt = is_tame p (opcode_entry two b) (tame_at two b p lt)
+-- the entry of each opcode transfers only as it is marked
+entry_as_marked : (two : Bool) (b : ℕ) (p : Prefix) → b < 256 → TransfersAsMarked p (opcode_entry two b)
+entry_as_marked two b p lt = as_marked p (opcode_entry two b) (as_marked_at two b p lt)
 
 -- ---- an opcode has been read
 
@@ -144,7 +144,7 @@ entry_operand p head e rest some has = cond_is_false (forms_of p e == 0) refused
     ∙ cond_is_true e.operand (operand_shape p head e rest) (ok (shape_alone p head e)) has
 
 -- after an opcode with no operand the next stage means what has been read
-plain_number : (o : Option ℕ) (p : Prefix) (e : Entry) (pre : List ℕ) → IsTame p e
+plain_number : (o : Option ℕ) (p : Prefix) (e : Entry) (pre : List ℕ) → TransfersAsMarked p e
     → ((rest : List ℕ) → shape_of (pre ++ rest) ≡ Ok (shape_alone p (length pre) e)) → (k : Number) → e.number ≡ k
     → (coded_kind e.number == 0) ≡ true → Meant o (numbers (coded_len p k 0)) pre
 plain_number o p e pre t fixed k is kind = numbers_meant o (coded_len p k 0) pre (record {
@@ -156,7 +156,7 @@ plain_number o p e pre t fixed k is kind = numbers_meant o (coded_len p k 0) pre
 })
 
 -- a number comes next
-number_meant : (o : Option ℕ) (p : Prefix) (e : Entry) (pre : List ℕ) → IsTame p e
+number_meant : (o : Option ℕ) (p : Prefix) (e : Entry) (pre : List ℕ) → TransfersAsMarked p e
     → ((rest : List ℕ) → shape_of (pre ++ rest) ≡ Ok (shape_alone p (length pre) e)) → (k : Number) → e.number ≡ k
     → Meant o (by_number p k) pre
 unfolding coded_len
@@ -187,7 +187,7 @@ number_meant o p e pre t fixed TestByte is = plain_number o p e pre t fixed Test
 number_meant o p e pre t fixed TestSized is = plain_number o p e pre t fixed TestSized is (ap (λ (k : Number). coded_kind k == 0) is)
 
 -- after an opcode the next stage means what has been read
-after_opcode_meant : (o : Option ℕ) (p : Prefix) (e : Entry) (pre : List ℕ) → IsTame p e
+after_opcode_meant : (o : Option ℕ) (p : Prefix) (e : Entry) (pre : List ℕ) → TransfersAsMarked p e
     → ((rest : List ℕ) → shape_of (pre ++ rest) ≡ entry_shape p (length pre) e rest) → Meant o (after_opcode p e) pre
 unfolding forms_of
 after_opcode_meant o p e pre t shapes =
@@ -221,7 +221,7 @@ opcode_meant o p pre b lt shapes =
             ∙ ap (λ (n : ℕ). escaped_shape p n rest) (sym (length_push pre b)))
         | inr never ↦ rw (escape, never) tt
       ]
-      | inr other ↦ rw other (after_opcode_meant o p (opcode_entry false b) (pre ++ b ∷ []) (entry_tame false b p lt) (λ rest.
+      | inr other ↦ rw other (after_opcode_meant o p (opcode_entry false b) (pre ++ b ∷ []) (entry_as_marked false b p lt) (λ rest.
           ap shape_of (more pre rest b) ∙ shapes rest
           ∙ cond_is_false (b == 0x0F) (if escapes p then escaped_shape p (length pre + 1) rest else refused)
           (entry_shape p (length pre + 1) (opcode_entry false b) rest) other
@@ -233,7 +233,7 @@ escaped_meant : (o : Option ℕ) (p : Prefix) (pre : List ℕ) (b : ℕ) → b <
     → ((rest : List ℕ) → shape_of (pre ++ rest) ≡ escaped_shape p (length pre) rest)
     → Meant o (after_opcode p (opcode_entry true b)) (pre ++ b ∷ [])
 unfolding escaped_shape
-escaped_meant o p pre b lt shapes = after_opcode_meant o p (opcode_entry true b) (pre ++ b ∷ []) (entry_tame true b p lt) (λ rest.
+escaped_meant o p pre b lt shapes = after_opcode_meant o p (opcode_entry true b) (pre ++ b ∷ []) (entry_as_marked true b p lt) (λ rest.
     ap shape_of (more pre rest b) ∙ shapes (b ∷ rest) ∙ ap (λ (n : ℕ). entry_shape p n (opcode_entry true b) rest) (sym (length_push pre b)))
 
 -- ---- an instruction begins

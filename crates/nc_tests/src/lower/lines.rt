@@ -4,7 +4,7 @@
 use crate::lower::devices::{Failing, Slow};
 use crate::lower::rows::right;
 use nc_lines::{ReplayFault, vet_lines};
-use nc_output::Piped;
+use nc_output::PipeWriter;
 use nc_script::run;
 use nc_work::Open;
 use std::alloc::Global;
@@ -192,7 +192,7 @@ fn numbers(rt: HostRuntime) -> Result<(), Fail> {
 
 /// Whether a flush that fails with an error of this kind reports that the pipe is closed.
 fn is_closed_by(alloc: Global, kind: ErrorKind) -> bool {
-    let mut writer = Piped::new(Slow::new(alloc, 9, None, Some(kind)));
+    let mut writer = PipeWriter::new(Slow::new(alloc, 9, None, Some(kind)));
     writer.flush().is_err() && writer.is_closed()
 }
 

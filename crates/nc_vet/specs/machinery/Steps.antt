@@ -56,12 +56,12 @@ EndsReading base code OutOfMemory = ⊤
 EndsReading base code fault = IsStuck base code fault
 
 -- the instruction that begins at place `at`, if any, isn't a direct transfer or has a permitted target
-abbrev pub GoesWellAt : ℕ → ℕ → List Piece → ℕ → Type 0
-GoesWellAt base limit pieces at = (before after : List Piece) (p : Piece) → pieces ≡ before ++ p ∷ after → place before ≡ at
+abbrev pub HasNoBadTargetAt : ℕ → ℕ → List Piece → ℕ → Type 0
+HasNoBadTargetAt base limit pieces at = (before after : List Piece) (p : Piece) → pieces ≡ before ++ p ∷ after → place before ≡ at
     → IsTrue (is_direct p.instr.flow) → IsTarget base limit pieces (target p.instr (base + at))
 
 -- a direct transfer with a bad target begins at a place
-pub record GoesAstrayAt (base limit : ℕ) (pieces : List Piece) (at : ℕ) : Type 0 where
+pub record HasBadTargetAt (base limit : ℕ) (pieces : List Piece) (at : ℕ) : Type 0 where
   pub before : List Piece
   pub after : List Piece
   pub piece : Piece
@@ -73,7 +73,7 @@ pub record GoesAstrayAt (base limit : ℕ) (pieces : List Piece) (at : ℕ) : Ty
 -- each instruction that begins before place `at` isn't a direct transfer or has a permitted target
 pub record HasJudged (base limit : ℕ) (code : List ℕ) (marks : List Mark) (at : ℕ) : Type 0 where
   pub read : HasReadAll code marks
-  pub good : (k : ℕ) → k < at → GoesWellAt base limit read.pieces k
+  pub good : (k : ℕ) → k < at → HasNoBadTargetAt base limit read.pieces k
 
 -- each direct transfer has a good target
 pub record HasJudgedAll (base limit : ℕ) (code : List ℕ) (marks : List Mark) : Type 0 where

@@ -1,6 +1,6 @@
 use Rattle.std.proofs.lemmas.Option.{get_or_from_slice_get}
 use Rattle.nc_decode.specs.declared.instruction.Mark.TheVariants.{Unmarked}
-use Rattle.std.proofs.Common.{◌≡◌, ◌∙◌, sym, get_or, arith, ltb-true, lt-ltb, true, false, ◌<◌, ◌≤◌, ◌-◌, length}
+use Rattle.std.proofs.Common.{◌≡◌, ◌∙◌, sym, get_or, arith, ◌<◌, ◌≤◌, ◌-◌, length}
 use Rattle.nc_vet.specs.Listed.{listed}
 use Rattle.nc_vet.proofs.MarkedPlaces.{target_inside, plain_inside, target_outside, starts_outside}
 use Rattle.nc_vet.proofs.targets.is_good.Goals as goal
@@ -20,8 +20,8 @@ returns-then-to-base c =
       );
     }
 
-pub returns-then-is_bundle_start : goal.returns-then-is_bundle_start
-returns-then-is_bundle_start c =
+pub returns-else-base-to : goal.returns-else-base-to
+returns-else-base-to c =
     let outside : c.args.base ≤ c.args.to → c.args.to - c.args.base < length (listed c.args.code.now c.args.marks.now) → ⊥
     = λ low lt. elim c.else-base-to.branch [
       | else-base-to-via-then-base-to+else-to-base w ↦ omega arith
@@ -29,24 +29,9 @@ returns-then-is_bundle_start c =
     ] in
     record {
       exact = λ pieces is s. (
-        λ t. target_outside c.args.base c.args.limit c.args.to pieces (listed c.args.code.now c.args.marks.now) is s outside
-            (c.is_bundle_start.ensures.0 c.if-is_bundle_start.true) (ltb-true _ _ t),
-        λ t. lt-ltb _ _ (starts_outside c.args.base c.args.limit c.args.to pieces
-            (listed c.args.code.now c.args.marks.now) is s outside t).1,
-      );
-    }
-
-pub returns-else-is_bundle_start : goal.returns-else-is_bundle_start
-returns-else-is_bundle_start c =
-    let outside : c.args.base ≤ c.args.to → c.args.to - c.args.base < length (listed c.args.code.now c.args.marks.now) → ⊥
-    = λ low lt. elim c.else-base-to.branch [
-      | else-base-to-via-then-base-to+else-to-base w ↦ omega arith
-      | else-base-to-via-else-base-to w ↦ omega arith
-    ] in
-    record {
-      exact = λ pieces is s. (
-        λ t. absurd (let f : true ≡ false = sym t ∙ c.if-is_bundle_start.false in cc),
-        λ t. c.is_bundle_start.ensures.1 (starts_outside c.args.base c.args.limit c.args.to pieces
-            (listed c.args.code.now c.args.marks.now) is s outside t).0,
+        λ t. (let b = c.is_good_outside.ensures.0 t in
+            target_outside c.args.base c.args.limit c.args.to pieces (listed c.args.code.now c.args.marks.now) is s outside b.0 b.1),
+        λ t. c.is_good_outside.ensures.1 (starts_outside c.args.base c.args.limit c.args.to pieces
+            (listed c.args.code.now c.args.marks.now) is s outside t),
       );
     }

@@ -1,15 +1,10 @@
-use Rattle.std.proofs.Common.{ℕ, ◌+◌, subst, rules}
+use Rattle.std.proofs.Common.{ℕ, ◌+◌, rules}
 use Rattle.nc_vet.specs.machinery.Judged.{short_to, IsGood}
 use Rattle.nc_vet.proofs.BitPlaces.{one_done}
 use Rattle.nc_vet.proofs.transfers.shorts_good.Goals as goal
 
 pub loop-left-preserved : goal.loop-left-preserved
-loop-left-preserved c =
-    let good : IsGood c.args.base c.args.limit c.args.code.now c.args.bundles.now c.short_target-to.result = search
-    (rules, c.is_good.ensures) in
-    λ k lt set.
-    one_done (λ (j : ℕ). IsGood c.args.base c.args.limit c.args.code.now c.args.bundles.now
-    (short_to c.args.base c.args.code.now (c.args.start + j)))
-    c.loop-left.left _ c.lowest-k.result.0 k lt c.lowest-k.ensures.others
-    (subst (λ (to : ℕ). IsGood c.args.base c.args.limit c.args.code.now c.args.bundles.now to) c.short_target-to.ensures good)
-    (c.loop-left.invariant k lt set)
+loop-left-preserved c = one_done (IsGood c.args.base c.args.limit c.args.code.now c.args.bundles.now)
+    (λ (k : ℕ). short_to c.args.base c.args.code.now (c.args.start + k)) c.args.ends c.loop-left.left c.lowest-k.result.1
+    c.lowest-k.result.0 c.short_target-to.result c.lowest-k.ensures.others c.short_target-to.ensures (search (rules, c.is_good.ensures))
+    c.loop-left.invariant

@@ -4,25 +4,25 @@ ghost use Rattle.std.specs.Prelude.{◌≡◌, ◌↔◌, true, false};
 ghost use Rattle.std.specs.Io.{WritesAtMost};
 ghost use Rattle.std.specs.Io.KnownBytes.{Keeps, WriteAppends};
 ghost use Rattle.std.specs.IoError.{error_kind};
-ghost use Rattle.nc_output.specs.Piped.{TellsClosed};
+ghost use Rattle.nc_output.specs.PipeWriter.{TellsClosed};
 
 use std::io::{Error, ErrorKind, Result, Write};
 
 /// Passes bytes on to a writer, and reports whether that failed because nobody reads them any more, as with a closed pipe
 /// (`EPIPE`).
 #[derive(Drop)]
-pub struct Piped<W> {
+pub struct PipeWriter<W> {
     writer: W,
     is_closed: bool,
 }
 
-impl<W> Piped<W> {
+impl<W> PipeWriter<W> {
     /// Wraps a writer that has not failed yet.
-    pub fn new(writer: W) -> Piped<W>
+    pub fn new(writer: W) -> PipeWriter<W>
         ensures writer { result.writer ≡ writer }
         ensures open { result.is_closed ≡ false }
     {
-        Piped {
+        PipeWriter {
             writer,
             is_closed: false,
         }
@@ -43,7 +43,7 @@ fn is_of_pipe(error: &Error) -> bool
     error.kind() == ErrorKind::BrokenPipe
 }
 
-impl<W: Write> Write for Piped<W> {
+impl<W: Write> Write for PipeWriter<W> {
     ghost contents = { λ p. W.contents p.writer };
 
     fn write(&mut self, buf: &[u8]) -> Result<usize>
