@@ -22,3 +22,9 @@ loop-i-preserved c =
           (since_last c.min-low.result c.loop-i.low c.stamp.result found (take i items) (omega (arith, c.min-low.ensures))
           (omega (arith, c.min-low.ensures)) c.stamp.ensures so.since);
     }
+
+pub returns-then-is_due-clause-none : goal.returns-then-is_due-clause-none
+returns-then-is_due-clause-none c = c.loop-i.invariant.none
+
+pub returns-then-is_due-clause-since : goal.returns-then-is_due-clause-since
+returns-then-is_due-clause-since c = c.loop-i.invariant.since
