@@ -10,6 +10,7 @@ use Rattle.nc_text.specs.Places.{limit_of, byte_at, instruction_at}
 use Rattle.nc_text.specs.Machine.{State}
 use Rattle.nc_text.specs.Marks.{IsMarked, IsClosed, mark_at}
 use Rattle.nc_text.specs.MarkedText.{MarkedText, IsText, with_span}
+use Rattle.nc_text.specs.Ready.{AreReady}
 use Rattle.nc_list.specs.declared.chunk.Chunk.{Chunk}
 use Rattle.nc_region.specs.Region.{HoldsValid, IsInChunk}
 use Rattle.nc_region.specs.declared.fault.ModifyFault.{ModifyFault}
@@ -85,6 +86,12 @@ pub record IsReplacing (marked : MarkedText) (at : ℕ) (new : List ℕ) : Type 
   pub apart : (now : State) (i : Instr) → IsMarked marked.marks now → now.place ≢ at
       → instruction_at (with_span marked.bytes (at - 0x10000) new) now.place ≡ Some i
       → (now.place + i.len ≤ at) ⊎ (at + length new ≤ now.place)
+
+-- an instruction of a closed text may be replaced with these bytes (`IsReplacing`), and its places are ready
+pub record CanReplace (marked : MarkedText) (made : List Bool) (at : ℕ) (new : List ℕ) : Type 0 where
+  pub whole : IsText marked
+  pub ready : AreReady made at (length new)
+  pub replacing : IsReplacing marked at new
 
 -- the text while an instruction is replaced: F4 at its first byte, and the final bytes outside it
 pub record IsInterim (final now : List ℕ) (at len : ℕ) : Type 0 where

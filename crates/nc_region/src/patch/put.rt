@@ -16,7 +16,7 @@ ghost use Rattle.nc_region.specs.declared.acts.Act.{Act};
 ghost use Rattle.nc_region.specs.declared.acts.Entry.{Entry};
 ghost use Rattle.nc_region.specs.Region.{HoldsValid};
 ghost use Rattle.nc_region.specs.Patch.{AreBytesOf, stands_there, any_place, log_of_instruction, log_of_modify};
-ghost use Rattle.nc_region.specs.machinery.PatchSteps.{IsReplacing, IsInterim, CanPatch};
+ghost use Rattle.nc_region.specs.machinery.PatchSteps.{IsReplacing, CanReplace, IsInterim, CanPatch};
 
 use crate::acts::{Acts, STOP};
 use crate::patch::judge::stands_there;
@@ -53,9 +53,7 @@ pub(crate) fn put_patch<A: Acts>(acts: &mut A, chunk: Chunk, at: u32, new: &[u8]
 
 /// Replaces an instruction with one of the same length, unless its bytes are there already.
 fn put_where_new<A: Acts>(acts: &mut A, at: u32, bytes: &[u8])
-    requires whole { IsText (A.marked acts.old) }
-    requires ready { AreReady (A.made acts.old) at (length bytes.now) }
-    requires replacing { IsReplacing (A.marked acts.old) at bytes.now }
+    requires { CanReplace (A.marked acts.old) (A.made acts.old) at bytes.now }
     ensures bytes { (A.marked acts.new).bytes ≡ with_span (A.marked acts.old).bytes (at - 0x10000) bytes.now }
     ensures marks { (A.marked acts.new).marks ≡ (A.marked acts.old).marks }
     ensures whole { IsText (A.marked acts.new) }
@@ -72,9 +70,7 @@ fn put_where_new<A: Acts>(acts: &mut A, at: u32, bytes: &[u8])
 
 /// Replaces an instruction with one of the same length.
 fn put_instruction<A: Acts>(acts: &mut A, at: u32, bytes: &[u8])
-    requires whole { IsText (A.marked acts.old) }
-    requires ready { AreReady (A.made acts.old) at (length bytes.now) }
-    requires replacing { IsReplacing (A.marked acts.old) at bytes.now }
+    requires { CanReplace (A.marked acts.old) (A.made acts.old) at bytes.now }
     ensures bytes { (A.marked acts.new).bytes ≡ with_span (A.marked acts.old).bytes (at - 0x10000) bytes.now }
     ensures marks { (A.marked acts.new).marks ≡ (A.marked acts.old).marks }
     ensures whole { IsText (A.marked acts.new) }

@@ -54,22 +54,20 @@ returns-in_default-clause-log g t c =
     let some = eqb-false (length c.args.new.now) 0 (sym c.is_empty.ensures ∙ c.if-is_empty.false) in
     absurd (not_found c.args.new.now (omega (arith, some)) none c.requires.patch.run.news c.requires.patch.run.bytes)
 
-pub put_where_new-requires-clause-replacing : goal.put_where_new-requires-clause-replacing
-put_where_new-requires-clause-replacing g t c =
+pub put_where_new-requires : goal.put_where_new-requires
+put_where_new-requires g t c =
     let marked = g.A.Acts.marked c.args.acts.now in
     let patch = c.requires.patch in
     let is = sym c.decode.ensures.first ∙ ap result_ok c.in-Ok.is in
     let p = parted c.args.new.now patch.run.news c.in-Ok.instr patch.run.bytes is in
     let w = turn marked c.args.chunk c.args.at c.args.new.now patch p.first p.rest c.requires.whole p.is in
-    subst (λ (z : List ℕ). IsReplacing (g.A.Acts.marked c.args.acts.now) c.args.at z) (sym p.front)
-    (changes_replace marked c.args.chunk c.args.at patch.run.before (w.os ++ patch.run.after) w.o p.first w.change)
-
-pub put_where_new-requires-clause-ready : goal.put_where_new-requires-clause-ready
-put_where_new-requires-clause-ready g t c =
-    let is = sym c.decode.ensures.first ∙ ap result_ok c.in-Ok.is in
-    let p = parted c.args.new.now c.requires.patch.run.news c.in-Ok.instr c.requires.patch.run.bytes is in
-    ready_part _ c.args.at (length c.args.new.now) c.args.at _ c.requires.ready (omega arith)
-    (omega (arith, p.len, p.long, length-take {A = ℕ}, length-drop {A = ℕ}))
+    record {
+      whole = c.requires.whole;
+      ready = ready_part _ c.args.at (length c.args.new.now) c.args.at _ c.requires.ready (omega arith)
+          (omega (arith, p.len, p.long, length-take {A = ℕ}, length-drop {A = ℕ}));
+      replacing = subst (λ (z : List ℕ). IsReplacing (g.A.Acts.marked c.args.acts.now) c.args.at z) (sym p.front)
+          (changes_replace marked c.args.chunk c.args.at patch.run.before (w.os ++ patch.run.after) w.o p.first w.change);
+    }
 
 pub put_patch-requires : goal.put_patch-requires
 put_patch-requires g t c =

@@ -11,15 +11,19 @@ use Rattle.nc_region.proofs.patching.Turns.{turn}
 use Rattle.nc_region.proofs.patching.OneInstruction.{IsOne, piece_of, only_one}
 use Rattle.nc_region.proofs.patch.put.put_single.Goals as goal
 
-pub put_where_new-requires-clause-replacing : goal.put_where_new-requires-clause-replacing
-put_where_new-requires-clause-replacing g c =
+pub put_where_new-requires : goal.put_where_new-requires
+put_where_new-requires g c =
     let marked = g.A.Acts.marked c.args.acts.now in
     let patch = c.requires.patch in
     let i = c.requires.only.0 in
     let new = c.args.new.now in
     let o : IsOne c.args.new.now c.requires.only.0 = record { first = c.requires.only.1; only = c.requires.only.2 } in
     let w = turn marked c.args.chunk c.args.at new patch (piece_of new i) [] c.requires.whole (only_one new patch.run.news i o patch.run.bytes) in
-    changes_replace marked c.args.chunk c.args.at patch.run.before (w.os ++ patch.run.after) w.o (piece_of new i) w.change
+    record {
+      whole = c.requires.whole;
+      ready = c.requires.ready;
+      replacing = changes_replace marked c.args.chunk c.args.at patch.run.before (w.os ++ patch.run.after) w.o (piece_of new i) w.change;
+    }
 
 pub returns-clause-holds : goal.returns-clause-holds
 returns-clause-holds g c =

@@ -18,11 +18,7 @@ returns-then-stands_there-clause-log g c =
     (logs_none (g.A.Acts.logged c.args.acts.now))
 
 pub put_instruction-requires : goal.put_instruction-requires
-put_instruction-requires g c = record {
-  whole = c.requires.whole;
-  ready = c.requires.ready;
-  replacing = c.requires.replacing;
-}
+put_instruction-requires g c = c.requires
 
 pub returns : goal.returns
 returns g c = record {
