@@ -316,10 +316,10 @@ NcSegments nc_host_elf(const uint8_t *file, size_t file_len, NcSegment *segments
       Handles     An empty handle is refused with NC_NO_HANDLE, before other faults. A call that fills a handle refuses one that isn't empty
                   with NC_HANDLE_TAKEN, even before that. A call without a result does nothing to an empty handle.
       Changes     A creation or a patch is a call of a history (LogsCall). A change writes its acts, settlings included, which are then
-                  pending in the host's memory (TellsPending). Once they are made, and a deletion has ended, the memory has the region's
+                  pending in the host's memory (ReportsPending). Once they are made, and a deletion has ended, the memory has the region's
                   bytes. `at` is 0, except for faults 4 to 7 [at]. A call that reads or writes runs never changes the region [same].
       Buffers     A buffer is refused with NC_NO_ROOM if a change of this length can need a longer one. But with a length of 0 the change is
-                  made, and its acts aren't told, for a host without memory, or one that asks for runs. So begin a growing buffer above 0.
+                  made, and its acts aren't reported, for a host without memory, or one that asks for runs. Begin a growing buffer above 0.
       Memory      nc_region_free, nc_vetted_free and nc_seat_leave free all that was allocated for the handle [tested]. Only the table of
                   stamps and check-ins, which a region shares with its seats, is freed with the last of them, in any order [tested]. */
 
@@ -337,7 +337,7 @@ void nc_region_free(NcRegion *region);
 uint32_t nc_region_seat(NcRegion *region, NcSeat *seat);
 
 /* Vets a chunk, and creates it with `len` + 2 acts.
-   Promised: the region has the chunk, valid for its limit (IsCreated) [created]. The acts are the creation's (log_of_create) [told,
+   Promised: the region has the chunk, valid for its limit (IsCreated) [created]. The acts are the creation's (log_of_create) [reported,
    pending, at].
    Refused: 1 to 8 by vetting, NC_UNDER_WAY, NC_NO_ROOM, NC_OCCUPIED, NC_OUT_OF_MEMORY [refused, unchanged, untouched]. */
 NcChange nc_region_create(NcRegion *region, uint32_t base, const uint8_t *code, size_t len, NcAct *acts, size_t acts_len);
@@ -356,7 +356,7 @@ NcChange nc_region_load(NcRegion *region, NcVetted *vetted, NcAct *acts, size_t 
 
 /* Replaces whole instructions of a chunk by others of the same lengths, with at most 3 * `len` acts, and none if no instruction differs.
    Promised: the patch was lawful (IsPatch), and the region has its bytes (IsModified) [modified]. The acts are the patch's (log_of_modify)
-   [told, pending, at].
+   [reported, pending, at].
    Refused: NC_UNDER_WAY; NC_NO_ROOM, if `len` is at most 32 and a lent buffer shorter than 3 * `len`; 16 to 21 [refused, allowed,
    unchanged, untouched]. */
 NcChange nc_region_patch(NcRegion *region, uint32_t at, const uint8_t *bytes, size_t len, NcAct *acts, size_t acts_len);
@@ -374,11 +374,11 @@ NcChange nc_region_begin_delete(NcRegion *region, uint32_t base, NcAct *acts, si
 NcStamp nc_region_end_delete(NcRegion *region);
 
 /* Writes the acts that create the live chunk at `base` with its present bytes, as two runs for each bundle and two more acts
-   (AreCreationRuns) [told, same, at]. Call it directly after a creation without a buffer.
+   (AreCreationRuns) [reported, same, at]. Call it directly after a creation without a buffer.
    Refused: NC_NO_CHUNK; NC_NO_ROOM, if the buffer is shorter, even of length 0 [refused, untouched]. */
 NcChange nc_region_creation_runs(NcRegion *region, uint32_t base, NcAct *acts, size_t acts_len);
 
-/* Writes the acts of the deletion under way, as two runs for each bundle and two more acts (AreDeletionRuns) [told, same, at]. Call it
+/* Writes the acts of the deletion under way, as two runs for each bundle and two more acts (AreDeletionRuns) [reported, same, at]. Call it
    after nc_region_begin_delete without a buffer.
    Refused: NC_NOT_BEGUN, NC_NO_ROOM as above [refused, untouched]. */
 NcChange nc_region_deletion_runs(NcRegion *region, NcAct *acts, size_t acts_len);
@@ -406,7 +406,7 @@ NcPlace nc_region_place(NcRegion *region, uint32_t at);
 
 /* Walks from a bundle start, and writes at most `choices_len` + 1 places. Each step uses one choice in place of data and flags. At a branch
    0 falls through, and others go to the target. An indirect transfer goes to the choice with its low five bits cleared.
-   Promised: this is the machine's only walk by these choices, and all of it is safe (IsShownWalk) [told, same].
+   Promised: this is the machine's only walk by these choices, and all of it is safe (IsShownWalk) [reported, same].
    Refused: NC_NO_START, NC_OUT_OF_MEMORY, NC_NO_ROOM [refused]. */
 NcWalk nc_region_walk(NcRegion *region, uint32_t start, const uint32_t *choices, size_t choices_len, uint32_t *places, size_t places_len);
 

@@ -12,7 +12,7 @@ STANDS_FOR = {("nc_decode", "specs/machinery/Reading.antt", "reading"): ("nc_dec
 MET_BY = {
     ("nc_calls", "specs/Histories.antt", "IsCall"): [("nc_calls", "src/calls.rt", ("call", "refused", "logged"))],
     ("nc_calls", "specs/Histories.antt", "IsRefusal"): [("nc_calls", "src/calls.rt", ("refused",))],
-    ("nc_handle", "specs/Pending.antt", "IsHeldCall"): [
+    ("nc_handle", "specs/Pending.antt", "IsHandleCall"): [
         ("nc_host", "src/region_change.rt", ("pending",)),
         ("nc_host", "src/region_delete.rt", ("pending",)),
         ("nc_host", "src/vetted.rt", ("pending",)),

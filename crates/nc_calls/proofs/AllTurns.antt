@@ -12,7 +12,7 @@ use Rattle.nc_region.specs.schedules.Events.{Event, Frees, world_after, AreAllow
 use Rattle.nc_region.proofs.Offered.{safe_after, none_is_within_freed, if_map}
 use Rattle.nc_region.specs.Region.{Region, IsRegion}
 use Rattle.nc_region.proofs.Offered.{region_of_new}
-use Rattle.nc_calls.specs.Weaving.{writers, ThreadsMay}
+use Rattle.nc_calls.specs.Interleaving.{writers, ThreadsMay}
 use Rattle.nc_calls.specs.Calls.{KnowsNoMore, StandsFor, HasLedTo}
 use Rattle.nc_calls.specs.Histories.{IsCall, Creates, Patches, Deletes, Reclaims, UsesKeeper, Refuses, Keeps, Turn, AreTurns, IsHistory}
 use Rattle.nc_calls.specs.Histories.{happened, region_at_end, AllStand}

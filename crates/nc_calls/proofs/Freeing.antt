@@ -18,7 +18,7 @@ use Rattle.nc_region.proofs.Offered.{Keeps, keeps_event, may_free_now, freed_was
 use Rattle.nc_region.specs.Deletion.{is_due, kept}
 use Rattle.nc_region.specs.Region.{IsLive}
 use Rattle.nc_calls.specs.Views.{ViewsKeep, IsFree}
-use Rattle.nc_calls.specs.Weaving.{writers}
+use Rattle.nc_calls.specs.Interleaving.{writers}
 use Rattle.nc_calls.specs.Whole.{StoodWhole}
 use Rattle.nc_calls.proofs.Deletion.{marked_state, unmarked_or_mark}
 use Rattle.nc_calls.proofs.Reclaiming.{FreesMay}

@@ -21,7 +21,7 @@ use Rattle.nc_region.specs.Quiet.{retired_spans}
 use Rattle.nc_region.specs.Region.{Region, IsLive, IsRegion, IsCreated, live_chunk}
 use Rattle.nc_region.specs.Deletion.{IsDeleted}
 use Rattle.nc_region.proofs.Offered.{same_code, listed_there}
-use Rattle.nc_calls.specs.Weaving.{writers, ThreadsMay}
+use Rattle.nc_calls.specs.Interleaving.{writers, ThreadsMay}
 use Rattle.nc_calls.specs.Calls.{KnowsNoMore, StandsFor, HasLedTo, Details, no_details, create_events, delete_events}
 use Rattle.nc_calls.specs.Histories.{AreAttempts, NoneYet, OneMore}
 use Rattle.nc_calls.specs.Views.{ViewsKeep}
@@ -35,7 +35,7 @@ use Rattle.nc_calls.proofs.Putting.{Leads, Reaches, Views, leads_none}
 use Rattle.nc_calls.proofs.RetiredSpans.{retired_insert, same_spans_retired}
 use Rattle.nc_calls.proofs.Turning.{puts_keep}
 use Rattle.nc_calls.proofs.Whole.{IsWholeIn, StaysWhole}
-use Rattle.nc_calls.proofs.Woven.{ArePlain, weave, seated}
+use Rattle.nc_calls.proofs.Interleaved.{ArePlain, interleave, seated}
 
 -- puts before plain events are plain with them
 pub plain_puts : (d : Details) (chosen : ℕ → Bool) (at : ℕ) (bytes : List ℕ) (more : List Event) → ArePlain more
@@ -134,21 +134,21 @@ pub grown_beside : (limit seats : ℕ) (before events own : List Event) (old new
 grown_beside limit seats before events own old new v h is plain r threads stands range =
     let w = world_after (first_world limit seats) before in
     let l = r.leads in
-    let woven = weave w w.seats events (subst ArePlain (sym is) plain)
+    let interleaved = interleave w w.seats events (subst ArePlain (sym is) plain)
     (subst (λ (z : List Event). AreAllowed (world_after (first_world limit seats) before) z) (sym is) l.allowed) threads in
     let whole : IsWholeIn (world_after (first_world limit seats) before)
     → StaysWhole (world_after (first_world limit seats) before) events =
-    λ first. woven.whole
+    λ first. interleaved.whole
     (subst (λ (z : List Event). StaysWhole (world_after (first_world limit seats) before) z) (sym is) (l.whole first)) in
     let after_is : world_after (world_after (first_world limit seats) before) events
-    ≡ seated (record v { earlier = r.earlier }) woven.seats_after =
-    woven.after_is
-    ∙ (ap (λ (z : List Event). seated (world_after (world_after (first_world limit seats) before) z) woven.seats_after) is
-    ∙ ap (λ (x : World). seated x woven.seats_after) l.after_is) in
-    grown limit seats before events old new (seated (record v { earlier = r.earlier }) woven.seats_after) h
-    (record { allowed = woven.allowed; whole = whole; after_is = after_is })
+    ≡ seated (record v { earlier = r.earlier }) interleaved.seats_after =
+    interleaved.after_is
+    ∙ (ap (λ (z : List Event). seated (world_after (world_after (first_world limit seats) before) z) interleaved.seats_after) is
+    ∙ ap (λ (x : World). seated x interleaved.seats_after) l.after_is) in
+    grown limit seats before events old new (seated (record v { earlier = r.earlier }) interleaved.seats_after) h
+    (record { allowed = interleaved.allowed; whole = whole; after_is = after_is })
     (record { marked = stands.marked; keeper = stands.keeper; spans = stands.spans })
-    (views_kept (record v { earlier = r.earlier }) new.chunks woven.seats_after r.views) range
+    (views_kept (record v { earlier = r.earlier }) new.chunks interleaved.seats_after r.views) range
 
 -- what every world that has led to a region keeps
 pub kept_there : (limit seats : ℕ) (before : List Event) (r : Region) → HasLedTo limit seats before r

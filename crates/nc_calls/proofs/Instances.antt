@@ -11,7 +11,7 @@ use Rattle.nc_gens.specs.Seen.{PassState, HasMet}
 use Rattle.nc_region.specs.schedules.World.{first_world}
 use Rattle.nc_region.specs.schedules.Events.{Event, Looks, world_after}
 use Rattle.nc_region.specs.Region.{Region}
-use Rattle.nc_calls.specs.Weaving.{writers, IsKeepers, ThreadsMay}
+use Rattle.nc_calls.specs.Interleaving.{writers, IsKeepers, ThreadsMay}
 use Rattle.nc_calls.specs.Calls.{KnowsNoMore, HasLedTo}
 use Rattle.nc_calls.specs.Histories.{IsRefusal}
 use Rattle.nc_calls.proofs.Histories.{Grows, goes_on}

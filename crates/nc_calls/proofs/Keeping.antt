@@ -13,11 +13,11 @@ use Rattle.nc_region.specs.Quiet.{retired_spans}
 use Rattle.nc_region.specs.Region.{Region, IsRegion}
 use Rattle.nc_region.proofs.Offered.{region_of_new}
 use Rattle.nc_calls.specs.Views.{ViewsKeep}
-use Rattle.nc_calls.specs.Weaving.{writers, IsKeepers, ThreadsMay}
+use Rattle.nc_calls.specs.Interleaving.{writers, IsKeepers, ThreadsMay}
 use Rattle.nc_calls.specs.Calls.{KnowsNoMore, HasLedTo}
 use Rattle.nc_calls.proofs.Histories.{Grows, grown}
 use Rattle.nc_calls.proofs.Knowing.{knows_as_much}
-use Rattle.nc_calls.proofs.Looking.{KeeperOnly, keeper_woven, placed}
+use Rattle.nc_calls.proofs.Looking.{KeeperOnly, keeper_interleaved, placed}
 use Rattle.nc_calls.proofs.Parting.{Kept, region_kept}
 use Rattle.nc_calls.proofs.Putting.{settled_views}
 
@@ -29,7 +29,7 @@ pub keeper : (limit seats : ℕ) (before events : List Event) (old new : Region)
     → new.keeper.numbers.generation ≤ last_generation → Grows limit seats before events new
 keeper limit seats before events old new h marked chunks own threads found range =
     let w = world_after (first_world limit seats) before in
-    let a : KeeperOnly w w.keeper w.seats events = keeper_woven w events w.keeper w.seats own threads in
+    let a : KeeperOnly w w.keeper w.seats events = keeper_interleaved w events w.keeper w.seats own threads in
     let knows : KnowsNoMore new.keeper.numbers a.keeper_after =
     subst (KnowsNoMore new.keeper.numbers) (ap (λ (x : World). x.keeper)
     (after_append (first_world limit seats) before events ∙ a.after_is)) found in

@@ -4,7 +4,7 @@ pub mod Whole
 pub mod PutsWhole
 pub mod RetiredSpans
 pub mod Parting
-pub mod Woven
+pub mod Interleaved
 pub mod Entries
 pub mod Turning
 pub mod Putting

@@ -18,7 +18,7 @@ use Rattle.nc_region.specs.Deletion.{IsDeleted, MayRefuseDelete, IsReclaimed}
 use Rattle.nc_region.specs.Patch.{IsPatch, IsModified, MayRefusePatch, AreBytesOf, log_of_modify}
 use Rattle.nc_region.specs.Quiet.{retired_spans}
 use Rattle.nc_region.proofs.Offered.{listed_there}
-use Rattle.nc_calls.specs.Weaving.{IsKeepers}
+use Rattle.nc_calls.specs.Interleaving.{IsKeepers}
 use Rattle.nc_calls.specs.Calls.{Details, no_details, events_of_log}
 use Rattle.nc_calls.specs.Histories.{IsRefusal, OfCreation, OfPatch, OfDeletion, LogsRefusal}
 use Rattle.nc_calls.specs.Histories.{NoneYet, IsCall, Creates, Patches, Deletes, Reclaims, UsesKeeper, Refuses, Keeps, LogsCall}

@@ -12,7 +12,7 @@ use Rattle.nc_region.specs.schedules.Events.{Event, Steps, Enters, Exits, Takes,
 use Rattle.nc_region.specs.schedules.Events.{Looks}
 use Rattle.nc_region.specs.schedules.Events.{IsAllowed, after, world_after, AreAllowed}
 use Rattle.nc_region.proofs.Offered.{Keeps}
-use Rattle.nc_calls.specs.Weaving.{is_writers, writers, IsKeepers, ThreadsMay}
+use Rattle.nc_calls.specs.Interleaving.{is_writers, writers, IsKeepers, ThreadsMay}
 use Rattle.nc_calls.specs.Calls.{KnowsNoMore}
 use Rattle.nc_calls.proofs.Whole.{IsWholeIn, StaysWhole}
 
@@ -101,39 +101,39 @@ keeper_more w keeper later seats others event events allowed same rest =
     }
 
 -- the keeper's events with threads between them
-pub keeper_woven : (w : World) (events : List Event) (keeper : KeeperNumbers) (seats : List Seat) → All IsKeepers (writers events)
+pub keeper_interleaved : (w : World) (events : List Event) (keeper : KeeperNumbers) (seats : List Seat) → All IsKeepers (writers events)
     → ThreadsMay (placed w keeper seats) events → KeeperOnly w keeper seats events
-keeper_woven w [] keeper seats own threads =
+keeper_interleaved w [] keeper seats own threads =
     record { allowed = tt; whole = λ whole. whole; keeper_after = keeper; seats_after = seats; after_is = refl }
-keeper_woven w (Steps k next ∷ events) keeper seats own threads =
-    keeper_more w keeper keeper seats _ (Steps k next) events (threads.0 refl) refl (keeper_woven w events keeper _ own threads.1)
-keeper_woven w (Enters k at ∷ events) keeper seats own threads =
-    keeper_more w keeper keeper seats _ (Enters k at) events (threads.0 refl) refl (keeper_woven w events keeper _ own threads.1)
-keeper_woven w (Exits k ∷ events) keeper seats own threads =
-    keeper_more w keeper keeper seats _ (Exits k) events (threads.0 refl) refl (keeper_woven w events keeper _ own threads.1)
-keeper_woven w (Takes k ∷ events) keeper seats own threads =
-    keeper_more w keeper keeper seats _ (Takes k) events (threads.0 refl) refl (keeper_woven w events keeper _ own threads.1)
-keeper_woven w (Sees k ∷ events) keeper seats own threads =
-    keeper_more w keeper keeper seats _ (Sees k) events (threads.0 refl) refl (keeper_woven w events keeper _ own threads.1)
-keeper_woven w (Stores k ∷ events) keeper seats own threads =
-    keeper_more w keeper keeper seats _ (Stores k) events (threads.0 refl) refl (keeper_woven w events keeper _ own threads.1)
-keeper_woven w (Leaves k ∷ events) keeper seats own threads =
-    keeper_more w keeper keeper seats _ (Leaves k) events (threads.0 refl) refl (keeper_woven w events keeper _ own threads.1)
-keeper_woven w (Puts at byte ∷ events) keeper seats own threads =
+keeper_interleaved w (Steps k next ∷ events) keeper seats own threads =
+    keeper_more w keeper keeper seats _ (Steps k next) events (threads.0 refl) refl (keeper_interleaved w events keeper _ own threads.1)
+keeper_interleaved w (Enters k at ∷ events) keeper seats own threads =
+    keeper_more w keeper keeper seats _ (Enters k at) events (threads.0 refl) refl (keeper_interleaved w events keeper _ own threads.1)
+keeper_interleaved w (Exits k ∷ events) keeper seats own threads =
+    keeper_more w keeper keeper seats _ (Exits k) events (threads.0 refl) refl (keeper_interleaved w events keeper _ own threads.1)
+keeper_interleaved w (Takes k ∷ events) keeper seats own threads =
+    keeper_more w keeper keeper seats _ (Takes k) events (threads.0 refl) refl (keeper_interleaved w events keeper _ own threads.1)
+keeper_interleaved w (Sees k ∷ events) keeper seats own threads =
+    keeper_more w keeper keeper seats _ (Sees k) events (threads.0 refl) refl (keeper_interleaved w events keeper _ own threads.1)
+keeper_interleaved w (Stores k ∷ events) keeper seats own threads =
+    keeper_more w keeper keeper seats _ (Stores k) events (threads.0 refl) refl (keeper_interleaved w events keeper _ own threads.1)
+keeper_interleaved w (Leaves k ∷ events) keeper seats own threads =
+    keeper_more w keeper keeper seats _ (Leaves k) events (threads.0 refl) refl (keeper_interleaved w events keeper _ own threads.1)
+keeper_interleaved w (Puts at byte ∷ events) keeper seats own threads =
     absurd (All-head IsKeepers (Puts at byte) (writers events) own)
-keeper_woven w (Settles ∷ events) keeper seats own threads = absurd (All-head IsKeepers Settles (writers events) own)
-keeper_woven w (Marks at marks ∷ events) keeper seats own threads =
+keeper_interleaved w (Settles ∷ events) keeper seats own threads = absurd (All-head IsKeepers Settles (writers events) own)
+keeper_interleaved w (Marks at marks ∷ events) keeper seats own threads =
     absurd (All-head IsKeepers (Marks at marks) (writers events) own)
-keeper_woven w (Retires base len ∷ events) keeper seats own threads =
+keeper_interleaved w (Retires base len ∷ events) keeper seats own threads =
     absurd (All-head IsKeepers (Retires base len) (writers events) own)
-keeper_woven w (Frees span ∷ events) keeper seats own threads =
+keeper_interleaved w (Frees span ∷ events) keeper seats own threads =
     absurd (All-head IsKeepers (Frees span) (writers events) own)
-keeper_woven w (Bumps ∷ events) keeper seats own threads =
+keeper_interleaved w (Bumps ∷ events) keeper seats own threads =
     keeper_more w keeper _ seats _ Bumps events tt refl
-    (keeper_woven w events _ _ (All-tail IsKeepers Bumps (writers events) own) threads.1)
-keeper_woven w (Looks k ∷ events) keeper seats own threads =
+    (keeper_interleaved w events _ _ (All-tail IsKeepers Bumps (writers events) own) threads.1)
+keeper_interleaved w (Looks k ∷ events) keeper seats own threads =
     keeper_more w keeper _ seats _ (Looks k) events tt refl
-    (keeper_woven w events _ _ (All-tail IsKeepers (Looks k) (writers events) own) threads.1)
+    (keeper_interleaved w events _ _ (All-tail IsKeepers (Looks k) (writers events) own) threads.1)
 
 -- ---- events parted where the first of the writer's end
 

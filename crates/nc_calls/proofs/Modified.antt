@@ -13,7 +13,7 @@ use Rattle.nc_region.specs.machinery.PatchSteps.{CanPatch}
 use Rattle.nc_region.specs.Quiet.{retired_spans}
 use Rattle.nc_region.specs.Region.{Region, IsRegion}
 use Rattle.nc_region.proofs.Offered.{same_code, changed}
-use Rattle.nc_calls.specs.Weaving.{writers, ThreadsMay}
+use Rattle.nc_calls.specs.Interleaving.{writers, ThreadsMay}
 use Rattle.nc_calls.specs.Calls.{KnowsNoMore, HasLedTo, modify_events}
 use Rattle.nc_calls.proofs.Creation.{start_good}
 use Rattle.nc_calls.proofs.Entries.{patch_events, modify_is}
@@ -22,7 +22,7 @@ use Rattle.nc_calls.proofs.Parting.{Kept}
 use Rattle.nc_calls.proofs.Patching.{Sound, patch_leads, patch_can, patch_ends}
 use Rattle.nc_calls.proofs.Putting.{Views, Reaches, reaches_as}
 use Rattle.nc_calls.proofs.Turning.{patch_keeps}
-use Rattle.nc_calls.proofs.Woven.{ArePlain}
+use Rattle.nc_calls.proofs.Interleaved.{ArePlain}
 
 -- the events of a patch are plain
 patch_plain : (text : List ℕ) (at : ℕ) (news : List Piece) → ArePlain (patch_events text at news)

@@ -6,7 +6,7 @@ pub use Rattle.nc_calls.proofs.Histories.{Grows, goes_on, created, deleted}
 pub use Rattle.nc_calls.proofs.Modified.{modified}
 pub use Rattle.nc_calls.proofs.Reclaimed.{reclaimed}
 pub use Rattle.nc_calls.proofs.Instances.{begins_unused, refused}
-pub use Rattle.nc_calls.proofs.Looking.{KeeperOnly, keeper_woven}
+pub use Rattle.nc_calls.proofs.Looking.{KeeperOnly, keeper_interleaved}
 pub use Rattle.nc_calls.proofs.StillRegion.{still_created, still_patched, still_deleted, still_reclaimed}
 pub use Rattle.nc_calls.proofs.Refusals.{refusal_same, refusal_silent}
 pub use Rattle.nc_calls.proofs.Knowing.{knows_as_much, knows_raised}

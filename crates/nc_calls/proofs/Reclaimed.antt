@@ -14,16 +14,16 @@ use Rattle.nc_region.specs.declared.acts.Act.TheVariants.{Look}
 use Rattle.nc_region.specs.Deletion.{freed, kept, unmarked, unmarkings, IsReclaimed}
 use Rattle.nc_region.specs.Quiet.{retired_spans}
 use Rattle.nc_region.specs.Region.{Region, IsRegion}
-use Rattle.nc_calls.specs.Weaving.{writers, IsKeepers, ThreadsMay}
+use Rattle.nc_calls.specs.Interleaving.{writers, IsKeepers, ThreadsMay}
 use Rattle.nc_calls.specs.Calls.{KnowsNoMore, HasLedTo, no_details, reclaim_events}
 use Rattle.nc_calls.specs.Views.{ViewsKeep}
 use Rattle.nc_calls.proofs.Entries.{unsettled_events}
 use Rattle.nc_calls.proofs.Freeing.{thins, views_thinned}
 use Rattle.nc_calls.proofs.Histories.{Grows, grown}
-use Rattle.nc_calls.proofs.Looking.{KeeperOnly, looks_are, keeper_woven, placed, part, threads_parted}
+use Rattle.nc_calls.proofs.Looking.{KeeperOnly, looks_are, keeper_interleaved, placed, part, threads_parted}
 use Rattle.nc_calls.proofs.Putting.{Leads, leads_more}
-use Rattle.nc_calls.proofs.Reclaiming.{FreesMay, frees, frees_same, frees_woven, frees_done, finds_all, keeper_stays}
-use Rattle.nc_calls.proofs.Woven.{seated}
+use Rattle.nc_calls.proofs.Reclaiming.{FreesMay, frees, frees_same, frees_interleaved, frees_done, finds_all, keeper_stays}
+use Rattle.nc_calls.proofs.Interleaved.{seated}
 
 -- the events of a reclaim lead to a world that stands for the new region
 pub reclaimed : (limit seats : ℕ) (before events : List Event) (old new : Region) (count : ℕ)
@@ -49,7 +49,7 @@ reclaimed limit seats before events old new count h region is own threads found 
     (subst (λ (z : List Event). ThreadsMay (world_after (first_world limit seats) before) z) p.is threads) in
     let a : KeeperOnly (world_after (first_world limit seats) before) (world_after (first_world limit seats) before).keeper
     (world_after (first_world limit seats) before).seats p.first =
-    keeper_woven w p.first w.keeper w.seats (subst (All IsKeepers) (sym p.first_is) (looks_are 0 seats)) t.0 in
+    keeper_interleaved w p.first w.keeper w.seats (subst (All IsKeepers) (sym p.first_is) (looks_are 0 seats)) t.0 in
     let keeps : Keeps (world_after (first_world limit seats) before) = keeps_reached limit seats before h.lawful h.allowed in
     let mid : World = placed (world_after (first_world limit seats) before) a.keeper_after a.seats_after in
     let keeps_mid : Keeps (placed (world_after (first_world limit seats) before) a.keeper_after a.seats_after) =
@@ -72,7 +72,7 @@ reclaimed limit seats before events old new count h region is own threads found 
     let knows : KnowsNoMore new.keeper.numbers a.keeper_after = subst (KnowsNoMore new.keeper.numbers) keeper_is found in
     let range : a.keeper_after.generation ≤ last_generation =
     omega (arith, knows.generation, is.looked.generation, h.in_range) in
-    let b = frees_woven p.second (placed (world_after (first_world limit seats) before) a.keeper_after a.seats_after) a.seats_after
+    let b = frees_interleaved p.second (placed (world_after (first_world limit seats) before) a.keeper_after a.seats_after) a.seats_after
     new.keeper.numbers keeps_mid range knows may (subst (λ (x : World). ThreadsMay x p.second) a.after_is t.1) in
     let end : World =
     seated (world_after (placed (world_after (first_world limit seats) before) a.keeper_after a.seats_after)

@@ -26,13 +26,13 @@ use Rattle.nc_region.specs.Each.{Each}
 use Rattle.nc_region.specs.Quiet.{with_retired, retired_spans}
 use Rattle.nc_region.specs.Region.{IsLive, IsRising, IsRegion}
 use Rattle.nc_region.proofs.Offered.{each_map, each_both, each_contains, each_middle, region_freed, rises_above}
-use Rattle.nc_calls.specs.Weaving.{writers, ThreadsMay}
+use Rattle.nc_calls.specs.Interleaving.{writers, ThreadsMay}
 use Rattle.nc_calls.specs.Calls.{KnowsNoMore, span_from}
 use Rattle.nc_calls.proofs.Entries.{events_of}
 use Rattle.nc_calls.proofs.Looking.{has_passed}
 use Rattle.nc_calls.proofs.RetiredSpans.{AreSameSpans, retired_append, retired_head, into_middle, out_of_middle}
 use Rattle.nc_calls.proofs.RetiredSpans.{the_middle, retired_each}
-use Rattle.nc_calls.proofs.Woven.{Woven, seated, writer_more, thread_more}
+use Rattle.nc_calls.proofs.Interleaved.{Interleaved, seated, writer_more, thread_more}
 
 -- ---- in a world
 
@@ -44,43 +44,43 @@ FreesMay spans least (Frees span ∷ events) =
 FreesMay spans least (event ∷ events) = ⊥
 
 -- spans are freed with threads in between
-pub frees_woven : (events : List Event) (w : World) (seats : List Seat) (known : KeeperNumbers) → Keeps (seated w seats)
+pub frees_interleaved : (events : List Event) (w : World) (seats : List Seat) (known : KeeperNumbers) → Keeps (seated w seats)
     → w.keeper.generation ≤ last_generation → KnowsNoMore known w.keeper → FreesMay w.retired (least_number known) (writers events)
-    → ThreadsMay (seated w seats) events → Woven w seats events
-frees_woven [] w seats known keeps range knows may threads =
+    → ThreadsMay (seated w seats) events → Interleaved w seats events
+frees_interleaved [] w seats known keeps range knows may threads =
     record { allowed = tt; whole = λ whole. whole; seats_after = seats; after_is = refl }
-frees_woven (Steps k next ∷ events) w seats known keeps range knows may threads =
+frees_interleaved (Steps k next ∷ events) w seats known keeps range knows may threads =
     thread_more w seats _ (Steps k next) events (threads.0 refl) refl refl
-    (frees_woven events w _ known (keeps_event (seated w seats) (Steps k next) keeps (threads.0 refl)) range knows may threads.1)
-frees_woven (Enters k at ∷ events) w seats known keeps range knows may threads =
+    (frees_interleaved events w _ known (keeps_event (seated w seats) (Steps k next) keeps (threads.0 refl)) range knows may threads.1)
+frees_interleaved (Enters k at ∷ events) w seats known keeps range knows may threads =
     thread_more w seats _ (Enters k at) events (threads.0 refl) refl refl
-    (frees_woven events w _ known (keeps_event (seated w seats) (Enters k at) keeps (threads.0 refl)) range knows may threads.1)
-frees_woven (Exits k ∷ events) w seats known keeps range knows may threads =
+    (frees_interleaved events w _ known (keeps_event (seated w seats) (Enters k at) keeps (threads.0 refl)) range knows may threads.1)
+frees_interleaved (Exits k ∷ events) w seats known keeps range knows may threads =
     thread_more w seats _ (Exits k) events (threads.0 refl) refl refl
-    (frees_woven events w _ known (keeps_event (seated w seats) (Exits k) keeps (threads.0 refl)) range knows may threads.1)
-frees_woven (Takes k ∷ events) w seats known keeps range knows may threads =
+    (frees_interleaved events w _ known (keeps_event (seated w seats) (Exits k) keeps (threads.0 refl)) range knows may threads.1)
+frees_interleaved (Takes k ∷ events) w seats known keeps range knows may threads =
     thread_more w seats _ (Takes k) events (threads.0 refl) refl refl
-    (frees_woven events w _ known (keeps_event (seated w seats) (Takes k) keeps (threads.0 refl)) range knows may threads.1)
-frees_woven (Sees k ∷ events) w seats known keeps range knows may threads =
+    (frees_interleaved events w _ known (keeps_event (seated w seats) (Takes k) keeps (threads.0 refl)) range knows may threads.1)
+frees_interleaved (Sees k ∷ events) w seats known keeps range knows may threads =
     thread_more w seats _ (Sees k) events (threads.0 refl) refl refl
-    (frees_woven events w _ known (keeps_event (seated w seats) (Sees k) keeps (threads.0 refl)) range knows may threads.1)
-frees_woven (Stores k ∷ events) w seats known keeps range knows may threads =
+    (frees_interleaved events w _ known (keeps_event (seated w seats) (Sees k) keeps (threads.0 refl)) range knows may threads.1)
+frees_interleaved (Stores k ∷ events) w seats known keeps range knows may threads =
     thread_more w seats _ (Stores k) events (threads.0 refl) refl refl
-    (frees_woven events w _ known (keeps_event (seated w seats) (Stores k) keeps (threads.0 refl)) range knows may threads.1)
-frees_woven (Leaves k ∷ events) w seats known keeps range knows may threads =
+    (frees_interleaved events w _ known (keeps_event (seated w seats) (Stores k) keeps (threads.0 refl)) range knows may threads.1)
+frees_interleaved (Leaves k ∷ events) w seats known keeps range knows may threads =
     thread_more w seats _ (Leaves k) events (threads.0 refl) refl refl
-    (frees_woven events w _ known (keeps_event (seated w seats) (Leaves k) keeps (threads.0 refl)) range knows may threads.1)
-frees_woven (Puts at byte ∷ events) w seats known keeps range knows may threads = absurd may
-frees_woven (Settles ∷ events) w seats known keeps range knows may threads = absurd may
-frees_woven (Marks at marks ∷ events) w seats known keeps range knows may threads = absurd may
-frees_woven (Bumps ∷ events) w seats known keeps range knows may threads = absurd may
-frees_woven (Retires base len ∷ events) w seats known keeps range knows may threads = absurd may
-frees_woven (Looks k ∷ events) w seats known keeps range knows may threads = absurd may
-frees_woven (Frees span ∷ events) w seats known keeps range knows may threads =
+    (frees_interleaved events w _ known (keeps_event (seated w seats) (Leaves k) keeps (threads.0 refl)) range knows may threads.1)
+frees_interleaved (Puts at byte ∷ events) w seats known keeps range knows may threads = absurd may
+frees_interleaved (Settles ∷ events) w seats known keeps range knows may threads = absurd may
+frees_interleaved (Marks at marks ∷ events) w seats known keeps range knows may threads = absurd may
+frees_interleaved (Bumps ∷ events) w seats known keeps range knows may threads = absurd may
+frees_interleaved (Retires base len ∷ events) w seats known keeps range knows may threads = absurd may
+frees_interleaved (Looks k ∷ events) w seats known keeps range knows may threads = absurd may
+frees_interleaved (Frees span ∷ events) w seats known keeps range knows may threads =
     let allowed : IsAllowed (seated w seats) (Frees span) =
     (may.0, has_passed (seated w seats) known span.stamp keeps range knows may.1) in
     writer_more w seats (Frees span) events refl allowed refl refl
-    (frees_woven events (after w (Frees span)) seats known
+    (frees_interleaved events (after w (Frees span)) seats known
     (keeps_event (seated w seats) (Frees span) keeps allowed) range knows may.2 threads.1)
 
 -- ---- members of a filtered list

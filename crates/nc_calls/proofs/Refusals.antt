@@ -7,7 +7,7 @@ use Rattle.nc_region.specs.schedules.World.{World}
 use Rattle.nc_region.specs.schedules.Events.{Event, Steps, Enters, Exits, Takes, Sees, Stores, Leaves, Puts, Settles, Marks, Bumps, Retires, Frees}
 use Rattle.nc_region.specs.schedules.Events.{Looks, after, world_after}
 use Rattle.nc_region.specs.Region.{Region, IsRefused}
-use Rattle.nc_calls.specs.Weaving.{writers}
+use Rattle.nc_calls.specs.Interleaving.{writers}
 use Rattle.nc_calls.specs.Histories.{IsRefusal, OfCreation, OfPatch, OfDeletion, Turn}
 
 -- an equal region is the same but for pages

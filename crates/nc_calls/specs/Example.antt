@@ -10,7 +10,7 @@ use Rattle.nc_region.specs.schedules.Events.{Event, Steps, Exits, Takes, Stores,
 use Rattle.nc_region.specs.Region.{Region, IsCreated}
 use Rattle.nc_region.specs.Patch.{AreBytesOf, IsModified}
 use Rattle.nc_region.specs.Deletion.{IsDeleted, IsReclaimed}
-use Rattle.nc_calls.specs.Weaving.{writers}
+use Rattle.nc_calls.specs.Interleaving.{writers}
 use Rattle.nc_calls.specs.Calls.{create_events, modify_events, delete_events}
 use Rattle.nc_calls.specs.Histories.{Turn, IsHistory, happened, region_at_end}
 

@@ -1,4 +1,4 @@
-pub mod Weaving
+pub mod Interleaving
 pub mod Views
 pub mod Calls
 pub mod Histories

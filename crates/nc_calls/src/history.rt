@@ -6,7 +6,7 @@ ghost use Rattle.nc_region.specs.schedules.Spans.{RetiredSpan};
 ghost use Rattle.nc_region.specs.schedules.World.{World, first_world, NoneIsWithin};
 ghost use Rattle.nc_region.specs.schedules.Events.{Event, world_after};
 ghost use Rattle.nc_region.specs.Region.{Region};
-ghost use Rattle.nc_calls.specs.Weaving.{writers};
+ghost use Rattle.nc_calls.specs.Interleaving.{writers};
 ghost use Rattle.nc_calls.specs.Calls.{StandsFor};
 ghost use Rattle.nc_calls.specs.Histories.{IsRefusal, Turn, IsHistory, AllStand, happened, region_at_end};
 ghost use Rattle.nc_calls.specs.Whole.{AllFetchWhole};

@@ -13,7 +13,7 @@ ghost use Rattle.nc_region.specs.declared.fault.CreateFault.{CreateFault};
 ghost use Rattle.nc_region.specs.Region.{Region, IsRegion, IsCreated, IsRefused};
 ghost use Rattle.nc_region.specs.Deletion.{IsDeleted, IsReclaimed};
 ghost use Rattle.nc_region.specs.Patch.{IsPatch, IsModified, AreBytesOf};
-ghost use Rattle.nc_calls.specs.Weaving.{writers, IsKeepers, ThreadsMay};
+ghost use Rattle.nc_calls.specs.Interleaving.{writers, IsKeepers, ThreadsMay};
 ghost use Rattle.nc_calls.specs.Calls.{KnowsNoMore, HasLedTo, create_events, modify_events, delete_events, reclaim_events};
 
 /// The acts of each call of a region are allowed events, whatever the threads do between them.

@@ -24,7 +24,7 @@
 //! law_of_example();
 //! ```
 //!
-//! - `specs/Weaving` separates the writer's events from those of the threads.
+//! - `specs/Interleaving` separates the writer's events from those of the threads.
 //! - `specs/Calls` turns the acts and settlings of each call into events.
 //! - `specs/Views` has the properties of every view between two calls.
 //! - `specs/Histories` defines a history, `specs/Whole` that threads fetch whole instructions, and `specs/Example` a chunk's life.

@@ -8,7 +8,7 @@ use Rattle.std.proofs.Math.Seq.{map-set_same}
 use Rattle.atomic_table.specs.Seated.{TableId}
 use Rattle.nc_gens.specs.Seen.{PassState, Raised}
 use Rattle.nc_region.specs.Region.{Region}
-use Rattle.nc_handle.specs.Held.{IsIn}
+use Rattle.nc_handle.specs.RegionHandle.{IsIn}
 use Rattle.nc_handle.specs.machinery.Attending.{HasAttended}
 
 -- bounds that are raised twice are raised

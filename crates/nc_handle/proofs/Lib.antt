@@ -3,8 +3,8 @@ pub mod SpanReads
 pub mod Attended
 pub mod PatchPlaces
 pub mod OneChunk
-pub mod Handled
+pub mod Pointers
 pub mod writing
 pub mod Offered
-pub mod Telling
+pub mod Reporting
 pub mod RunsPending

@@ -17,7 +17,7 @@ use Rattle.nc_handle.specs.declared.acts.act.NcAct.{NcAct}
 use Rattle.nc_handle.specs.acts.Runs.{Run, Single, PutRun, StopRun, run_of, puts_by_bits, entries_of, entries_in, bits_at, runs_where, runs_of_create}
 use Rattle.nc_handle.specs.acts.Runs.{runs_of_delete, HasRuns}
 use Rattle.nc_handle.specs.Pending.{puts_pending, events_pending_by, events_pending}
-use Rattle.nc_handle.proofs.Telling.{due_append, events_append, map_append}
+use Rattle.nc_handle.proofs.Reporting.{due_append, events_append, map_append}
 
 -- the puts of a run
 bits_read : (d : Details) (bytes : List ℕ) (at bits : ℕ) → puts_pending at bits bytes ≡ events_of_log d (unsettled (puts_by_bits at bits bytes))

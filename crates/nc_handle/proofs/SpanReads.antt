@@ -1,7 +1,7 @@
 -- What is read from a span of a text.
 use Rattle.std.proofs.Common.{◌≡◌, ◌==◌, Bool, false, ℕ, ◌+◌, ◌-◌, ◌*◌, ◌/◌, ◌%◌, ◌^◌, ◌<◌, ◌≤◌, List, ◌++◌, length, get_or, take, drop, ap, arith, sym, subst, ◌∙◌}
 use Rattle.std.proofs.lemmas.Bool.{eqb-false}
-use Rattle.std.proofs.lemmas.List.{get_or-drop, get_or-take, length-append, length-drop, length-take-le}
+use Rattle.std.proofs.lemmas.List.{get_or-drop, get_or-take, length-drop, length-take-le}
 use Rattle.std.proofs.Math.Seq.{drop-append_seam, take-append_seam}
 use Rattle.nc_text.specs.Places.{byte_at, limit_of}
 use Rattle.nc_text.specs.MarkedText.{with_span}
@@ -10,8 +10,8 @@ use Rattle.nc_vet.specs.Faults.{HasGoodSpan}
 use Rattle.nc_region.specs.Region.{Region, IsCreated}
 use Rattle.nc_region.specs.Log.{log_of_create}
 use Rattle.nc_handle.specs.declared.acts.act.NcAct.{NcAct}
-use Rattle.nc_handle.specs.Held.{IsShort}
-use Rattle.nc_handle.specs.Lent.{IsTold, bytes_of_span}
+use Rattle.nc_handle.specs.RegionHandle.{IsShort}
+use Rattle.nc_handle.specs.Lent.{IsReported, bytes_of_span}
 
 -- a span of the text has as many bytes as it has places
 pub span_long : (text : List ℕ) (base len : ℕ) → HasGoodSpan base (limit_of text) len → length (bytes_of_span text base len) ≡ len
@@ -66,40 +66,13 @@ chunk_span r v valid limit =
     subst (λ (n : ℕ). HasGoodSpan v.base n (length v.code)) limit
     (record { lawful = valid.range.0; start = valid.base_is.0; whole = valid.length_is.1; some = valid.length_is.0; low = valid.base_is.1; high = valid.range.1 })
 
--- a creation leaves the region's limit as it was
-created_limit : (old new : Region) (v : MarkedChunk) → IsCreated old new v → HasGoodSpan v.base (limit_of old.marked.bytes) (length v.code)
-    → limit_of old.marked.bytes ≡ limit_of new.marked.bytes
-created_limit old new v made g =
-    let text = old.marked.bytes in
-    let start = v.base - 0x10000 in
-    let rest = drop (start + length v.code) text in
-    omega (
-      arith,
-      g.low,
-      g.high,
-      ap (λ (t : List ℕ). length t) made.bytes,
-      length-append (take start text) (v.code ++ rest),
-      length-append v.code rest,
-      length-take-le start text (omega (arith, g.low, g.high)),
-      length-drop (start + length v.code) text,
-    )
-
--- the span of a chunk that was created
-pub created_span : (old new : Region) (v : MarkedChunk) (base : ℕ) (code : List ℕ) → base ≡ v.base → code ≡ v.code
-    → IsCreated old new v → IsValid v → v.limit ≡ limit_of old.marked.bytes → HasGoodSpan base (limit_of new.marked.bytes) (length code)
-created_span old new v base code at is made valid limit =
-    let g = chunk_span old v valid limit in
-    subst (λ (b : ℕ). HasGoodSpan b (limit_of new.marked.bytes) (length code)) (sym at)
-    (subst (λ (z : List ℕ). HasGoodSpan v.base (limit_of new.marked.bytes) (length z)) (sym is)
-    (subst (λ (n : ℕ). HasGoodSpan v.base n (length v.code)) (created_limit old new v made g) g))
-
--- the acts that were told for what stands in the span of a chunk that was created are those for its code
-pub created_told : (old new : Region) (v : MarkedChunk) (base : ℕ) (code : List ℕ) (acts now : List NcAct) (count : ℕ) → base ≡ v.base → code ≡ v.code
+-- the acts that were reported for what stands in the span of a chunk that was created are those for its code
+pub created_reported : (old new : Region) (v : MarkedChunk) (base : ℕ) (code : List ℕ) (acts now : List NcAct) (count : ℕ) → base ≡ v.base → code ≡ v.code
     → IsCreated old new v → IsValid v → v.limit ≡ limit_of old.marked.bytes
-    → IsTold acts now count (log_of_create base (bytes_of_span new.marked.bytes base (length code))) → IsTold acts now count (log_of_create v.base v.code)
-created_told old new v base code acts now count at is made valid limit told =
+    → IsReported acts now count (log_of_create base (bytes_of_span new.marked.bytes base (length code))) → IsReported acts now count (log_of_create v.base v.code)
+created_reported old new v base code acts now count at is made valid limit reported =
     let stands : bytes_of_span new.marked.bytes v.base (length v.code) ≡ v.code =
     ap (λ (t : List ℕ). bytes_of_span t v.base (length v.code)) made.bytes ∙ span_put old.marked.bytes v.base v.code (chunk_span old v valid limit) in
-    subst (λ (z : List ℕ). IsTold acts now count (log_of_create v.base z)) stands
-    (subst (λ (z : List ℕ). IsTold acts now count (log_of_create v.base (bytes_of_span new.marked.bytes v.base (length z)))) is
-    (subst (λ (b : ℕ). IsTold acts now count (log_of_create b (bytes_of_span new.marked.bytes b (length code)))) at told))
+    subst (λ (z : List ℕ). IsReported acts now count (log_of_create v.base z)) stands
+    (subst (λ (z : List ℕ). IsReported acts now count (log_of_create v.base (bytes_of_span new.marked.bytes v.base (length z)))) is
+    (subst (λ (b : ℕ). IsReported acts now count (log_of_create b (bytes_of_span new.marked.bytes b (length code)))) at reported))

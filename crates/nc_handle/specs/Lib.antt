@@ -2,5 +2,5 @@ pub mod machinery
 pub mod acts
 pub mod Lent
 pub mod RunCalls
-pub mod Held
+pub mod RegionHandle
 pub mod Pending

@@ -7,7 +7,7 @@ use Rattle.nc_region.specs.schedules.Events.{Event, Puts, Settles, Marks, Retire
 use Rattle.nc_calls.specs.Calls.{delete_events}
 use Rattle.nc_calls.specs.Histories.{IsCall}
 use Rattle.nc_handle.specs.declared.acts.act.NcAct.{NcAct}
-use Rattle.nc_handle.specs.Held.{HeldState, HasBegun, HasEnded}
+use Rattle.nc_handle.specs.RegionHandle.{RegionHandleState, HasBegun, HasEnded}
 
 -- the stores of these bytes, from this address on in ascending order, at the places whose bits are set; the lowest bit is
 -- the first place's
@@ -18,7 +18,7 @@ puts_pending at bits (byte ∷ rest) =
 
 -- The events that an element of a buffer is for a host, by its kind: 1 is a store, 2 the marking of this chunk, which changes
 -- no memory, 6 a settling, 7 stores of this chunk's bytes, and 8 stores of F4. An element of any other kind is no event. For
--- the stamp, kind 3, the host calls the library (`Ends` of `IsHeldCall`).
+-- the stamp, kind 3, the host calls the library (`Ends` of `IsHandleCall`).
 abbrev pub events_pending_by : MarkedChunk → NcAct → List Event
 events_pending_by v a =
     if a.kind == 1 then Puts a.at a.value ∷ []
@@ -33,24 +33,24 @@ abbrev pub events_pending : MarkedChunk → List NcAct → List Event
 events_pending v acts = flat_map (events_pending_by v) acts
 
 -- all is as before, except that pages may have been made
-abbrev pub ChangesPages : HeldState → HeldState → Type 0
+abbrev pub ChangesPages : RegionHandleState → RegionHandleState → Type 0
 ChangesPages old new = new ≡ record old { region = record old.region { made = new.region.made } }
 
 -- An accepted call by a handle that changes the region: the library's state before and after it, and the events that are
 -- pending then, which have to happen before the next such call. `Changes` is a call of a history (`IsCall` of nc_calls),
 -- with its own events. `Begins` is the first call of a deletion, with its events up to the stamp; `Ends` is its last call,
 -- with the stamp.
-pub data IsHeldCall (seats : ℕ) (old new : HeldState) (pending : List Event) : Type 0 where
-  Changes : old.begun ≡ None → new.begun ≡ None → IsCall seats old.region new.region pending → IsHeldCall seats old new pending
+pub data IsHandleCall (seats : ℕ) (old new : RegionHandleState) (pending : List Event) : Type 0 where
+  Changes : old.begun ≡ None → new.begun ≡ None → IsCall seats old.region new.region pending → IsHandleCall seats old new pending
   Begins : (c : Chunk) → HasBegun old new c.base c
       → pending ++ Retires c.base c.length ∷ [] ≡ delete_events old.region.marked.marks c.base c.length
-      → IsHeldCall seats old new pending
+      → IsHandleCall seats old new pending
   Ends : (stamp : ℕ) (is : HasEnded old new stamp) → pending ≡ Retires is.chunk.base is.chunk.length ∷ []
-      → IsHeldCall seats old new pending
+      → IsHandleCall seats old new pending
 
 -- If a buffer was lent, its first `count` elements now are the events pending after the call, for a host that knows this chunk.
-pub record TellsPending (old new : HeldState) (v : MarkedChunk) (lent now : List NcAct) (count : ℕ) : Type 0 where
-  pub pending : (seats : ℕ) → 0 < length lent → IsHeldCall seats old new (events_pending v (take count now))
+pub record ReportsPending (old new : RegionHandleState) (v : MarkedChunk) (lent now : List NcAct) (count : ℕ) : Type 0 where
+  pub pending : (seats : ℕ) → 0 < length lent → IsHandleCall seats old new (events_pending v (take count now))
 
 -- The event is a step of the library itself: it draws a stamp, frees a span or looks at a seat's word. Between two looks the
 -- library may also check in for a seat that nobody was given, whose events are those of that seat.
@@ -61,7 +61,7 @@ IsLibrarys (Looks k) = ⊤
 IsLibrarys event = ⊥
 
 -- The call is one after which only steps of the library are pending.
-pub record DoesItself (seats : ℕ) (old new : HeldState) : Type 0 where
+pub record DoesItself (seats : ℕ) (old new : RegionHandleState) : Type 0 where
   pub own : List Event
   pub librarys : All IsLibrarys own
-  pub call : IsHeldCall seats old new own
+  pub call : IsHandleCall seats old new own

@@ -1,11 +1,11 @@
--- Definitions that only private contracts cite, and what handles own.
+-- Definitions that only private contracts cite, and what the C structs with a pointer own.
 pub mod Standing
 pub mod Written
 pub mod Writing
 pub mod Running
 pub mod Attending
 pub mod Window
-pub mod Handle
-pub mod RegionHandle
-pub mod SeatHandle
-pub mod VettedHandle
+pub mod Pointer
+pub mod RegionPointer
+pub mod SeatPointer
+pub mod VettedPointer

@@ -2,9 +2,9 @@
 
 ghost use Rattle.std.specs.Prelude.{◌≡◌, ◌≤◌, ◌<◌, All, length, map, slice_index};
 ghost use Rattle.nc_gens.specs.Seen.{Raised, PassState};
-ghost use Rattle.nc_handle.specs.Held.{IsIn};
+ghost use Rattle.nc_handle.specs.RegionHandle.{IsIn};
 
-use crate::held::Owned;
+use crate::region_handle::Owned;
 use nc_gens::{Gens, Pass};
 use nc_region::RegionOf;
 

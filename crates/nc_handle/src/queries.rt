@@ -9,11 +9,11 @@ ghost use Rattle.nc_region.specs.Region.{IsRegion, AreChunksReady, IsAboveAll, I
 ghost use Rattle.nc_vet.specs.Faults.{HasGoodSpan};
 ghost use Rattle.nc_region.specs.Trace.{IsTrace, IsOnlyTrace, IsSafeWalk, IsWalkStart, MayRefuseWalk};
 
-use crate::held::Held;
+use crate::region_handle::RegionHandle;
 use nc_decode::{Mark, START};
 use nc_region::{Acts, Chunk, Trace, WalkFault};
 
-impl Held {
+impl RegionHandle {
     /// The address after the region's last byte.
     pub fn limit(&self) -> u32
         ensures { result ≡ limit_of self.now.region.marked.bytes }

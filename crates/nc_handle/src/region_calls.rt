@@ -10,13 +10,13 @@ ghost use Rattle.nc_region.specs.Region.{IsCreated, Meets};
 ghost use Rattle.nc_calls.specs.Calls.{no_details};
 ghost use Rattle.nc_calls.specs.Histories.{LogsCall};
 ghost use Rattle.nc_handle.specs.machinery.Standing.{AreBytesAt};
-ghost use Rattle.nc_handle.specs.Held.{IsLiveAt, IsShort, IsShortForPatch, HasBegun, HasEnded, IsNotLoaded, MayRefuseBegin, MayRefuseLoad, MayRefuseModify};
-ghost use Rattle.nc_handle.specs.Pending.{TellsPending, DoesItself};
-ghost use Rattle.nc_handle.specs.Lent.{IsTold, bytes_of_span};
+ghost use Rattle.nc_handle.specs.RegionHandle.{IsLiveAt, IsShort, IsShortForPatch, HasBegun, HasEnded, IsNotLoaded, MayRefuseBegin, MayRefuseLoad, MayRefuseModify};
+ghost use Rattle.nc_handle.specs.Pending.{ReportsPending, DoesItself};
+ghost use Rattle.nc_handle.specs.Lent.{IsReported, bytes_of_span};
 
 use crate::acts::{NcAct, write_creation, write_deletion, write_patch};
 use crate::fault::{LoadFault, PatchFault, RetireFault};
-use crate::held::Held;
+use crate::region_handle::RegionHandle;
 use crate::span::Span;
 use crate::window::read_window;
 use nc_gens::LAST_GENERATION;
@@ -51,12 +51,12 @@ fn bytes_before(acts: &[NcAct], len: usize) -> u32
 }
 
 /// Writes the acts of a patch if a buffer is lent; the bytes from before matter only then. Returns the number written.
-fn tell_patch(acts: &mut [NcAct], at: u32, before: &[u8], new: &[u8]) -> usize
+fn report_patch(acts: &mut [NcAct], at: u32, before: &[u8], new: &[u8]) -> usize
     requires long { length new.now ≤ length before.now }
     requires high { at + length before.now < 2 ^ 32 }
     requires room { ¬ IsShort (length acts.old) (3 * length new.now) }
     ensures { (text : List ℕ) (news : List Piece) → (0 < length acts.old → AreBytesAt text at before.now) → AreBytesOf new.now news
-        → IsTold acts.old acts.new result (log_of_modify text at news) }
+        → IsReported acts.old acts.new result (log_of_modify text at news) }
 {
     if acts.is_empty() {
         return 0;
@@ -65,9 +65,9 @@ fn tell_patch(acts: &mut [NcAct], at: u32, before: &[u8], new: &[u8]) -> usize
 }
 
 /// Writes the acts of the creation of the chunk in a span if a buffer is lent. Returns the number written.
-fn tell_creation(acts: &mut [NcAct], span: &Span) -> usize
+fn report_creation(acts: &mut [NcAct], span: &Span) -> usize
     requires room { ¬ IsShort (length acts.old) (span.now.length + 2) }
-    ensures { IsTold acts.old acts.new result
+    ensures { IsReported acts.old acts.new result
         (log_of_create span.now.base (bytes_of_span span.now.region.now.marked.bytes span.now.base span.now.length)) }
 {
     if acts.is_empty() {
@@ -78,9 +78,9 @@ fn tell_creation(acts: &mut [NcAct], span: &Span) -> usize
 }
 
 /// Writes the acts of the deletion of the chunk in a span if a buffer is lent. Returns the number written.
-fn tell_deletion(acts: &mut [NcAct], span: &Span) -> usize
+fn report_deletion(acts: &mut [NcAct], span: &Span) -> usize
     requires room { ¬ IsShort (length acts.old) (span.now.length + 2) }
-    ensures { IsTold acts.old acts.new result (log_of_delete span.now.region.now.marked.marks span.now.base span.now.length) }
+    ensures { IsReported acts.old acts.new result (log_of_delete span.now.region.now.marked.marks span.now.base span.now.length) }
 {
     if acts.is_empty() {
         return 0;
@@ -90,7 +90,7 @@ fn tell_deletion(acts: &mut [NcAct], span: &Span) -> usize
 }
 
 /// The checks made before a region is changed.
-impl Held {
+impl RegionHandle {
     /// Checks that no deletion is under way, and that a lent buffer has room for the acts of this chunk's creation.
     fn check_load(&self, vetted: &Vetted, room: usize) -> Result<(), LoadFault>
         ensures allowed { OnOk result ((self.now.begun ≡ None) × ¬ IsShort room (length vetted.now.code + 2)) }
@@ -147,7 +147,7 @@ impl Held {
     }
 }
 
-impl Held {
+impl RegionHandle {
     /// `RegionOf::create`, which also writes its acts into the buffer, with the settling among them: two more than the chunk
     /// has bytes. An empty buffer counts as none. Returns the number of acts written.
     ///
@@ -167,13 +167,13 @@ impl Held {
         ensures free { OnOk result ((vetted.limit ≡ limit_of self.old.region.marked.bytes)
             × ¬ Meets vetted.base (length vetted.code) self.old.region.chunks) }
         // The acts written are those of a creation, with the settling.
-        ensures told { IfOk result (λ count. IsTold acts.old acts.new count (log_of_create vetted.base vetted.code)) }
+        ensures reported { IfOk result (λ count. IsReported acts.old acts.new count (log_of_create vetted.base vetted.code)) }
         // So are those logged, and they are a call of a history, in which the span gets the chunk's marks.
         ensures log { OnOk result (Logs self.old.region.logged self.new.region.logged (log_of_create vetted.base vetted.code)) }
         ensures call { (seats : ℕ) → OnOk result
             (LogsCall seats (record no_details { marks = vetted.marks }) self.old.region self.new.region) }
         // The acts in the buffer are then pending.
-        ensures pending { IfOk result (TellsPending self.old self.new vetted acts.old acts.new) }
+        ensures pending { IfOk result (ReportsPending self.old self.new vetted acts.old acts.new) }
         // The chunk is returned, and the buffer is as it was.
         ensures unchanged { IfErr result (λ e. (e.0 ≡ vetted) × IsNotLoaded self.old self.new vetted e.1) }
         ensures untouched { OnErr result (acts.new ≡ acts.old) }
@@ -185,17 +185,15 @@ impl Held {
         }
         let base = vetted.base();
         let length = vetted.code().len() as u32;
-        match nc_calls::create(&mut self.region, vetted) {
-            Ok(()) => {
-                let span = Span {
-                    region: &self.region,
-                    base,
-                    length,
-                };
-                Ok(tell_creation(acts, &span))
-            }
-            Err((vetted, fault)) => Err((vetted, LoadFault::Refused(fault))),
+        if let Err((vetted, fault)) = nc_calls::create(&mut self.region, vetted) {
+            return Err((vetted, LoadFault::Refused(fault)));
         }
+        let span = Span {
+            region: &self.region,
+            base,
+            length,
+        };
+        Ok(report_creation(acts, &span))
     }
 
     /// `RegionOf::modify`, which also writes its acts into the buffer, with the settlings among them: at most three for each
@@ -210,14 +208,14 @@ impl Held {
         // No deletion was under way, and a lent buffer had room for three acts for each byte.
         ensures allowed { OnOk result ((self.old.begun ≡ None) × ¬ IsShortForPatch (length acts.old) (length new.now)) }
         // The acts written are those of a patch of the region's own bytes, with the settlings.
-        ensures told { IfOk result (λ count. (news : List Piece) → AreBytesOf new.now news
-            → IsTold acts.old acts.new count (log_of_modify self.old.region.marked.bytes at news)) }
+        ensures reported { IfOk result (λ count. (news : List Piece) → AreBytesOf new.now news
+            → IsReported acts.old acts.new count (log_of_modify self.old.region.marked.bytes at news)) }
         // So are those logged, and they are a call of a history.
         ensures log { OnOk result ((news : List Piece) → AreBytesOf new.now news
             → Logs self.old.region.logged self.new.region.logged (log_of_modify self.old.region.marked.bytes at news)) }
         ensures call { (seats : ℕ) → OnOk result (LogsCall seats no_details self.old.region self.new.region) }
         // The acts in the buffer are then pending.
-        ensures pending { (v : MarkedChunk) → IfOk result (TellsPending self.old self.new v acts.old acts.new) }
+        ensures pending { (v : MarkedChunk) → IfOk result (ReportsPending self.old self.new v acts.old acts.new) }
         ensures unchanged { OnErr result (self.new ≡ self.old) }
         ensures untouched { OnErr result (acts.new ≡ acts.old) }
         // Each refusal is returned exactly when it is due.
@@ -227,10 +225,10 @@ impl Held {
             return Err(fault);
         }
         let before = read_window(&self.region, at, bytes_before(acts, new.len()));
-        match nc_calls::modify(&mut self.region, at, new) {
-            Ok(()) => Ok(tell_patch(acts, at, &before[..new.len()], new)),
-            Err(fault) => Err(PatchFault::Refused(fault)),
+        if let Err(fault) = nc_calls::modify(&mut self.region, at, new) {
+            return Err(PatchFault::Refused(fault));
         }
+        Ok(report_patch(acts, at, &before[..new.len()], new))
     }
 
     /// The last call of a deletion: it deletes the chunk, as `RegionOf::delete` does, and returns the stamp. If no deletion is under
@@ -270,9 +268,9 @@ impl Held {
         // A lent buffer had room for the acts.
         ensures allowed { IfOk result (λ r. ¬ IsShort (length acts.old) (r.0.length + 2)) }
         // The acts written are those of a deletion, by the region's own marks, with the settling.
-        ensures told { IfOk result (λ r. IsTold acts.old acts.new r.1 (log_of_delete self.old.region.marked.marks base r.0.length)) }
+        ensures reported { IfOk result (λ r. IsReported acts.old acts.new r.1 (log_of_delete self.old.region.marked.marks base r.0.length)) }
         // The acts in the buffer, up to the stamp, are then pending.
-        ensures pending { (v : MarkedChunk) → IfOk result (λ r. TellsPending self.old self.new v acts.old acts.new r.1) }
+        ensures pending { (v : MarkedChunk) → IfOk result (λ r. ReportsPending self.old self.new v acts.old acts.new r.1) }
         ensures unchanged { OnErr result (self.new ≡ self.old) }
         ensures untouched { OnErr result (acts.new ≡ acts.old) }
         // Each refusal is returned exactly when it is due.
@@ -288,6 +286,6 @@ impl Held {
             base,
             length: chunk.length,
         };
-        Ok((chunk, tell_deletion(acts, &span)))
+        Ok((chunk, report_deletion(acts, &span)))
     }
 }

@@ -4,13 +4,13 @@ ghost use Rattle.std.specs.Prelude.{◌≡◌, ◌≤◌, Some, IfOk, IfErr, OnE
 ghost use Rattle.nc_list.specs.declared.chunk.Chunk.{Chunk};
 ghost use Rattle.nc_region.specs.Log.{log_of_create, log_of_delete};
 ghost use Rattle.nc_handle.specs.acts.Runs.{runs_of_create, runs_of_delete, HasRuns};
-ghost use Rattle.nc_handle.specs.Held.{IsLiveAt};
+ghost use Rattle.nc_handle.specs.RegionHandle.{IsLiveAt};
 ghost use Rattle.nc_handle.specs.RunCalls.{runs_of, AreCreationRuns, AreDeletionRuns, MayRefuseCreationRuns, MayRefuseDeletionRuns};
 ghost use Rattle.nc_handle.specs.Lent.{bytes_of_span};
 
 use crate::acts::{NcAct, write_creation_runs, write_deletion_runs};
 use crate::fault::RunsFault;
-use crate::held::Held;
+use crate::region_handle::RegionHandle;
 use crate::span::Span;
 
 /// The number of runs for a chunk of this many bytes.
@@ -21,7 +21,7 @@ fn runs_of(length: u32) -> usize
 }
 
 /// Writes the runs of the creation of the chunk in a span.
-fn tell_creation_runs(acts: &mut [NcAct], span: &Span)
+fn report_creation_runs(acts: &mut [NcAct], span: &Span)
     requires { runs_of span.now.length ≤ length acts.old }
     ensures { HasRuns acts.old acts.new (runs_of span.now.length) span.now.base
         (bytes_of_span span.now.region.now.marked.bytes span.now.base span.now.length)
@@ -32,7 +32,7 @@ fn tell_creation_runs(acts: &mut [NcAct], span: &Span)
 }
 
 /// Writes the runs of the deletion of the chunk in a span.
-fn tell_deletion_runs(acts: &mut [NcAct], span: &Span)
+fn report_deletion_runs(acts: &mut [NcAct], span: &Span)
     requires { runs_of span.now.length ≤ length acts.old }
     ensures { HasRuns acts.old acts.new (runs_of span.now.length) span.now.base
         (bytes_of_span span.now.region.now.marked.bytes span.now.base span.now.length)
@@ -42,13 +42,13 @@ fn tell_deletion_runs(acts: &mut [NcAct], span: &Span)
     write_deletion_runs(acts, span.base, span);
 }
 
-impl Held {
+impl RegionHandle {
     /// Writes into the buffer, as runs, the acts that would create this live chunk with its present bytes: two for each of its
     /// bundles, and two more. Directly after `create` these are the acts of that call. Returns their number. A refusal writes
     /// nothing.
     pub fn creation_runs(&self, base: u32, acts: &mut [NcAct]) -> Result<usize, RunsFault>
         // The runs of a creation of the chunk's bytes, which stand for its acts, with the settling.
-        ensures told { IfOk result (λ count. (c : Chunk) × IsLiveAt self.now.region.chunks base c
+        ensures reported { IfOk result (λ count. (c : Chunk) × IsLiveAt self.now.region.chunks base c
             × AreCreationRuns self.now c acts.old acts.new count) }
         ensures untouched { OnErr result (acts.new ≡ acts.old) }
         // Each refusal is returned exactly when it is due.
@@ -66,7 +66,7 @@ impl Held {
             base,
             length: chunk.length,
         };
-        tell_creation_runs(acts, &span);
+        report_creation_runs(acts, &span);
         Ok(wanted)
     }
 
@@ -74,7 +74,7 @@ impl Held {
     /// Returns their number. A refusal writes nothing.
     pub fn deletion_runs(&self, acts: &mut [NcAct]) -> Result<usize, RunsFault>
         // The runs of a deletion by the region's own marks, which stand for its acts, with the settling.
-        ensures told { IfOk result (λ count. (c : Chunk) × (self.now.begun ≡ Some c)
+        ensures reported { IfOk result (λ count. (c : Chunk) × (self.now.begun ≡ Some c)
             × AreDeletionRuns self.now c acts.old acts.new count) }
         ensures untouched { OnErr result (acts.new ≡ acts.old) }
         // Each refusal is returned exactly when it is due.
@@ -94,7 +94,7 @@ impl Held {
             base: chunk.base,
             length: chunk.length,
         };
-        tell_deletion_runs(acts, &span);
+        report_deletion_runs(acts, &span);
         Ok(wanted)
     }
 }

@@ -1,85 +1,72 @@
-//! A handle to a seat.
+//! A seat, with a share of its table of generations.
 
-ghost use Rattle.std.specs.Prelude.{◌≡◌, Option, Some, None, IfSome, IsNone, MatchOption};
-ghost use Rattle.nc_handle.specs.machinery.SeatHandle.{may_own, may_coded};
-ghost use Rattle.nc_gens.specs.Seen.{PassState};
+ghost use Rattle.std.specs.Prelude.{◌≡◌, ◌+◌, ◌≤◌};
+ghost use Rattle.std.specs.Arc.{arc_value};
+ghost use Rattle.nc_gens.specs.Rule.{generation_taken, since_stored};
 
-use crate::guest::Guest;
-use crate::parts::Parts;
-use crate::sent::sent;
+use nc_gens::{Gens, Pass};
 use std::alloc::Global;
 use std::marker::Model;
-use std::mem::replace;
-use std::ptr::null_mut;
+use std::sync::Arc;
 
-/// A handle to a seat, or to nothing (all zero bytes). Only this library follows its pointer.
-///
-/// Dropping a handle frees nothing: only `take` gives back what it holds.
-#[repr(C)]
+/// A seat that was given out: its pass, and a share of the table.
 #[derive(Drop)]
-pub struct NcSeat {
-    at: *mut u8,
-    alloc: Global,
-    pub ghost value: { Option PassState } by { may_coded },
+pub struct SeatHandle {
+    gens: Arc<Gens, Global>,
+    pass: Pass,
 }
 
-impl Model for NcSeat {
-    ghost also_owns = { λ h. may_own h.alloc h.at h.value };
+impl Model for SeatHandle {
+    ghost use Rattle.std.specs.Prelude.{◌≡◌};
+    ghost use Rattle.std.specs.Arc.{arc_value};
+    ghost use Rattle.nc_gens.specs.Seen.{PassState};
+
+    ghost Value = { PassState };
+
+    ghost view = { λ g. g.pass };
+
+    ghost invariant = { λ g. g.pass.table ≡ arc_value g.gens };
 }
 
-impl NcSeat {
-    /// A handle to nothing.
-    fn nothing(alloc: Global) -> NcSeat
-        ensures { result.value ≡ None }
+impl SeatHandle {
+    /// The seat of this pass, with a share of its table.
+    pub fn new(gens: Arc<Gens, Global>, pass: Pass) -> SeatHandle
+        requires { pass.table ≡ arc_value gens }
+        ensures { result ≡ pass }
     {
-        NcSeat {
-            at: null_mut(),
-            alloc,
-        }
+        SeatHandle { gens, pass }
     }
 
-    /// A handle to the value of these parts.
-    fn of_parts(parts: Parts<Guest, Global>) -> NcSeat
-        ensures { result.value ≡ Some parts.value }
+    /// The pass. The share of the table is given back.
+    pub(crate) fn into_pass(self) -> Pass
+        ensures { result ≡ self }
     {
-        let Parts { ptr, alloc } = parts;
-        NcSeat {
-            at: ptr as *mut u8,
-            alloc,
-        }
+        let SeatHandle { pass, .. } = self;
+        pass
     }
 
-    /// The parts of the handle's value, if it has one.
-    fn into_parts(self) -> Option<Parts<Guest, Global>>
-        ensures { MatchOption result (self.value ≡ None) (λ parts. self.value ≡ Some parts.value) }
+    /// `Gens::check_in`: it takes no memory and no lock, never waits and is never refused.
+    ///
+    /// It must be called while the seat's thread is outside the region: no contract here can state that, and reclaiming
+    /// relies on it.
+    pub fn check_in(&mut self)
+        ensures same { (self.new.table ≡ self.old.table) × (self.new.seat ≡ self.old.seat) }
+        // One load of the generation, and one store of it.
+        ensures steps { self.new.numbers
+            ≡ since_stored (generation_taken self.new.numbers.since self.old.numbers) }
+        ensures loads { self.new.numbers.loads ≡ self.old.numbers.loads + 1 }
+        ensures published { self.new.numbers.word ≡ self.new.numbers.since }
+        ensures rises { self.old.numbers.since ≤ self.new.numbers.since }
+        ensures catches_up { self.old.numbers.seen ≤ self.new.numbers.since }
     {
-        let NcSeat { at, alloc } = self;
-        if at.is_null() {
-            None
-        } else {
-            Some(Parts {
-                ptr: at as *mut Guest,
-                alloc,
-            })
-        }
+        self.gens.check_in(&mut self.pass);
     }
 
-    /// A handle to this seat, which may be moved to another thread.
-    pub fn of(boxed: Box<Guest, Global>) -> NcSeat
-        ensures { result.value ≡ Some boxed.value }
-    {
-        NcSeat::of_parts(Parts::of(sent(boxed)))
-    }
-
-    /// Takes the seat out of the handle, if it has one. Afterwards the handle has nothing.
-    pub fn take(&mut self, alloc: Global) -> Option<Box<Guest, Global>>
-        ensures some { IfSome result (λ boxed. self.old.value ≡ Some boxed.value) }
-        ensures none { IsNone result → self.old.value ≡ None }
-        ensures left { self.new.value ≡ None }
-    {
-        match replace(self, NcSeat::nothing(alloc)).into_parts() {
-            None => None,
-            Some(parts) => Some(parts.into_box()),
-        }
+    /// `Gens::leave`, which also gives back the share of the table. It takes no lock and never waits.
+    ///
+    /// It must be called once the seat's thread is outside the region for good.
+    pub fn leave(self) {
+        let SeatHandle { gens, pass } = self;
+        gens.leave(pass);
     }
 }

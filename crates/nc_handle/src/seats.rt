@@ -4,38 +4,42 @@ ghost use Rattle.std.specs.Prelude.{◌≡◌, ◌≤◌, ◌<◌, ◌↔◌, �
 ghost use Rattle.std.specs.Arc.{arc_value};
 ghost use Rattle.nc_gens.specs.Seen.{Raised};
 ghost use Rattle.nc_handle.specs.Pending.{DoesItself};
-ghost use Rattle.nc_handle.specs.Held.{HeldState, HasGiven, HasReclaimed, MayRefuseSeat};
+ghost use Rattle.nc_handle.specs.RegionHandle.{RegionHandleState, HasGiven, HasReclaimed, MayRefuseSeat};
 ghost use Rattle.nc_handle.specs.declared.fault.SeatFault.{SeatFault};
 
 use crate::attending::attend;
 use crate::fault::SeatFault;
-use crate::guest::Guest;
-use crate::held::Held;
+use crate::region_handle::RegionHandle;
+use crate::seat_handle::SeatHandle;
 use nc_gens::{Gens, Pass};
 use nc_region::Acts;
 use std::alloc::Global;
 use std::sync::Arc;
 
 /// The seat of a pass in a box, with a share of its table. If there is no memory, the pass is returned.
-fn boxed(alloc: Global, gens: &Arc<Gens, Global>, pass: Pass) -> Result<Box<Guest, Global>, Pass>
+fn boxed(
+    alloc: Global,
+    gens: &Arc<Gens, Global>,
+    pass: Pass,
+) -> Result<Box<SeatHandle, Global>, Pass>
     requires { pass.table ≡ arc_value gens.now }
-    ensures boxed { IfOk result (λ guest. guest.value ≡ pass) }
+    ensures boxed { IfOk result (λ handle. handle.value ≡ pass) }
     ensures back { IfErr result (λ p. p ≡ pass) }
 {
     let Ok(share) = Arc::try_clone(gens) else {
         return Err(pass);
     };
-    match Box::new(alloc, Guest::new(share, pass)) {
-        Ok(guest) => Ok(guest),
+    match Box::new(alloc, SeatHandle::new(share, pass)) {
+        Ok(handle) => Ok(handle),
         Err(failed) => Err(failed.value.into_pass()),
     }
 }
 
-impl Held {
+impl RegionHandle {
     /// A seat that hasn't been given out yet, in a box. A refusal leaves every pass where it was.
-    pub fn seat(&mut self, alloc: Global) -> Result<Box<Guest, Global>, SeatFault>
+    pub fn seat(&mut self, alloc: Global) -> Result<Box<SeatHandle, Global>, SeatFault>
         // The last of the passes is the seat's now; all else is as before.
-        ensures given { IfOk result (λ guest. HasGiven self.old self.new guest.value) }
+        ensures given { IfOk result (λ handle. HasGiven self.old self.new handle.value) }
         ensures unchanged { OnErr result (self.new ≡ self.old) }
         // If a seat is left, only a lack of memory refuses it; if none is, the refusal says so.
         ensures refused { IfErr result (MayRefuseSeat self.old) }
@@ -45,7 +49,7 @@ impl Held {
             return Err(SeatFault::NoneLeft);
         };
         match boxed(alloc, &self.gens, pass) {
-            Ok(guest) => Ok(guest),
+            Ok(handle) => Ok(handle),
             Err(pass) => {
                 self.passes.push_reserved(pass);
                 Err(SeatFault::OutOfMemory)
@@ -66,7 +70,7 @@ impl Held {
         // No seat that wasn't given out delays reclaiming.
         ensures reclaimed { IfSome result (HasReclaimed self.old self.new) }
         // The library makes all that is pending itself, first for the seats not given out.
-        ensures pending { (seats : ℕ) → OnSome result ((met : HeldState) × DoesItself seats self.old met × DoesItself seats met self.new) }
+        ensures pending { (seats : ℕ) → OnSome result ((met : RegionHandleState) × DoesItself seats self.old met × DoesItself seats met self.new) }
         ensures underway { IsNone result ↔ IsSome self.old.begun }
         ensures unchanged { IsNone result → self.new ≡ self.old }
     {

@@ -1,85 +1,9 @@
-//! A handle to a vetted chunk.
+//! A vetted chunk that isn't in a region yet.
 
-ghost use Rattle.std.specs.Prelude.{◌≡◌, Option, Some, None, IfSome, IsNone, MatchOption};
-ghost use Rattle.nc_handle.specs.machinery.VettedHandle.{may_own, may_coded};
-ghost use Rattle.nc_handle.specs.declared.kept.Kept.{Kept};
+use nc_vet::Vetted;
 
-use crate::kept::Kept;
-use crate::parts::Parts;
-use crate::sent::sent;
-use std::alloc::Global;
-use std::marker::Model;
-use std::mem::replace;
-use std::ptr::null_mut;
-
-/// A handle to a vetted chunk, or to nothing (all zero bytes). Only this library follows its pointer.
-///
-/// Dropping a handle frees nothing: only `take` gives back what it holds.
-#[repr(C)]
+/// A slot for a vetted chunk: creating the chunk in a region empties it, and a refusal refills it without allocating.
 #[derive(Drop)]
-pub struct NcVetted {
-    at: *mut u8,
-    alloc: Global,
-    pub ghost value: { Option Kept } by { may_coded },
-}
-
-impl Model for NcVetted {
-    ghost also_owns = { λ h. may_own h.alloc h.at h.value };
-}
-
-impl NcVetted {
-    /// A handle to nothing.
-    fn nothing(alloc: Global) -> NcVetted
-        ensures { result.value ≡ None }
-    {
-        NcVetted {
-            at: null_mut(),
-            alloc,
-        }
-    }
-
-    /// A handle to the value of these parts.
-    fn of_parts(parts: Parts<Kept, Global>) -> NcVetted
-        ensures { result.value ≡ Some parts.value }
-    {
-        let Parts { ptr, alloc } = parts;
-        NcVetted {
-            at: ptr as *mut u8,
-            alloc,
-        }
-    }
-
-    /// The parts of the handle's value, if it has one.
-    fn into_parts(self) -> Option<Parts<Kept, Global>>
-        ensures { MatchOption result (self.value ≡ None) (λ parts. self.value ≡ Some parts.value) }
-    {
-        let NcVetted { at, alloc } = self;
-        if at.is_null() {
-            None
-        } else {
-            Some(Parts {
-                ptr: at as *mut Kept,
-                alloc,
-            })
-        }
-    }
-
-    /// A handle to this vetted chunk, which may be moved to another thread.
-    pub fn of(boxed: Box<Kept, Global>) -> NcVetted
-        ensures { result.value ≡ Some boxed.value }
-    {
-        NcVetted::of_parts(Parts::of(sent(boxed)))
-    }
-
-    /// Takes the vetted chunk out of the handle, if it has one. Afterwards the handle has nothing.
-    pub fn take(&mut self, alloc: Global) -> Option<Box<Kept, Global>>
-        ensures some { IfSome result (λ boxed. self.old.value ≡ Some boxed.value) }
-        ensures none { IsNone result → self.old.value ≡ None }
-        ensures left { self.new.value ≡ None }
-    {
-        match replace(self, NcVetted::nothing(alloc)).into_parts() {
-            None => None,
-            Some(parts) => Some(parts.into_box()),
-        }
-    }
+pub struct VettedHandle {
+    pub chunk: Option<Vetted>,
 }

@@ -4,7 +4,7 @@ ghost use Rattle.std.specs.Prelude.{◌≡◌, ◌+◌, ◌<◌, ◌≤◌, ℕ,
 ghost use Rattle.nc_region.specs.Region.{IsRegion};
 ghost use Rattle.nc_handle.specs.machinery.Window.{HoldsText};
 
-use crate::held::Owned;
+use crate::region_handle::Owned;
 use nc_decode::START;
 use nc_region::RegionOf;
 

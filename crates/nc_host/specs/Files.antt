@@ -1,4 +1,4 @@
--- The loaded segments of an ELF file as a host is told of them: the numbers of refusals.
+-- The loaded segments of an ELF file as they are reported to a host: the numbers of refusals.
 use Rattle.std.specs.Prelude.{ℕ}
 use Rattle.nc_elf.specs.declared.fault.ElfFault.{ElfFault}
 use Rattle.nc_elf.specs.declared.fault.ElfFault.TheVariants.{NotElf, ShortHeader, Elf64, OtherFormat, OtherMachine, Unlinked}
@@ -39,8 +39,8 @@ abbrev pub elf_header : ElfFault → ℕ
 elf_header (BadSegment number fault) = number
 elf_header _ = 0
 
--- a refusal as a host is told of it: 9 for no room, with the number of segments; else the number of the file's fault, with the
--- program header, and no segments
+-- a refusal as it is reported to a host: 9 for no room, with the number of segments; else the number of the file's fault,
+-- with the program header, and no segments
 abbrev pub refused_file : LoadedFault → NcSegments
 refused_file (NoRoom wanted) = record { count = wanted; fault = 9; header = 0 }
 refused_file (Refused fault) = record { count = 0; fault = elf_number fault; header = elf_header fault }

@@ -15,8 +15,8 @@ use Rattle.nc_handle.specs.declared.fault.PatchFault.{PatchFault}
 use Rattle.nc_handle.specs.declared.fault.PatchFault.TheVariants as patch
 use Rattle.nc_handle.specs.declared.fault.RetireFault.{RetireFault}
 use Rattle.nc_handle.specs.declared.fault.RetireFault.TheVariants as retire
-use Rattle.nc_handle.specs.declared.kept.Kept.{Kept}
-use Rattle.nc_handle.specs.Held.{HeldState}
+use Rattle.nc_handle.specs.declared.vetted_handle.VettedHandle.{VettedHandle}
+use Rattle.nc_handle.specs.RegionHandle.{RegionHandleState}
 use Rattle.nc_handle.specs.Pending.{ChangesPages}
 use Rattle.nc_host.specs.Shown.{patch_number}
 
@@ -31,9 +31,9 @@ pub record IsDone {X : Type 0} (old new : Option X) (step : X → X → Type 0) 
 -- the fault is 32 and the handle has nothing; or it is the number of a refusal that its value may get, with the count
 -- that the refusal needs
 abbrev pub IsRefusal : {X F : Type 0} → Option X → (X → F → Type 0) → (F → ℕ) → (F → ℕ) → (fault count : ℕ) → Type 0
-IsRefusal {X} {F} held may number wanted fault count =
-    ((held ≡ None) × (fault ≡ 32) × (count ≡ 0))
-    ⊎ ((x : X) × (f : F) × (held ≡ Some x) × may x f × (fault ≡ number f) × (count ≡ wanted f))
+IsRefusal {X} {F} handle may number wanted fault count =
+    ((handle ≡ None) × (fault ≡ 32) × (count ≡ 0))
+    ⊎ ((x : X) × (f : F) × (handle ≡ Some x) × may x f × (fault ≡ number f) × (count ≡ wanted f))
 
 -- the number of a refused `new`
 abbrev pub new_number : NewFault → ℕ
@@ -90,14 +90,14 @@ abbrev pub IsVetted : (base limit : ℕ) → List ℕ → MarkedChunk → Type 0
 IsVetted base limit code v = (v.base ≡ base) × (v.limit ≡ limit) × (v.code ≡ code) × IsValid v
 
 -- the handle has a valid chunk of this code at this base for this limit
-abbrev pub HoldsVetted : (base limit : ℕ) → List ℕ → Option Kept → Type 0
-HoldsVetted base limit code held = (k : Kept) × (held ≡ Some k) × ((v : MarkedChunk) × (k.chunk ≡ Some v) × IsVetted base limit code v)
+abbrev pub HoldsVetted : (base limit : ℕ) → List ℕ → Option VettedHandle → Type 0
+HoldsVetted base limit code handle = (k : VettedHandle) × (handle ≡ Some k) × ((v : MarkedChunk) × (k.chunk ≡ Some v) × IsVetted base limit code v)
 
 -- the chunk is valid, with this code at this base, for the region's limit
-abbrev pub IsChunkFor : HeldState → ℕ → List ℕ → MarkedChunk → Type 0
+abbrev pub IsChunkFor : RegionHandleState → ℕ → List ℕ → MarkedChunk → Type 0
 IsChunkFor h base code v = IsVetted base (limit_of h.region.marked.bytes) code v
 
 -- all is as before, except that pages of the text that overlap this span may have been allocated (`GetsReady` of
 -- nc_text)
-abbrev pub IsSameButPages : (base len : ℕ) → HeldState → HeldState → Type 0
+abbrev pub IsSameButPages : (base len : ℕ) → RegionHandleState → RegionHandleState → Type 0
 IsSameButPages base len old new = ChangesPages old new × GetsReady old.region.made new.region.made base len

@@ -1,4 +1,4 @@
--- The numbers that a host is told if runs are refused.
+-- The numbers reported to a host if runs are refused.
 use Rattle.std.specs.Prelude.{ℕ}
 use Rattle.nc_handle.specs.declared.fault.RunsFault.{RunsFault}
 use Rattle.nc_handle.specs.declared.fault.RunsFault.TheVariants.{NoChunk, NoRoom}

@@ -1,4 +1,4 @@
--- A walk as a host is told of it.
+-- A walk as it is reported to a host.
 use Rattle.std.specs.Prelude.{◌≡◌, ◌⊎◌, ◌<◌, ℕ, List, length}
 use Rattle.nc_region.specs.declared.trace.End.{End}
 use Rattle.nc_region.specs.declared.trace.End.TheVariants.{Stop, Trampoline, Beyond, More}
@@ -21,30 +21,30 @@ walk_of count end = record { count = count; fault = 0; end = end_number end }
 abbrev pub no_walk : ℕ → NcWalk
 no_walk fault = record { count = 0; fault = fault; end = 0 }
 
--- The walk told is a trace (`IsTrace`) over safe states, the only one by these choices from this bundle start of the
+-- The reported walk is a trace (`IsTrace`) over safe states, the only one by these choices from this bundle start of the
 -- region. The buffer begins with its places; the rest of it is as before.
-pub record IsShownWalk (text : List ℕ) (start : ℕ) (choices : List ℕ) (told : NcWalk) (old new : List ℕ) : Type 0 where
+pub record IsShownWalk (text : List ℕ) (start : ℕ) (choices : List ℕ) (reported : NcWalk) (old new : List ℕ) : Type 0 where
   pub places : List ℕ
   pub end : End
   pub begins : IsWalkStart text start
   pub trace : IsTrace text start choices places end
   pub only : IsOnlyTrace text start choices places end
   pub safe : IsSafeWalk text start choices end
-  pub numbers : told ≡ walk_of (length places) end
+  pub numbers : reported ≡ walk_of (length places) end
   pub written : new ≡ over places old
 
--- there is a walk over more places than the buffer holds; fault 9 is told, with the number of its places
-pub record IsLongWalk (text : List ℕ) (start : ℕ) (choices : List ℕ) (room : ℕ) (told : NcWalk) : Type 0 where
+-- there is a walk over more places than the buffer holds; fault 9 is reported, with the number of its places
+pub record IsLongWalk (text : List ℕ) (start : ℕ) (choices : List ℕ) (room : ℕ) (reported : NcWalk) : Type 0 where
   pub places : List ℕ
   pub end : End
   pub begins : IsWalkStart text start
   pub trace : IsTrace text start choices places end
   pub longer : room < length places
-  pub numbers : told ≡ record { count = length places; fault = 9; end = 0 }
+  pub numbers : reported ≡ record { count = length places; fault = 9; end = 0 }
 
 -- when a walk is refused: 44 if no walk may begin there; 8, lack of memory, only if one may; 9, with the number of places,
 -- if the buffer holds fewer
 abbrev pub MayRefuseShownWalk : List ℕ → ℕ → List ℕ → ℕ → NcWalk → Type 0
-MayRefuseShownWalk text start choices room told =
-    ((told ≡ no_walk 44) × ¬ IsWalkStart text start)
-    ⊎ (((told ≡ no_walk 8) × IsWalkStart text start) ⊎ IsLongWalk text start choices room told)
+MayRefuseShownWalk text start choices room reported =
+    ((reported ≡ no_walk 44) × ¬ IsWalkStart text start)
+    ⊎ (((reported ≡ no_walk 8) × IsWalkStart text start) ⊎ IsLongWalk text start choices room reported)

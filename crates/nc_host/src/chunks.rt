@@ -5,7 +5,7 @@ ghost use Rattle.nc_host.specs.Handles.{IsVetted};
 ghost use Rattle.nc_host.specs.Outcomes.{IsChunkFault};
 
 use crate::lent_answers::NcVerdict;
-use crate::lent_vet::told;
+use crate::lent_vet::verdict_of;
 use nc_vet::{VetFault, Vetted, judge};
 use std::alloc::Global;
 
@@ -21,10 +21,10 @@ pub(crate) fn vet_copy(
 {
     let marks = match judge(alloc, base, limit, code) {
         Ok(marks) => marks,
-        Err(fault) => return Err(told(fault)),
+        Err(fault) => return Err(verdict_of(fault)),
     };
     match code.to_vec(alloc) {
         Ok(copy) => Ok(Vetted::new(base, limit, copy, marks)),
-        Err(_) => Err(told(VetFault::OutOfMemory)),
+        Err(_) => Err(verdict_of(VetFault::OutOfMemory)),
     }
 }

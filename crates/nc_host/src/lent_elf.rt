@@ -86,7 +86,7 @@ pub extern "C" fn nc_host_elf(file: &[u8], segments: &mut [NcSegment]) -> NcSegm
     ensures apart { result.fault ≡ 0 → AllPairs IsLoadedBelow (loaded_segments_of file.now) }
     // A refusal says what is wrong with the file, or how much room it needs.
     ensures refused { 0 < result.fault → (f : LoadedFault) × MayRefuseLoaded file.now (length segments.old) f × (result ≡ refused_file f) }
-    // The fault that a file has is the one that is told.
+    // The fault that a file has is the one that is reported.
     ensures exact { (f : ElfFault) → f ≢ ElfFault.OutOfMemory → HasElfFault file.now f → result ≡ refused_file (LoadedFault.Refused f) }
     ensures untouched { 0 < result.fault → segments.new ≡ segments.old }
 {

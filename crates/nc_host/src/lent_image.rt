@@ -8,7 +8,7 @@ ghost use Rattle.nc_text.specs.Places.{limit_of};
 ghost use Rattle.nc_host.specs.Outcomes.{IsAccepted, IsChunkFault, IsOutcome};
 
 use crate::lent_answers::NcVerdict;
-use crate::lent_vet::told;
+use crate::lent_vet::verdict_of;
 use nc_decode::{BUNDLE, MAX_BUNDLES, START};
 use nc_vet::judge;
 use std::alloc::Global;
@@ -33,7 +33,7 @@ fn judge_in(alloc: Global, base: u32, code: &[u8], size: usize) -> Result<(), Nc
 {
     match judge(alloc, base, limit_for(size), code) {
         Ok(_marks) => Ok(()),
-        Err(fault) => Err(told(fault)),
+        Err(fault) => Err(verdict_of(fault)),
     }
 }
 

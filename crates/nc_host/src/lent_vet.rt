@@ -11,7 +11,7 @@ use nc_vet::{Marks, VetFault, judge};
 use std::alloc::Global;
 
 /// A fault as a host reads it.
-pub(crate) fn told(fault: VetFault) -> NcVerdict
+pub(crate) fn verdict_of(fault: VetFault) -> NcVerdict
     ensures { result ≡ record { fault = fault_number fault; at = fault_place fault } }
 {
     let (fault, at) = match fault {
@@ -47,7 +47,7 @@ pub(crate) fn admit(
             fault: NO_ROOM,
             at: 0,
         }),
-        Err(fault) => Err(told(fault)),
+        Err(fault) => Err(verdict_of(fault)),
     }
 }
 

@@ -6,9 +6,9 @@ ghost use Rattle.nc_vet.specs.Chunk.{MarkedChunk, Piece};
 ghost use Rattle.nc_region.specs.Log.{log_of_create};
 ghost use Rattle.nc_region.specs.Patch.{AreBytesOf, IsModified, IsPatch, log_of_modify};
 ghost use Rattle.nc_region.specs.Region.{IsCreated};
-ghost use Rattle.nc_handle.specs.Held.{HasLoaded, HasPatched, HeldState, IsShortForPatch, MayRefuseLoad, MayRefuseModify};
-ghost use Rattle.nc_handle.specs.Pending.{TellsPending};
-ghost use Rattle.nc_handle.specs.Lent.{IsTold};
+ghost use Rattle.nc_handle.specs.RegionHandle.{HasLoaded, HasPatched, RegionHandleState, IsShortForPatch, MayRefuseLoad, MayRefuseModify};
+ghost use Rattle.nc_handle.specs.Pending.{ReportsPending};
+ghost use Rattle.nc_handle.specs.Lent.{IsReported};
 ghost use Rattle.nc_handle.specs.declared.fault.LoadFault.{LoadFault};
 ghost use Rattle.nc_handle.specs.declared.fault.PatchFault.{PatchFault};
 ghost use Rattle.nc_host.specs.Handles.{IsChunkFor, IsDone, IsRefusal, IsSameButPages, load_number, load_wanted, modify_number, modify_wanted};
@@ -17,23 +17,23 @@ ghost use Rattle.nc_host.specs.Outcomes.{IsChunkFault};
 use crate::chunks::vet_copy;
 use crate::numbers::{NOTHING, load_numbers, modify_numbers};
 use crate::region_answers::{NcChange, no_change};
-use nc_handle::{Held, NcAct, NcRegion};
+use nc_handle::{NcAct, NcRegion, RegionHandle};
 use nc_vet::Vetted;
 use std::alloc::Global;
 
 /// Creates a vetted chunk, and returns the result as numbers.
-pub(crate) fn load(held: &mut Held, vetted: Vetted, acts: &mut [NcAct]) -> NcChange
-    ensures created { result.fault ≡ 0 → HasLoaded vetted held.old held.new }
-    ensures told { result.fault ≡ 0 → IsTold acts.old acts.new result.count (log_of_create vetted.base vetted.code) }
-    ensures pending { result.fault ≡ 0 → TellsPending held.old held.new vetted acts.old acts.new result.count }
+pub(crate) fn load(handle: &mut RegionHandle, vetted: Vetted, acts: &mut [NcAct]) -> NcChange
+    ensures created { result.fault ≡ 0 → HasLoaded vetted handle.old handle.new }
+    ensures reported { result.fault ≡ 0 → IsReported acts.old acts.new result.count (log_of_create vetted.base vetted.code) }
+    ensures pending { result.fault ≡ 0 → ReportsPending handle.old handle.new vetted acts.old acts.new result.count }
     ensures untouched { 0 < result.fault → acts.new ≡ acts.old }
-    ensures unchanged { 0 < result.fault → (held.new ≡ held.old)
-        ⊎ ((result.fault ≡ 8) × IsSameButPages vetted.base (length vetted.code) held.old held.new) }
+    ensures unchanged { 0 < result.fault → (handle.new ≡ handle.old)
+        ⊎ ((result.fault ≡ 8) × IsSameButPages vetted.base (length vetted.code) handle.old handle.new) }
     ensures at { result.at ≡ 0 }
-    ensures refused { 0 < result.fault → (f : LoadFault) × MayRefuseLoad held.old vetted (length acts.old) f
+    ensures refused { 0 < result.fault → (f : LoadFault) × MayRefuseLoad handle.old vetted (length acts.old) f
         × (result.fault ≡ load_number f) × (result.count ≡ load_wanted f) }
 {
-    match held.create(vetted, acts) {
+    match handle.create(vetted, acts) {
         Ok(count) => no_change(0, count),
         Err((_vetted, fault)) => {
             let (number, wanted) = load_numbers(fault);
@@ -45,26 +45,26 @@ pub(crate) fn load(held: &mut Held, vetted: Vetted, acts: &mut [NcAct]) -> NcCha
 /// Vets a chunk and creates it, and returns the result as numbers.
 fn vet_and_load(
     alloc: Global,
-    held: &mut Held,
+    handle: &mut RegionHandle,
     base: u32,
     code: &[u8],
     acts: &mut [NcAct],
 ) -> NcChange
-    ensures created { result.fault ≡ 0 → (v : MarkedChunk) × IsChunkFor held.old base code.now v × HasLoaded v held.old held.new }
-    ensures told { result.fault ≡ 0 → IsTold acts.old acts.new result.count (log_of_create base code.now) }
+    ensures created { result.fault ≡ 0 → (v : MarkedChunk) × IsChunkFor handle.old base code.now v × HasLoaded v handle.old handle.new }
+    ensures reported { result.fault ≡ 0 → IsReported acts.old acts.new result.count (log_of_create base code.now) }
     ensures pending { result.fault ≡ 0 → (v : MarkedChunk) × (v.base ≡ base) × (v.code ≡ code.now)
-        × TellsPending held.old held.new v acts.old acts.new result.count }
+        × ReportsPending handle.old handle.new v acts.old acts.new result.count }
     ensures untouched { 0 < result.fault → acts.new ≡ acts.old }
-    ensures unchanged { 0 < result.fault → (held.new ≡ held.old)
-        ⊎ ((result.fault ≡ 8) × IsSameButPages base (length code.now) held.old held.new) }
+    ensures unchanged { 0 < result.fault → (handle.new ≡ handle.old)
+        ⊎ ((result.fault ≡ 8) × IsSameButPages base (length code.now) handle.old handle.new) }
     ensures at { result.fault ≡ 0 → result.at ≡ 0 }
     ensures refused { 0 < result.fault → ((result.count ≡ 0)
-        × IsChunkFault base (limit_of held.old.region.marked.bytes) code.now result.fault result.at)
-        ⊎ ((result.at ≡ 0) × ((v : MarkedChunk) × IsChunkFor held.old base code.now v
-        × ((f : LoadFault) × MayRefuseLoad held.old v (length acts.old) f × (result.fault ≡ load_number f) × (result.count ≡ load_wanted f)))) }
+        × IsChunkFault base (limit_of handle.old.region.marked.bytes) code.now result.fault result.at)
+        ⊎ ((result.at ≡ 0) × ((v : MarkedChunk) × IsChunkFor handle.old base code.now v
+        × ((f : LoadFault) × MayRefuseLoad handle.old v (length acts.old) f × (result.fault ≡ load_number f) × (result.count ≡ load_wanted f)))) }
 {
-    match vet_copy(alloc, base, held.limit(), code) {
-        Ok(vetted) => load(held, vetted, acts),
+    match vet_copy(alloc, base, handle.limit(), code) {
+        Ok(vetted) => load(handle, vetted, acts),
         Err(verdict) => NcChange {
             fault: verdict.fault,
             at: verdict.at,
@@ -89,43 +89,43 @@ pub extern "C" fn nc_region_create(
     ensures created { result.fault ≡ 0 → IsDone region.old.value region.new.value
         (λ old new. (v : MarkedChunk) × IsChunkFor old base code.now v × HasLoaded v old new) }
     // The acts written are those of a creation, with the settling.
-    ensures told { result.fault ≡ 0 → IsTold acts.old acts.new result.count (log_of_create base code.now) }
+    ensures reported { result.fault ≡ 0 → IsReported acts.old acts.new result.count (log_of_create base code.now) }
     // The acts in the buffer are then pending, for a chunk of this code.
     ensures pending { result.fault ≡ 0 → IsDone region.old.value region.new.value (λ old new. (v : MarkedChunk) × (v.base ≡ base)
-        × (v.code ≡ code.now) × TellsPending old new v acts.old acts.new result.count) }
+        × (v.code ≡ code.now) × ReportsPending old new v acts.old acts.new result.count) }
     ensures untouched { 0 < result.fault → acts.new ≡ acts.old }
     ensures unchanged { 0 < result.fault → (region.new.value ≡ region.old.value)
         ⊎ ((result.fault ≡ 8) × IsDone region.old.value region.new.value (IsSameButPages base (length code.now))) }
     ensures at { result.fault ≡ 0 → result.at ≡ 0 }
     // Each refusal is returned when it is due: there is no region, the chunk has a fault, or the region refuses it.
     ensures refused { 0 < result.fault → ((region.old.value ≡ None) × (result ≡ record { fault = 32; at = 0; count = 0 }))
-        ⊎ ((h : HeldState) × (region.old.value ≡ Some h) × (
+        ⊎ ((h : RegionHandleState) × (region.old.value ≡ Some h) × (
         ((result.count ≡ 0) × IsChunkFault base (limit_of h.region.marked.bytes) code.now result.fault result.at)
         ⊎ ((result.at ≡ 0) × ((v : MarkedChunk) × IsChunkFor h base code.now v
         × ((f : LoadFault) × MayRefuseLoad h v (length acts.old) f × (result.fault ≡ load_number f) × (result.count ≡ load_wanted f)))))) }
 {
-    let Some(mut held) = region.take(alloc) else {
+    let Some(mut handle) = region.take(alloc) else {
         return no_change(NOTHING, 0);
     };
-    let change = vet_and_load(alloc, &mut held, base, code, acts);
-    *region = NcRegion::of(held);
+    let change = vet_and_load(alloc, &mut handle, base, code, acts);
+    *region = NcRegion::of(handle);
     change
 }
 
 /// Patches a chunk, and returns the result as numbers.
-fn patch(held: &mut Held, at: u32, new: &[u8], acts: &mut [NcAct]) -> NcChange
-    ensures modified { result.fault ≡ 0 → HasPatched at new.now held.old held.new }
+fn patch(handle: &mut RegionHandle, at: u32, new: &[u8], acts: &mut [NcAct]) -> NcChange
+    ensures modified { result.fault ≡ 0 → HasPatched at new.now handle.old handle.new }
     ensures allowed { result.fault ≡ 0 → ¬ IsShortForPatch (length acts.old) (length new.now) }
-    ensures told { result.fault ≡ 0 → (news : List Piece) → AreBytesOf new.now news
-        → IsTold acts.old acts.new result.count (log_of_modify held.old.region.marked.bytes at news) }
-    ensures pending { (v : MarkedChunk) → result.fault ≡ 0 → TellsPending held.old held.new v acts.old acts.new result.count }
+    ensures reported { result.fault ≡ 0 → (news : List Piece) → AreBytesOf new.now news
+        → IsReported acts.old acts.new result.count (log_of_modify handle.old.region.marked.bytes at news) }
+    ensures pending { (v : MarkedChunk) → result.fault ≡ 0 → ReportsPending handle.old handle.new v acts.old acts.new result.count }
     ensures untouched { 0 < result.fault → acts.new ≡ acts.old }
-    ensures unchanged { 0 < result.fault → held.new ≡ held.old }
+    ensures unchanged { 0 < result.fault → handle.new ≡ handle.old }
     ensures at { result.at ≡ 0 }
-    ensures refused { 0 < result.fault → (f : PatchFault) × MayRefuseModify held.old at new.now (length acts.old) f
+    ensures refused { 0 < result.fault → (f : PatchFault) × MayRefuseModify handle.old at new.now (length acts.old) f
         × (result.fault ≡ modify_number f) × (result.count ≡ modify_wanted f) }
 {
-    match held.modify(at, new, acts) {
+    match handle.modify(at, new, acts) {
         Ok(count) => no_change(0, count),
         Err(fault) => {
             let (number, wanted) = modify_numbers(fault);
@@ -152,11 +152,11 @@ pub extern "C" fn nc_region_patch(
     // A lent buffer had room for three acts for each byte.
     ensures allowed { result.fault ≡ 0 → ¬ IsShortForPatch (length acts.old) (length bytes.now) }
     // The acts written are those of a patch of the region's own bytes, with the settlings.
-    ensures told { result.fault ≡ 0 → (h : HeldState) (news : List Piece) → region.old.value ≡ Some h → AreBytesOf bytes.now news
-        → IsTold acts.old acts.new result.count (log_of_modify h.region.marked.bytes at news) }
+    ensures reported { result.fault ≡ 0 → (h : RegionHandleState) (news : List Piece) → region.old.value ≡ Some h → AreBytesOf bytes.now news
+        → IsReported acts.old acts.new result.count (log_of_modify h.region.marked.bytes at news) }
     // The acts in the buffer are then pending.
     ensures pending { (v : MarkedChunk) → result.fault ≡ 0 → IsDone region.old.value region.new.value
-        (λ old new. TellsPending old new v acts.old acts.new result.count) }
+        (λ old new. ReportsPending old new v acts.old acts.new result.count) }
     ensures untouched { 0 < result.fault → acts.new ≡ acts.old }
     ensures unchanged { 0 < result.fault → region.new.value ≡ region.old.value }
     ensures at { result.at ≡ 0 }
@@ -164,10 +164,10 @@ pub extern "C" fn nc_region_patch(
     ensures refused { 0 < result.fault → IsRefusal region.old.value (λ h f. MayRefuseModify h at bytes.now (length acts.old) f)
         modify_number modify_wanted result.fault result.count }
 {
-    let Some(mut held) = region.take(alloc) else {
+    let Some(mut handle) = region.take(alloc) else {
         return no_change(NOTHING, 0);
     };
-    let change = patch(&mut held, at, bytes, acts);
-    *region = NcRegion::of(held);
+    let change = patch(&mut handle, at, bytes, acts);
+    *region = NcRegion::of(handle);
     change
 }

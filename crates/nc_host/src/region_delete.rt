@@ -4,29 +4,29 @@ ghost use Rattle.std.specs.Prelude.{◌≡◌, ◌<◌, ◌⊎◌, ℕ, None, So
 ghost use Rattle.nc_vet.specs.Chunk.{MarkedChunk};
 ghost use Rattle.nc_list.specs.declared.chunk.Chunk.{Chunk};
 ghost use Rattle.nc_region.specs.Log.{log_of_delete};
-ghost use Rattle.nc_handle.specs.Held.{HeldState, HasBegun, HasEnded, HasReclaimed, MayRefuseBegin};
-ghost use Rattle.nc_handle.specs.Pending.{TellsPending, DoesItself};
-ghost use Rattle.nc_handle.specs.Lent.{IsTold};
+ghost use Rattle.nc_handle.specs.RegionHandle.{RegionHandleState, HasBegun, HasEnded, HasReclaimed, MayRefuseBegin};
+ghost use Rattle.nc_handle.specs.Pending.{ReportsPending, DoesItself};
+ghost use Rattle.nc_handle.specs.Lent.{IsReported};
 ghost use Rattle.nc_handle.specs.declared.fault.RetireFault.{RetireFault};
 ghost use Rattle.nc_host.specs.Handles.{IsDone, IsRefusal, retire_number, retire_wanted};
 
 use crate::numbers::{NOT_BEGUN, NOTHING, UNDERWAY, retire_numbers};
 use crate::region_answers::{NcChange, NcCount, NcStamp, no_change};
-use nc_handle::{Held, NcAct, NcRegion};
+use nc_handle::{NcAct, NcRegion, RegionHandle};
 use std::alloc::Global;
 
 /// The first call of a deletion, with its result as numbers.
-fn begin(held: &mut Held, base: u32, acts: &mut [NcAct]) -> NcChange
-    ensures begun { result.fault ≡ 0 → (c : Chunk) × HasBegun held.old held.new base c
-        × IsTold acts.old acts.new result.count (log_of_delete held.old.region.marked.marks base c.length) }
-    ensures pending { (v : MarkedChunk) → result.fault ≡ 0 → TellsPending held.old held.new v acts.old acts.new result.count }
+fn begin(handle: &mut RegionHandle, base: u32, acts: &mut [NcAct]) -> NcChange
+    ensures begun { result.fault ≡ 0 → (c : Chunk) × HasBegun handle.old handle.new base c
+        × IsReported acts.old acts.new result.count (log_of_delete handle.old.region.marked.marks base c.length) }
+    ensures pending { (v : MarkedChunk) → result.fault ≡ 0 → ReportsPending handle.old handle.new v acts.old acts.new result.count }
     ensures untouched { 0 < result.fault → acts.new ≡ acts.old }
-    ensures unchanged { 0 < result.fault → held.new ≡ held.old }
+    ensures unchanged { 0 < result.fault → handle.new ≡ handle.old }
     ensures at { result.at ≡ 0 }
-    ensures refused { 0 < result.fault → (f : RetireFault) × MayRefuseBegin held.old base (length acts.old) f
+    ensures refused { 0 < result.fault → (f : RetireFault) × MayRefuseBegin handle.old base (length acts.old) f
         × (result.fault ≡ retire_number f) × (result.count ≡ retire_wanted f) }
 {
-    match held.begin_delete(base, acts) {
+    match handle.begin_delete(base, acts) {
         Ok((_chunk, count)) => no_change(0, count),
         Err(fault) => {
             let (number, wanted) = retire_numbers(fault);
@@ -49,10 +49,10 @@ pub extern "C" fn nc_region_begin_delete(
 ) -> NcChange
     // The acts written are those of a deletion, by the region's own marks, with the settling.
     ensures begun { result.fault ≡ 0 → IsDone region.old.value region.new.value (λ old new. (c : Chunk) × HasBegun old new base c
-        × IsTold acts.old acts.new result.count (log_of_delete old.region.marked.marks base c.length)) }
+        × IsReported acts.old acts.new result.count (log_of_delete old.region.marked.marks base c.length)) }
     // The acts in the buffer, up to the stamp, are then pending.
     ensures pending { (v : MarkedChunk) → result.fault ≡ 0 → IsDone region.old.value region.new.value
-        (λ old new. TellsPending old new v acts.old acts.new result.count) }
+        (λ old new. ReportsPending old new v acts.old acts.new result.count) }
     ensures untouched { 0 < result.fault → acts.new ≡ acts.old }
     ensures unchanged { 0 < result.fault → region.new.value ≡ region.old.value }
     ensures at { result.at ≡ 0 }
@@ -60,11 +60,11 @@ pub extern "C" fn nc_region_begin_delete(
     ensures refused { 0 < result.fault → IsRefusal region.old.value (λ h f. MayRefuseBegin h base (length acts.old) f)
         retire_number retire_wanted result.fault result.count }
 {
-    let Some(mut held) = region.take(alloc) else {
+    let Some(mut handle) = region.take(alloc) else {
         return no_change(NOTHING, 0);
     };
-    let change = begin(&mut held, base, acts);
-    *region = NcRegion::of(held);
+    let change = begin(&mut handle, base, acts);
+    *region = NcRegion::of(handle);
     change
 }
 
@@ -77,16 +77,16 @@ pub extern "C" fn nc_region_end_delete(alloc: Global, region: &mut NcRegion) -> 
     ensures pending { (seats : ℕ) → result.fault ≡ 0 → IsDone region.old.value region.new.value (DoesItself seats) }
     ensures unchanged { 0 < result.fault → (result.stamp ≡ 0) × (region.new.value ≡ region.old.value) }
     ensures refused { 0 < result.fault → ((result.fault ≡ 32) × (region.old.value ≡ None))
-        ⊎ ((result.fault ≡ 38) × ((h : HeldState) × (region.old.value ≡ Some h) × (h.begun ≡ None))) }
+        ⊎ ((result.fault ≡ 38) × ((h : RegionHandleState) × (region.old.value ≡ Some h) × (h.begun ≡ None))) }
 {
-    let Some(mut held) = region.take(alloc) else {
+    let Some(mut handle) = region.take(alloc) else {
         return NcStamp {
             stamp: 0,
             fault: NOTHING,
         };
     };
-    let ended = held.end_delete();
-    *region = NcRegion::of(held);
+    let ended = handle.end_delete();
+    *region = NcRegion::of(handle);
     match ended {
         Some(stamp) => NcStamp { stamp, fault: 0 },
         None => NcStamp {
@@ -103,19 +103,19 @@ pub extern "C" fn nc_region_reclaim(alloc: Global, region: &mut NcRegion) -> NcC
     ensures reclaimed { result.fault ≡ 0 → IsDone region.old.value region.new.value (λ old new. HasReclaimed old new result.count) }
     // The library has made all that is pending itself, first for the seats not given out.
     ensures pending { (seats : ℕ) → result.fault ≡ 0 → IsDone region.old.value region.new.value
-        (λ old new. (met : HeldState) × DoesItself seats old met × DoesItself seats met new) }
+        (λ old new. (met : RegionHandleState) × DoesItself seats old met × DoesItself seats met new) }
     ensures unchanged { 0 < result.fault → (result.count ≡ 0) × (region.new.value ≡ region.old.value) }
     ensures refused { 0 < result.fault → ((result.fault ≡ 32) × (region.old.value ≡ None))
-        ⊎ ((result.fault ≡ 37) × ((h : HeldState) × (region.old.value ≡ Some h) × IsSome h.begun)) }
+        ⊎ ((result.fault ≡ 37) × ((h : RegionHandleState) × (region.old.value ≡ Some h) × IsSome h.begun)) }
 {
-    let Some(mut held) = region.take(alloc) else {
+    let Some(mut handle) = region.take(alloc) else {
         return NcCount {
             fault: NOTHING,
             count: 0,
         };
     };
-    let freed = held.reclaim();
-    *region = NcRegion::of(held);
+    let freed = handle.reclaim();
+    *region = NcRegion::of(handle);
     match freed {
         Some(count) => NcCount { fault: 0, count },
         None => NcCount {

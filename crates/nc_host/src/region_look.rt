@@ -6,14 +6,14 @@ ghost use Rattle.nc_text.specs.Places.{InRegion, byte_at, limit_of};
 ghost use Rattle.nc_vet.specs.Faults.{HasGoodSpan};
 ghost use Rattle.nc_list.specs.declared.chunk.Chunk.{Chunk};
 ghost use Rattle.nc_region.specs.Region.{IsAboveAll, IsNextChunk};
-ghost use Rattle.nc_handle.specs.Held.{HeldState};
+ghost use Rattle.nc_handle.specs.RegionHandle.{RegionHandleState};
 ghost use Rattle.nc_host.specs.Shown.{mark_number};
 ghost use Rattle.nc_host.specs.Looks.{chunk_of, no_chunk, shown_place, no_place};
 
 use crate::numbers::{NO_CHUNK, NO_PLACE, NOTHING};
 use crate::region_answers::{NcChunk, NcPlace, NcStamp, no_chunk, no_place};
 use nc_decode::Mark;
-use nc_handle::{Held, NcRegion};
+use nc_handle::{NcRegion, RegionHandle};
 use nc_region::{Chunk, ChunkState};
 use std::alloc::Global;
 
@@ -38,16 +38,16 @@ fn shown(chunk: Chunk) -> NcChunk
 #[unsafe(no_mangle)]
 pub extern "C" fn nc_region_chunk(alloc: Global, region: &mut NcRegion, index: usize) -> NcChunk
     ensures same { region.new.value ≡ region.old.value }
-    ensures chunk { result.fault ≡ 0 → (h : HeldState) × (region.old.value ≡ Some h)
+    ensures chunk { result.fault ≡ 0 → (h : RegionHandleState) × (region.old.value ≡ Some h)
         × ((c : Chunk) × (slice_get h.region.chunks index ≡ Some c) × (result ≡ chunk_of c)) }
     ensures refused { 0 < result.fault → ((result ≡ no_chunk 32) × (region.old.value ≡ None))
-        ⊎ ((result ≡ no_chunk 41) × ((h : HeldState) × (region.old.value ≡ Some h) × (slice_get h.region.chunks index ≡ None))) }
+        ⊎ ((result ≡ no_chunk 41) × ((h : RegionHandleState) × (region.old.value ≡ Some h) × (slice_get h.region.chunks index ≡ None))) }
 {
-    let Some(held) = region.take(alloc) else {
+    let Some(handle) = region.take(alloc) else {
         return no_chunk(NOTHING);
     };
-    let chunk = held.chunk(index);
-    *region = NcRegion::of(held);
+    let chunk = handle.chunk(index);
+    *region = NcRegion::of(handle);
     match chunk {
         Some(chunk) => shown(chunk),
         None => no_chunk(NO_CHUNK),
@@ -59,18 +59,18 @@ pub extern "C" fn nc_region_chunk(alloc: Global, region: &mut NcRegion, index: u
 #[unsafe(no_mangle)]
 pub extern "C" fn nc_region_chunk_at(alloc: Global, region: &mut NcRegion, at: u32) -> NcChunk
     ensures same { region.new.value ≡ region.old.value }
-    ensures chunk { result.fault ≡ 0 → (h : HeldState) × (region.old.value ≡ Some h)
+    ensures chunk { result.fault ≡ 0 → (h : RegionHandleState) × (region.old.value ≡ Some h)
         × ((c : Chunk) × IsNextChunk h.region.chunks at c × (result ≡ chunk_of c)) }
-    ensures placed { result.fault ≡ 0 → (h : HeldState) × (region.old.value ≡ Some h)
+    ensures placed { result.fault ≡ 0 → (h : RegionHandleState) × (region.old.value ≡ Some h)
         × HasGoodSpan result.base (limit_of h.region.marked.bytes) result.length }
     ensures refused { 0 < result.fault → ((result ≡ no_chunk 32) × (region.old.value ≡ None))
-        ⊎ ((result ≡ no_chunk 41) × ((h : HeldState) × (region.old.value ≡ Some h) × IsAboveAll at h.region.chunks)) }
+        ⊎ ((result ≡ no_chunk 41) × ((h : RegionHandleState) × (region.old.value ≡ Some h) × IsAboveAll at h.region.chunks)) }
 {
-    let Some(held) = region.take(alloc) else {
+    let Some(handle) = region.take(alloc) else {
         return no_chunk(NOTHING);
     };
-    let chunk = held.chunk_at(at);
-    *region = NcRegion::of(held);
+    let chunk = handle.chunk_at(at);
+    *region = NcRegion::of(handle);
     match chunk {
         Some(chunk) => shown(chunk),
         None => no_chunk(NO_CHUNK),
@@ -89,11 +89,11 @@ fn mark_number(mark: Mark) -> u32
 }
 
 /// The byte and the mark at a place, if it is in the region.
-fn look_at(held: &Held, at: u32) -> NcPlace
-    ensures { ((result ≡ shown_place held.now.region at) × InRegion held.now.region.marked.bytes at)
-        ⊎ ((result ≡ no_place 43) × ¬ InRegion held.now.region.marked.bytes at) }
+fn look_at(handle: &RegionHandle, at: u32) -> NcPlace
+    ensures { ((result ≡ shown_place handle.now.region at) × InRegion handle.now.region.marked.bytes at)
+        ⊎ ((result ≡ no_place 43) × ¬ InRegion handle.now.region.marked.bytes at) }
 {
-    match (held.byte(at), held.mark(at)) {
+    match (handle.byte(at), handle.mark(at)) {
         (Some(byte), Some(mark)) => NcPlace {
             fault: 0,
             byte: u32::from(byte),
@@ -107,16 +107,16 @@ fn look_at(held: &Held, at: u32) -> NcPlace
 #[unsafe(no_mangle)]
 pub extern "C" fn nc_region_place(alloc: Global, region: &mut NcRegion, at: u32) -> NcPlace
     ensures same { region.new.value ≡ region.old.value }
-    ensures place { result.fault ≡ 0 → (h : HeldState) × (region.old.value ≡ Some h)
+    ensures place { result.fault ≡ 0 → (h : RegionHandleState) × (region.old.value ≡ Some h)
         × (result ≡ shown_place h.region at) × InRegion h.region.marked.bytes at }
     ensures refused { 0 < result.fault → ((result ≡ no_place 32) × (region.old.value ≡ None))
-        ⊎ ((result ≡ no_place 43) × ((h : HeldState) × (region.old.value ≡ Some h) × ¬ InRegion h.region.marked.bytes at)) }
+        ⊎ ((result ≡ no_place 43) × ((h : RegionHandleState) × (region.old.value ≡ Some h) × ¬ InRegion h.region.marked.bytes at)) }
 {
-    let Some(held) = region.take(alloc) else {
+    let Some(handle) = region.take(alloc) else {
         return no_place(NOTHING);
     };
-    let place = look_at(&held, at);
-    *region = NcRegion::of(held);
+    let place = look_at(&handle, at);
+    *region = NcRegion::of(handle);
     place
 }
 
@@ -124,17 +124,17 @@ pub extern "C" fn nc_region_place(alloc: Global, region: &mut NcRegion, at: u32)
 #[unsafe(no_mangle)]
 pub extern "C" fn nc_region_generation(alloc: Global, region: &mut NcRegion) -> NcStamp
     ensures same { region.new.value ≡ region.old.value }
-    ensures generation { result.fault ≡ 0 → (h : HeldState) × (region.old.value ≡ Some h)
+    ensures generation { result.fault ≡ 0 → (h : RegionHandleState) × (region.old.value ≡ Some h)
         × (result.stamp ≡ h.region.keeper.numbers.generation) }
     ensures refused { 0 < result.fault → (result ≡ record { stamp = 0; fault = 32 }) × (region.old.value ≡ None) }
 {
-    let Some(held) = region.take(alloc) else {
+    let Some(handle) = region.take(alloc) else {
         return NcStamp {
             stamp: 0,
             fault: NOTHING,
         };
     };
-    let stamp = held.generation();
-    *region = NcRegion::of(held);
+    let stamp = handle.generation();
+    *region = NcRegion::of(handle);
     NcStamp { stamp, fault: 0 }
 }

@@ -2,25 +2,25 @@
 
 ghost use Rattle.std.specs.Prelude.{◌≡◌, ◌<◌, ◌≤◌, ◌⊎◌, None, Some, IfOk, IfErr};
 ghost use Rattle.nc_gens.specs.Seen.{PassState};
-ghost use Rattle.nc_handle.specs.Held.{HeldState, IsFirst, MayRefuseNew, MayRefuseSeat, HasGiven};
+ghost use Rattle.nc_handle.specs.RegionHandle.{RegionHandleState, IsFirst, MayRefuseNew, MayRefuseSeat, HasGiven};
 ghost use Rattle.nc_handle.specs.declared.fault.NewFault.{NewFault};
 ghost use Rattle.nc_handle.specs.declared.fault.SeatFault.{SeatFault};
 ghost use Rattle.nc_host.specs.Handles.{IsDone, new_number, seat_number};
 
 use crate::numbers::{NOTHING, TAKEN, new_number, seat_number};
-use nc_handle::{Held, NcRegion, NcSeat, NewFault};
+use nc_handle::{NcRegion, NcSeat, NewFault, RegionHandle};
 use std::alloc::Global;
 
 /// A new region in a box.
-fn make(alloc: Global, bundles: u32, seats: u32) -> Result<Box<Held, Global>, NewFault>
+fn make(alloc: Global, bundles: u32, seats: u32) -> Result<Box<RegionHandle, Global>, NewFault>
     ensures made { IfOk result (λ boxed. IsFirst bundles seats boxed.value) }
     ensures refused { IfErr result (MayRefuseNew bundles seats) }
 {
-    let held = match Held::new(alloc, bundles, seats) {
-        Ok(held) => held,
+    let handle = match RegionHandle::new(alloc, bundles, seats) {
+        Ok(handle) => handle,
         Err(fault) => return Err(fault),
     };
-    match Box::new(alloc, held) {
+    match Box::new(alloc, handle) {
         Ok(boxed) => Ok(boxed),
         Err(_) => Err(NewFault::OutOfMemory),
     }
@@ -34,10 +34,10 @@ pub extern "C" fn nc_region_new(
     seats: u32,
     region: &mut NcRegion,
 ) -> u32
-    ensures made { result ≡ 0 → (region.old.value ≡ None) × ((h : HeldState) × (region.new.value ≡ Some h) × IsFirst bundles seats h) }
+    ensures made { result ≡ 0 → (region.old.value ≡ None) × ((h : RegionHandleState) × (region.new.value ≡ Some h) × IsFirst bundles seats h) }
     ensures unchanged { 0 < result → region.new.value ≡ region.old.value }
     // A handle that isn't empty is refused; else each refusal is returned when it is due.
-    ensures refused { 0 < result → ((result ≡ 33) × ((h : HeldState) × (region.old.value ≡ Some h)))
+    ensures refused { 0 < result → ((result ≡ 33) × ((h : RegionHandleState) × (region.old.value ≡ Some h)))
         ⊎ ((region.old.value ≡ None) × ((f : NewFault) × MayRefuseNew bundles seats f × (result ≡ new_number f))) }
 {
     if let Some(kept) = region.take(alloc) {
@@ -64,28 +64,28 @@ pub extern "C" fn nc_region_free(alloc: Global, region: &mut NcRegion)
 /// Gives a seat that hasn't been given out yet to an empty handle. A refusal leaves every pass where it was.
 #[unsafe(no_mangle)]
 pub extern "C" fn nc_region_seat(alloc: Global, region: &mut NcRegion, seat: &mut NcSeat) -> u32
-    ensures given { result ≡ 0 → (seat.old.value ≡ None) × ((guest : PassState) × (seat.new.value ≡ Some guest)
-        × IsDone region.old.value region.new.value (λ old new. HasGiven old new guest)) }
+    ensures given { result ≡ 0 → (seat.old.value ≡ None) × ((pass : PassState) × (seat.new.value ≡ Some pass)
+        × IsDone region.old.value region.new.value (λ old new. HasGiven old new pass)) }
     ensures unchanged { 0 < result → (region.new.value ≡ region.old.value) × (seat.new.value ≡ seat.old.value) }
     // A seat's handle that isn't empty is refused; else an empty region's handle is; else no seat is left, or there is no memory
     // for one.
-    ensures refused { 0 < result → ((result ≡ 33) × ((guest : PassState) × (seat.old.value ≡ Some guest)))
+    ensures refused { 0 < result → ((result ≡ 33) × ((pass : PassState) × (seat.old.value ≡ Some pass)))
         ⊎ ((seat.old.value ≡ None) × (((result ≡ 32) × (region.old.value ≡ None))
-        ⊎ ((h : HeldState) × (region.old.value ≡ Some h)
+        ⊎ ((h : RegionHandleState) × (region.old.value ≡ Some h)
         × ((f : SeatFault) × MayRefuseSeat h f × (result ≡ seat_number f))))) }
 {
     if let Some(kept) = seat.take(alloc) {
         *seat = NcSeat::of(kept);
         return TAKEN;
     }
-    let Some(mut held) = region.take(alloc) else {
+    let Some(mut handle) = region.take(alloc) else {
         return NOTHING;
     };
-    let given = held.seat(alloc);
-    *region = NcRegion::of(held);
+    let given = handle.seat(alloc);
+    *region = NcRegion::of(handle);
     match given {
-        Ok(guest) => {
-            *seat = NcSeat::of(guest);
+        Ok(boxed) => {
+            *seat = NcSeat::of(boxed);
             0
         }
         Err(fault) => seat_number(fault),

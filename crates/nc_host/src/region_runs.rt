@@ -2,7 +2,7 @@
 
 ghost use Rattle.std.specs.Prelude.{◌≡◌, ◌<◌, Some, IfOk, IfErr, length};
 ghost use Rattle.nc_list.specs.declared.chunk.Chunk.{Chunk};
-ghost use Rattle.nc_handle.specs.Held.{HeldState, IsLiveAt};
+ghost use Rattle.nc_handle.specs.RegionHandle.{RegionHandleState, IsLiveAt};
 ghost use Rattle.nc_handle.specs.RunCalls.{AreCreationRuns, AreDeletionRuns, MayRefuseCreationRuns, MayRefuseDeletionRuns};
 ghost use Rattle.nc_host.specs.Handles.{IsRefusal};
 ghost use Rattle.nc_host.specs.Running.{runs_number, runs_wanted};
@@ -14,11 +14,11 @@ use nc_handle::{NcAct, NcRegion, RunsFault};
 use std::alloc::Global;
 
 /// The result of a call for runs, with this number if there is no chunk.
-fn answer(told: Result<usize, RunsFault>, none: u32) -> NcChange
-    ensures told { IfOk told (λ count. result ≡ record { fault = 0; at = 0; count = count }) }
-    ensures refused { IfErr told (λ f. result ≡ record { fault = runs_number none f; at = 0; count = runs_wanted f }) }
+fn answer(reported: Result<usize, RunsFault>, none: u32) -> NcChange
+    ensures reported { IfOk reported (λ count. result ≡ record { fault = 0; at = 0; count = count }) }
+    ensures refused { IfErr reported (λ f. result ≡ record { fault = runs_number none f; at = 0; count = runs_wanted f }) }
 {
-    match told {
+    match reported {
         Ok(count) => no_change(0, count),
         Err(RunsFault::NoChunk) => no_change(none, 0),
         Err(RunsFault::NoRoom(wanted)) => no_change(NO_ROOM, wanted),
@@ -35,7 +35,7 @@ pub extern "C" fn nc_region_creation_runs(
     acts: &mut [NcAct],
 ) -> NcChange
     ensures same { region.new.value ≡ region.old.value }
-    ensures told { result.fault ≡ 0 → (h : HeldState) × (region.old.value ≡ Some h)
+    ensures reported { result.fault ≡ 0 → (h : RegionHandleState) × (region.old.value ≡ Some h)
         × ((c : Chunk) × IsLiveAt h.region.chunks base c × AreCreationRuns h c acts.old acts.new result.count) }
     ensures untouched { 0 < result.fault → acts.new ≡ acts.old }
     ensures at { result.at ≡ 0 }
@@ -43,12 +43,12 @@ pub extern "C" fn nc_region_creation_runs(
     ensures refused { 0 < result.fault → IsRefusal region.old.value (λ h f. MayRefuseCreationRuns h base (length acts.old) f)
         (runs_number 41) runs_wanted result.fault result.count }
 {
-    let Some(held) = region.take(alloc) else {
+    let Some(handle) = region.take(alloc) else {
         return no_change(NOTHING, 0);
     };
-    let told = held.creation_runs(base, acts);
-    *region = NcRegion::of(held);
-    answer(told, NO_CHUNK)
+    let reported = handle.creation_runs(base, acts);
+    *region = NcRegion::of(handle);
+    answer(reported, NO_CHUNK)
 }
 
 /// Writes the acts of the deletion that is under way, as runs: two for each bundle of its chunk, and two more. The region
@@ -60,7 +60,7 @@ pub extern "C" fn nc_region_deletion_runs(
     acts: &mut [NcAct],
 ) -> NcChange
     ensures same { region.new.value ≡ region.old.value }
-    ensures told { result.fault ≡ 0 → (h : HeldState) × (region.old.value ≡ Some h)
+    ensures reported { result.fault ≡ 0 → (h : RegionHandleState) × (region.old.value ≡ Some h)
         × ((c : Chunk) × (h.begun ≡ Some c) × AreDeletionRuns h c acts.old acts.new result.count) }
     ensures untouched { 0 < result.fault → acts.new ≡ acts.old }
     ensures at { result.at ≡ 0 }
@@ -68,10 +68,10 @@ pub extern "C" fn nc_region_deletion_runs(
     ensures refused { 0 < result.fault → IsRefusal region.old.value (λ h f. MayRefuseDeletionRuns h (length acts.old) f)
         (runs_number 38) runs_wanted result.fault result.count }
 {
-    let Some(held) = region.take(alloc) else {
+    let Some(handle) = region.take(alloc) else {
         return no_change(NOTHING, 0);
     };
-    let told = held.deletion_runs(acts);
-    *region = NcRegion::of(held);
-    answer(told, NOT_BEGUN)
+    let reported = handle.deletion_runs(acts);
+    *region = NcRegion::of(handle);
+    answer(reported, NOT_BEGUN)
 }

@@ -2,13 +2,13 @@
 
 ghost use Rattle.std.specs.Prelude.{◌≡◌, ◌<◌, ◌≤◌, ◌⊎◌, None, Some, length};
 ghost use Rattle.nc_handle.specs.acts.Shown.{over};
-ghost use Rattle.nc_handle.specs.Held.{HeldState};
+ghost use Rattle.nc_handle.specs.RegionHandle.{RegionHandleState};
 ghost use Rattle.nc_host.specs.Walked.{end_number, no_walk, IsShownWalk, MayRefuseShownWalk};
 
 use crate::lent_answers::{NO_MEMORY, NO_ROOM};
 use crate::numbers::{NO_START, NOTHING};
 use crate::region_answers::{NcWalk, no_walk};
-use nc_handle::{Held, NcRegion};
+use nc_handle::{NcRegion, RegionHandle};
 use nc_region::{End, WalkFault};
 use std::alloc::Global;
 
@@ -35,12 +35,12 @@ fn write_places(buffer: &mut [u32], places: &[u32])
 }
 
 /// Walks, and writes the places if there is room for all of them.
-fn walk_into(held: &Held, start: u32, choices: &[u32], places: &mut [u32]) -> NcWalk
-    ensures told { result.fault ≡ 0 → IsShownWalk held.now.region.marked.bytes start choices.now result places.old places.new }
+fn walk_into(handle: &RegionHandle, start: u32, choices: &[u32], places: &mut [u32]) -> NcWalk
+    ensures reported { result.fault ≡ 0 → IsShownWalk handle.now.region.marked.bytes start choices.now result places.old places.new }
     ensures refused { 0 < result.fault → (places.new ≡ places.old)
-        × MayRefuseShownWalk held.now.region.marked.bytes start choices.now (length places.old) result }
+        × MayRefuseShownWalk handle.now.region.marked.bytes start choices.now (length places.old) result }
 {
-    let trace = match held.walk(start, choices) {
+    let trace = match handle.walk(start, choices) {
         Ok(trace) => trace,
         Err(WalkFault::NotBundle) => return no_walk(NO_START),
         Err(WalkFault::OutOfMemory) => return no_walk(NO_MEMORY),
@@ -72,16 +72,16 @@ pub extern "C" fn nc_region_walk(
     places: &mut [u32],
 ) -> NcWalk
     ensures same { region.new.value ≡ region.old.value }
-    ensures told { result.fault ≡ 0 → (h : HeldState) × (region.old.value ≡ Some h)
+    ensures reported { result.fault ≡ 0 → (h : RegionHandleState) × (region.old.value ≡ Some h)
         × IsShownWalk h.region.marked.bytes start choices.now result places.old places.new }
     ensures refused { 0 < result.fault → (places.new ≡ places.old) × (((result ≡ no_walk 32) × (region.old.value ≡ None))
-        ⊎ ((h : HeldState) × (region.old.value ≡ Some h)
+        ⊎ ((h : RegionHandleState) × (region.old.value ≡ Some h)
         × MayRefuseShownWalk h.region.marked.bytes start choices.now (length places.old) result)) }
 {
-    let Some(held) = region.take(alloc) else {
+    let Some(handle) = region.take(alloc) else {
         return no_walk(NOTHING);
     };
-    let told = walk_into(&held, start, choices, places);
-    *region = NcRegion::of(held);
-    told
+    let reported = walk_into(&handle, start, choices, places);
+    *region = NcRegion::of(handle);
+    reported
 }

@@ -14,11 +14,11 @@ pub extern "C" fn nc_seat_check_in(alloc: Global, seat: &mut NcSeat) -> u32
     ensures checked_in { result ≡ 0 → IsDone seat.old.value seat.new.value HasCheckedIn }
     ensures nothing { 0 < result → (result ≡ 32) × (seat.old.value ≡ None) × (seat.new.value ≡ None) }
 {
-    let Some(mut guest) = seat.take(alloc) else {
+    let Some(mut handle) = seat.take(alloc) else {
         return NOTHING;
     };
-    guest.check_in();
-    *seat = NcSeat::of(guest);
+    handle.check_in();
+    *seat = NcSeat::of(handle);
     0
 }
 
@@ -27,7 +27,7 @@ pub extern "C" fn nc_seat_check_in(alloc: Global, seat: &mut NcSeat) -> u32
 pub extern "C" fn nc_seat_leave(alloc: Global, seat: &mut NcSeat)
     ensures emptied { seat.new.value ≡ None }
 {
-    if let Some(guest) = seat.take(alloc) {
-        Box::into_inner(guest).leave();
+    if let Some(handle) = seat.take(alloc) {
+        Box::into_inner(handle).leave();
     }
 }

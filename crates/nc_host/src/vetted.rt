@@ -3,25 +3,30 @@
 ghost use Rattle.std.specs.Prelude.{◌≡◌, ◌<◌, ◌⊎◌, None, Some, IfOk, IfErr, length};
 ghost use Rattle.nc_vet.specs.Chunk.{MarkedChunk};
 ghost use Rattle.nc_region.specs.Log.{log_of_create};
-ghost use Rattle.nc_handle.specs.Held.{HasLoaded, HeldState, MayRefuseLoad};
-ghost use Rattle.nc_handle.specs.Pending.{TellsPending};
-ghost use Rattle.nc_handle.specs.Lent.{IsTold};
+ghost use Rattle.nc_handle.specs.RegionHandle.{HasLoaded, RegionHandleState, MayRefuseLoad};
+ghost use Rattle.nc_handle.specs.Pending.{ReportsPending};
+ghost use Rattle.nc_handle.specs.Lent.{IsReported};
 ghost use Rattle.nc_handle.specs.declared.fault.LoadFault.{LoadFault};
-ghost use Rattle.nc_handle.specs.declared.kept.Kept.{Kept};
+ghost use Rattle.nc_handle.specs.declared.vetted_handle.VettedHandle.{VettedHandle};
 ghost use Rattle.nc_host.specs.Handles.{HoldsVetted, IsDone, IsSameButPages, IsVetted, load_number, load_wanted};
 ghost use Rattle.nc_host.specs.Outcomes.{IsChunkFault};
 
 use crate::chunks::vet_copy;
 use crate::lent_answers::NcVerdict;
-use crate::lent_vet::told;
+use crate::lent_vet::verdict_of;
 use crate::numbers::{NOTHING, TAKEN, load_numbers};
 use crate::region_answers::{NcChange, no_change};
-use nc_handle::{Held, Kept, NcAct, NcRegion, NcVetted};
+use nc_handle::{NcAct, NcRegion, NcVetted, RegionHandle, VettedHandle};
 use nc_vet::VetFault;
 use std::alloc::Global;
 
 /// A copy of these bytes as a vetted chunk in a box, or their fault.
-fn keep(alloc: Global, base: u32, limit: u32, code: &[u8]) -> Result<Box<Kept, Global>, NcVerdict>
+fn keep(
+    alloc: Global,
+    base: u32,
+    limit: u32,
+    code: &[u8],
+) -> Result<Box<VettedHandle, Global>, NcVerdict>
     ensures vetted { IfOk result (λ boxed. (v : MarkedChunk) × (boxed.value.chunk ≡ Some v) × IsVetted base limit code.now v) }
     ensures fault { IfErr result (λ e. (0 < e.fault) × IsChunkFault base limit code.now e.fault e.at) }
 {
@@ -29,12 +34,12 @@ fn keep(alloc: Global, base: u32, limit: u32, code: &[u8]) -> Result<Box<Kept, G
         Ok(vetted) => vetted,
         Err(verdict) => return Err(verdict),
     };
-    let kept = Kept {
+    let kept = VettedHandle {
         chunk: Some(vetted),
     };
     match Box::new(alloc, kept) {
         Ok(boxed) => Ok(boxed),
-        Err(_) => Err(told(VetFault::OutOfMemory)),
+        Err(_) => Err(verdict_of(VetFault::OutOfMemory)),
     }
 }
 
@@ -51,7 +56,7 @@ pub extern "C" fn nc_vetted_new(
     ensures unchanged { 0 < result.fault → vetted.new.value ≡ vetted.old.value }
     ensures at { result.fault ≡ 0 → result.at ≡ 0 }
     // A handle that isn't empty is refused; else the fault is one that the chunk has.
-    ensures refused { 0 < result.fault → ((result ≡ record { fault = 33; at = 0 }) × ((k : Kept) × (vetted.old.value ≡ Some k)))
+    ensures refused { 0 < result.fault → ((result ≡ record { fault = 33; at = 0 }) × ((k : VettedHandle) × (vetted.old.value ≡ Some k)))
         ⊎ ((vetted.old.value ≡ None) × IsChunkFault base limit code.now result.fault result.at) }
 {
     if let Some(kept) = vetted.take(alloc) {
@@ -79,23 +84,23 @@ pub extern "C" fn nc_vetted_free(alloc: Global, vetted: &mut NcVetted)
 }
 
 /// Creates a vetted chunk in a region, and returns the result as numbers.
-fn load_kept(held: &mut Held, kept: &mut Kept, acts: &mut [NcAct]) -> NcChange
-    ensures created { result.fault ≡ 0 → (v : MarkedChunk) × (kept.old.chunk ≡ Some v) × HasLoaded v held.old held.new
-        × IsTold acts.old acts.new result.count (log_of_create v.base v.code) }
+fn load_kept(handle: &mut RegionHandle, kept: &mut VettedHandle, acts: &mut [NcAct]) -> NcChange
+    ensures created { result.fault ≡ 0 → (v : MarkedChunk) × (kept.old.chunk ≡ Some v) × HasLoaded v handle.old handle.new
+        × IsReported acts.old acts.new result.count (log_of_create v.base v.code) }
     ensures pending { result.fault ≡ 0 → (v : MarkedChunk) × (kept.old.chunk ≡ Some v)
-        × TellsPending held.old held.new v acts.old acts.new result.count }
+        × ReportsPending handle.old handle.new v acts.old acts.new result.count }
     ensures untouched { 0 < result.fault → (acts.new ≡ acts.old) × (kept.new ≡ kept.old) }
-    ensures unchanged { 0 < result.fault → (held.new ≡ held.old) ⊎ ((result.fault ≡ 8)
-        × ((v : MarkedChunk) × (kept.old.chunk ≡ Some v) × IsSameButPages v.base (length v.code) held.old held.new)) }
+    ensures unchanged { 0 < result.fault → (handle.new ≡ handle.old) ⊎ ((result.fault ≡ 8)
+        × ((v : MarkedChunk) × (kept.old.chunk ≡ Some v) × IsSameButPages v.base (length v.code) handle.old handle.new)) }
     ensures at { result.at ≡ 0 }
     ensures refused { 0 < result.fault → ((result.fault ≡ 32) × (result.count ≡ 0) × (kept.old.chunk ≡ None))
-        ⊎ ((v : MarkedChunk) × (kept.old.chunk ≡ Some v) × ((f : LoadFault) × MayRefuseLoad held.old v (length acts.old) f
+        ⊎ ((v : MarkedChunk) × (kept.old.chunk ≡ Some v) × ((f : LoadFault) × MayRefuseLoad handle.old v (length acts.old) f
         × (result.fault ≡ load_number f) × (result.count ≡ load_wanted f))) }
 {
     let Some(vetted) = kept.chunk.take() else {
         return no_change(NOTHING, 0);
     };
-    match held.create(vetted, acts) {
+    match handle.create(vetted, acts) {
         Ok(count) => no_change(0, count),
         Err((vetted, fault)) => {
             kept.chunk = Some(vetted);
@@ -115,32 +120,32 @@ pub extern "C" fn nc_region_load(
     acts: &mut [NcAct],
 ) -> NcChange
     // The acts written are those of a creation, with the settling.
-    ensures created { result.fault ≡ 0 → (vetted.new.value ≡ None) × ((k : Kept) × (vetted.old.value ≡ Some k)
+    ensures created { result.fault ≡ 0 → (vetted.new.value ≡ None) × ((k : VettedHandle) × (vetted.old.value ≡ Some k)
         × ((v : MarkedChunk) × (k.chunk ≡ Some v) × IsDone region.old.value region.new.value (HasLoaded v)
-        × IsTold acts.old acts.new result.count (log_of_create v.base v.code))) }
+        × IsReported acts.old acts.new result.count (log_of_create v.base v.code))) }
     // The acts in the buffer are then pending, for this chunk.
-    ensures pending { result.fault ≡ 0 → (k : Kept) × (vetted.old.value ≡ Some k) × ((v : MarkedChunk) × (k.chunk ≡ Some v)
-        × IsDone region.old.value region.new.value (λ old new. TellsPending old new v acts.old acts.new result.count)) }
+    ensures pending { result.fault ≡ 0 → (k : VettedHandle) × (vetted.old.value ≡ Some k) × ((v : MarkedChunk) × (k.chunk ≡ Some v)
+        × IsDone region.old.value region.new.value (λ old new. ReportsPending old new v acts.old acts.new result.count)) }
     ensures untouched { 0 < result.fault → (acts.new ≡ acts.old) × (vetted.new.value ≡ vetted.old.value) }
     ensures unchanged { 0 < result.fault → (region.new.value ≡ region.old.value) ⊎ ((result.fault ≡ 8)
-        × ((k : Kept) × (vetted.old.value ≡ Some k) × ((v : MarkedChunk) × (k.chunk ≡ Some v)
+        × ((k : VettedHandle) × (vetted.old.value ≡ Some k) × ((v : MarkedChunk) × (k.chunk ≡ Some v)
         × IsDone region.old.value region.new.value (IsSameButPages v.base (length v.code))))) }
     ensures at { result.at ≡ 0 }
     // Each refusal is returned when it is due: there is no chunk or no region, or the region refuses the chunk.
     ensures refused { 0 < result.fault → ((result.fault ≡ 32) × (result.count ≡ 0) × ((vetted.old.value ≡ None) ⊎ ((region.old.value ≡ None)
-        ⊎ ((k : Kept) × (vetted.old.value ≡ Some k) × (k.chunk ≡ None))))) ⊎ ((h : HeldState) × (k : Kept) × (v : MarkedChunk)
+        ⊎ ((k : VettedHandle) × (vetted.old.value ≡ Some k) × (k.chunk ≡ None))))) ⊎ ((h : RegionHandleState) × (k : VettedHandle) × (v : MarkedChunk)
         × (region.old.value ≡ Some h) × (vetted.old.value ≡ Some k) × (k.chunk ≡ Some v)
         × ((f : LoadFault) × MayRefuseLoad h v (length acts.old) f × (result.fault ≡ load_number f) × (result.count ≡ load_wanted f))) }
 {
     let Some(mut kept) = vetted.take(alloc) else {
         return no_change(NOTHING, 0);
     };
-    let Some(mut held) = region.take(alloc) else {
+    let Some(mut handle) = region.take(alloc) else {
         *vetted = NcVetted::of(kept);
         return no_change(NOTHING, 0);
     };
-    let change = load_kept(&mut held, &mut kept, acts);
-    *region = NcRegion::of(held);
+    let change = load_kept(&mut handle, &mut kept, acts);
+    *region = NcRegion::of(handle);
     if change.fault > 0 {
         *vetted = NcVetted::of(kept);
     }

@@ -19,24 +19,24 @@ use Rattle.nc_region.specs.Log.{unsettled}
 use Rattle.nc_region.specs.Deletion.{IsReclaimed, freed, unmarkings}
 use Rattle.nc_region.specs.Quiet.{retired_spans}
 use Rattle.nc_region.specs.Region.{Region, IsRegion}
-use Rattle.nc_calls.specs.Weaving.{writers, IsKeepers, ThreadsMay}
+use Rattle.nc_calls.specs.Interleaving.{writers, IsKeepers, ThreadsMay}
 use Rattle.nc_calls.specs.Calls.{KnowsNoMore, StandsFor, HasLedTo, no_details, events_of_log, delete_events, reclaim_events}
 use Rattle.nc_calls.specs.Histories.{AreAttempts, IsRefusal, IsCall, Creates, Patches, Deletes, Reclaims, UsesKeeper, Refuses, Keeps, AllStand}
 use Rattle.nc_calls.proofs.Offered.{goes_on, created, deleted}
 use Rattle.nc_calls.proofs.Offered.{refused}
-use Rattle.nc_calls.proofs.Offered.{keeper_woven}
+use Rattle.nc_calls.proofs.Offered.{keeper_interleaved}
 use Rattle.nc_calls.proofs.Offered.{modified}
 use Rattle.nc_calls.proofs.Offered.{reclaimed}
 use Rattle.nc_calls.proofs.Offered.{still_created, still_patched, still_deleted, still_reclaimed}
 use Rattle.nc_calls.proofs.Offered.{refusal_same}
 use Rattle.nc_calls.proofs.Offered.{Grows, StaysWhole, whole_append, whole_front, fetch_whole_after}
 use Rattle.nc_calls.specs.Whole.{AllFetchWhole}
-use Rattle.nc_handle.specs.Held.{IsLiveAt}
+use Rattle.nc_handle.specs.RegionHandle.{IsLiveAt}
 use Rattle.nc_hosts.specs.Hosts.{Host, IsNoLook, IsReached}
 use Rattle.nc_calls.proofs.Offered.{Stays, same_region, all_stand}
 use Rattle.nc_region.proofs.Offered.{deleted_region}
 use Rattle.nc_hosts.proofs.Deleting.{deleted_there}
-use Rattle.nc_hosts.proofs.Weaving.{IsWriters, writers_own, threads_append, threads_none, one_writers}
+use Rattle.nc_hosts.proofs.Interleaving.{IsWriters, writers_own, threads_append, threads_none, one_writers}
 use Rattle.nc_hosts.proofs.Looked.{looks_or_not, frees_no_look, only_looks, frees_last}
 use Rattle.nc_hosts.proofs.Reaching.{Phase, Calling, Deleting, Led, finished, led}
 
@@ -60,7 +60,7 @@ keepers_allowed : (limit seats : ℕ) (before events : List Event) (r : Region) 
     → AreAllowed (first_world limit seats) (before ++ events)
 keepers_allowed limit seats before events r h own threads =
     let w = world_after (first_world limit seats) before in
-    let k = keeper_woven w events w.keeper w.seats own threads in
+    let k = keeper_interleaved w events w.keeper w.seats own threads in
     allowed_append (first_world limit seats) before events h.allowed k.allowed
 
 -- the keeper's events leave instructions whole
@@ -69,7 +69,7 @@ keepers_whole : (limit seats : ℕ) (before events : List Event) (r : Region) �
     → StaysWhole (first_world limit seats) (before ++ events)
 keepers_whole limit seats before events r stays own threads =
     let w = world_after (first_world limit seats) before in
-    let k = keeper_woven w events w.keeper w.seats own threads in
+    let k = keeper_interleaved w events w.keeper w.seats own threads in
     whole_append (first_world limit seats) before events stays.whole k.whole
 
 -- the events of a reclaim are allowed and leave instructions whole
@@ -104,7 +104,7 @@ reclaim_goes limit seats before since pending from region count stays threads al
           (freed (least_number region.keeper.numbers) from.chunks)))))
     ]
 
--- a call that tells its acts or uses the keeper
+-- a call that reports its acts or uses the keeper
 call_goes : (limit seats : ℕ) (before since pending : List Event) (from region : Region) → Stays limit seats before from
     → ThreadsMay (world_after (first_world limit seats) before) since
     → ThreadsMay (world_after (first_world limit seats) before) (since ++ pending)
@@ -157,7 +157,7 @@ deletion_led limit seats before since pending made last from c live stays thread
 goes : (limit seats : ℕ) (host : Host) (l : Led limit seats host) → Goes (first_world limit seats) (l.before ++ l.since) host.pending
 goes limit seats host l = go l.phase
   where
-    go : Phase seats l.from (writers l.since) host.held.begun host.held.region host.pending
+    go : Phase seats l.from (writers l.since) host.handle.begun host.handle.region host.pending
         → Goes (first_world limit seats) (l.before ++ l.since) host.pending
     go (Calling called idle pages call) =
         call_goes limit seats l.before l.since host.pending l.from called l.stays l.threads
@@ -166,7 +166,7 @@ goes limit seats host l = go l.phase
         (writers_own l.since host.pending l.plain)
         (λ none. subst (λ (k : KeeperState). KnowsNoMore k.numbers
         (world_after (first_world limit seats) (l.before ++ (l.since ++ host.pending))).keeper) (ap (λ (r : Region). r.keeper) pages)
-        (subst (λ (w : World). KnowsNoMore host.held.region.keeper.numbers w.keeper)
+        (subst (λ (w : World). KnowsNoMore host.handle.region.keeper.numbers w.keeper)
         (ap (λ (w : World). world_after w host.pending) l.world
         ∙ (sym (after_append (first_world limit seats) (l.before ++ l.since) host.pending)
         ∙ ap (world_after (first_world limit seats)) (append_assoc l.before l.since host.pending))) (l.found none)))
@@ -240,13 +240,13 @@ frees bundles seats host span later reached is =
     freed_there (65536 + 32 * bundles) seats host span later (led bundles seats host reached) is
 
 -- the memory where nothing is pending
-memory_there : (limit seats : ℕ) (host : Host) → Led limit seats host → host.pending ≡ [] → host.held.begun ≡ None
-    → StandsFor host.world host.held.region
+memory_there : (limit seats : ℕ) (host : Host) → Led limit seats host → host.pending ≡ [] → host.handle.begun ≡ None
+    → StandsFor host.world host.handle.region
 memory_there limit seats host l none idle =
-    subst (λ (w : World). StandsFor w host.held.region) (sym l.world) (finished limit seats host l none idle).led.stands
+    subst (λ (w : World). StandsFor w host.handle.region) (sym l.world) (finished limit seats host l none idle).led.stands
 
-pub memory : (bundles seats : ℕ) (host : Host) → IsReached bundles seats host → host.pending ≡ [] → host.held.begun ≡ None
-    → StandsFor host.world host.held.region
+pub memory : (bundles seats : ℕ) (host : Host) → IsReached bundles seats host → host.pending ≡ [] → host.handle.begun ≡ None
+    → StandsFor host.world host.handle.region
 memory bundles seats host reached none idle =
     memory_there (65536 + 32 * bundles) seats host (led bundles seats host reached) none idle
 
@@ -254,12 +254,12 @@ memory bundles seats host reached none idle =
 abbrev stops_in : MarkedText → Chunk → MarkedText
 stops_in marked c = record marked { bytes = with_span marked.bytes (c.base - 65536) (replicate c.length 244) }
 
-stopped_there : (limit seats : ℕ) (host : Host) (c : Chunk) → Led limit seats host → host.pending ≡ [] → host.held.begun ≡ Some c
-    → host.world.marked ≡ stops_in host.held.region.marked c
+stopped_there : (limit seats : ℕ) (host : Host) (c : Chunk) → Led limit seats host → host.pending ≡ [] → host.handle.begun ≡ Some c
+    → host.world.marked ≡ stops_in host.handle.region.marked c
 stopped_there limit seats host c l none begun = go l.phase
   where
-    go : Phase seats l.from (writers l.since) host.held.begun host.held.region host.pending
-        → host.world.marked ≡ stops_in host.held.region.marked c
+    go : Phase seats l.from (writers l.since) host.handle.begun host.handle.region host.pending
+        → host.world.marked ≡ stops_in host.handle.region.marked c
     go (Calling called idle pages call) = absurd (let bad : None ≡ Some c = sym idle ∙ begun in cc)
     go (Deleting d is at live room made last first own_is last_is) =
         let here : Some d ≡ Some c = sym is ∙ begun in
@@ -274,10 +274,10 @@ stopped_there limit seats host c l none begun = go l.phase
         ∙ ap (λ (w : World). world_after w (Retires d.base d.length ∷ [])) (sym l.world))) in
         sym (ap (λ (w : World). w.marked) stamped)
         ∙ (h.stands.marked
-        ∙ (ap (λ (r : Region). stops_in r.marked d) (sym at) ∙ ap (λ (e : Chunk). stops_in host.held.region.marked e) same))
+        ∙ (ap (λ (r : Region). stops_in r.marked d) (sym at) ∙ ap (λ (e : Chunk). stops_in host.handle.region.marked e) same))
 
-pub stopped : (bundles seats : ℕ) (host : Host) (c : Chunk) → IsReached bundles seats host → host.pending ≡ [] → host.held.begun ≡ Some c
-    → host.world.marked ≡ stops_in host.held.region.marked c
+pub stopped : (bundles seats : ℕ) (host : Host) (c : Chunk) → IsReached bundles seats host → host.pending ≡ [] → host.handle.begun ≡ Some c
+    → host.world.marked ≡ stops_in host.handle.region.marked c
 stopped bundles seats host c reached none begun =
     stopped_there (65536 + 32 * bundles) seats host c (led bundles seats host reached) none begun
 
@@ -296,21 +296,21 @@ call_region seats old new own region (Keeps is same) =
     same_region old new (ap (λ (r : Region). r.marked) is) (ap (λ (r : Region). r.chunks) is) region
 
 -- the handle's region is one
-region_there : (limit seats : ℕ) (host : Host) → Led limit seats host → IsRegion host.held.region.marked host.held.region.chunks
+region_there : (limit seats : ℕ) (host : Host) → Led limit seats host → IsRegion host.handle.region.marked host.handle.region.chunks
 region_there limit seats host l = go l.phase
   where
-    go : Phase seats l.from (writers l.since) host.held.begun host.held.region host.pending
-        → IsRegion host.held.region.marked host.held.region.chunks
+    go : Phase seats l.from (writers l.since) host.handle.begun host.handle.region host.pending
+        → IsRegion host.handle.region.marked host.handle.region.chunks
     go (Calling called idle pages call) =
-        same_region called host.held.region (ap (λ (r : Region). r.marked) pages) (ap (λ (r : Region). r.chunks) pages)
+        same_region called host.handle.region (ap (λ (r : Region). r.marked) pages) (ap (λ (r : Region). r.chunks) pages)
         (call_region seats l.from called (writers l.since ++ host.pending) l.stays.region call)
     go (Deleting c is at live room made last first own_is last_is) =
-        same_region l.from host.held.region (ap (λ (r : Region). r.marked) at) (ap (λ (r : Region). r.chunks) at) l.stays.region
+        same_region l.from host.handle.region (ap (λ (r : Region). r.marked) at) (ap (λ (r : Region). r.chunks) at) l.stays.region
 
-pub is_region : (bundles seats : ℕ) (host : Host) → IsReached bundles seats host → IsRegion host.held.region.marked host.held.region.chunks
+pub is_region : (bundles seats : ℕ) (host : Host) → IsReached bundles seats host → IsRegion host.handle.region.marked host.handle.region.chunks
 is_region bundles seats host reached = region_there (65536 + 32 * bundles) seats host (led bundles seats host reached)
 
 -- the text of a host that is reached is confined
-pub confined : (bundles seats : ℕ) (host : Host) → IsReached bundles seats host → IsConfined host.held.region.marked.bytes
+pub confined : (bundles seats : ℕ) (host : Host) → IsReached bundles seats host → IsConfined host.handle.region.marked.bytes
 confined bundles seats host reached =
-    confined_if_closed host.held.region.marked.bytes host.held.region.marked.marks (is_region bundles seats host reached).whole.closed
+    confined_if_closed host.handle.region.marked.bytes host.handle.region.marked.marks (is_region bundles seats host reached).whole.closed

@@ -6,7 +6,7 @@ use Rattle.nc_list.specs.declared.chunk.Chunk.{Chunk}
 use Rattle.nc_region.specs.Region.{Region}
 use Rattle.nc_region.specs.Deletion.{IsDeleted}
 use Rattle.nc_region.proofs.Offered.{deleted_region, deleted_at}
-use Rattle.nc_handle.specs.Held.{IsLiveAt}
+use Rattle.nc_handle.specs.RegionHandle.{IsLiveAt}
 
 -- a chunk that is live at its base can be deleted unless the generation is the last one
 abbrev pub deleted_there : (old : Region) (c : Chunk) (live : IsLiveAt old.chunks c.base c)

@@ -13,15 +13,15 @@ use Rattle.nc_region.specs.Log.{log_of_create}
 use Rattle.nc_region.specs.Patch.{AreBytesOf, log_of_modify}
 use Rattle.nc_region.specs.Region.{Region}
 use Rattle.nc_region.proofs.Offered.{after_append}
-use Rattle.nc_calls.specs.Weaving.{is_writers}
+use Rattle.nc_calls.specs.Interleaving.{is_writers}
 use Rattle.nc_calls.specs.Calls.{KnowsNoMore, no_details, create_events, modify_events, delete_events}
 use Rattle.nc_calls.specs.Histories.{Creates, Patches}
 use Rattle.nc_calls.proofs.Offered.{created, modified, knows_raised}
-use Rattle.nc_handle.specs.Held.{HeldState, HasLoaded, HasPatched, HasBegun, HasEnded}
-use Rattle.nc_handle.specs.Pending.{IsHeldCall, ChangesPages, Changes, Begins, Ends}
+use Rattle.nc_handle.specs.RegionHandle.{RegionHandleState, HasLoaded, HasPatched, HasBegun, HasEnded}
+use Rattle.nc_handle.specs.Pending.{IsHandleCall, ChangesPages, Changes, Begins, Ends}
 use Rattle.nc_hosts.specs.Hosts.{Host, Runs, Makes, Restarts, Calls, Asks, IsNoLook, IsReached, Then}
 use Rattle.nc_hosts.proofs.Kept.{IsStore, rest_stores, stores_keep, stores_look_not, thread_keeps_keeper, same_keeper}
-use Rattle.nc_hosts.proofs.Weaving.{IsWriters, log_writers, writers_own, threads_none}
+use Rattle.nc_hosts.proofs.Interleaving.{IsWriters, log_writers, writers_own, threads_none}
 use Rattle.nc_hosts.proofs.Reaching.{finished, could_begin, deletion_stores, led}
 
 -- the next event is made
@@ -30,115 +30,115 @@ pub makes_next : (bundles seats : ℕ) (host : Host) (event : Event) (later : Li
     → IsReached bundles seats (record host { world = after host.world event; pending = later })
 makes_next bundles seats host event later reached is no_look =
     Then reached (Makes event is refl) (λ all.
-    subst (λ (z : List Event). KnowsNoMore host.held.region.keeper.numbers (world_after host.world z).keeper) is
+    subst (λ (z : List Event). KnowsNoMore host.handle.region.keeper.numbers (world_after host.world z).keeper) is
     ((led bundles seats host reached).found (subst (All IsNoLook) (sym is) (All-cons IsNoLook event later no_look all))))
 
 -- a creation leads to a host that is reached
-pub loads : (bundles seats : ℕ) (host : Host) (new : HeldState) (v : MarkedChunk) → IsReached bundles seats host → host.pending ≡ []
-    → IsValid v → HasLoaded v host.held new
-    → IsReached bundles seats (record { held = new; world = host.world; pending = create_events v })
+pub loads : (bundles seats : ℕ) (host : Host) (new : RegionHandleState) (v : MarkedChunk) → IsReached bundles seats host → host.pending ≡ []
+    → IsValid v → HasLoaded v host.handle new
+    → IsReached bundles seats (record { handle = new; world = host.world; pending = create_events v })
 loads bundles seats host new v reached none valid loaded =
     let l = led bundles seats host reached in
     let w = first_world (65536 + 32 * bundles) seats in
     let s = finished (65536 + 32 * bundles) seats host l none loaded.0 in
     let all : All IsWriters (create_events v) = log_writers (record no_details { marks = v.marks }) (log_of_create v.base v.code) in
-    let g = created (65536 + 32 * bundles) seats (l.before ++ l.since) (create_events v) host.held.region new.region v s.led s.region valid
+    let g = created (65536 + 32 * bundles) seats (l.before ++ l.since) (create_events v) host.handle.region new.region v s.led s.region valid
     loaded.1 loaded.3 (writers_own [] (create_events v) all) (threads_none (world_after w (l.before ++ l.since)) (create_events v) all) in
     let there : world_after w ((l.before ++ l.since) ++ create_events v) ≡ world_after host.world (create_events v) =
     after_append w (l.before ++ l.since) (create_events v) ∙ ap (λ (x : World). world_after x (create_events v)) (sym l.world) in
     Then reached
-    (Calls none (Changes loaded.0 (ap (λ (h : HeldState). h.begun) loaded.4 ∙ loaded.0) (Creates v valid loaded.1 loaded.3 refl)) refl)
+    (Calls none (Changes loaded.0 (ap (λ (h : RegionHandleState). h.begun) loaded.4 ∙ loaded.0) (Creates v valid loaded.1 loaded.3 refl)) refl)
     (λ looks. subst (λ (x : World). KnowsNoMore new.region.keeper.numbers x.keeper) there g.led.stands.keeper)
 
 -- a patch leads to a host that is reached
-pub patches : (bundles seats : ℕ) (host : Host) (new : HeldState) (at : ℕ) (bytes : List ℕ) (news : List Piece)
-    → IsReached bundles seats host → host.pending ≡ [] → AreBytesOf bytes news → HasPatched at bytes host.held new
-    → IsReached bundles seats (record { held = new; world = host.world; pending = modify_events host.held.region.marked.bytes at news })
+pub patches : (bundles seats : ℕ) (host : Host) (new : RegionHandleState) (at : ℕ) (bytes : List ℕ) (news : List Piece)
+    → IsReached bundles seats host → host.pending ≡ [] → AreBytesOf bytes news → HasPatched at bytes host.handle new
+    → IsReached bundles seats (record { handle = new; world = host.world; pending = modify_events host.handle.region.marked.bytes at news })
 patches bundles seats host new at bytes news reached none b patched =
     let l = led bundles seats host reached in
     let w = first_world (65536 + 32 * bundles) seats in
     let s = finished (65536 + 32 * bundles) seats host l none patched.0 in
-    let own : List Event = modify_events host.held.region.marked.bytes at news in
-    let all : All IsWriters own = log_writers no_details (log_of_modify host.held.region.marked.bytes at news) in
-    let g = modified (65536 + 32 * bundles) seats (l.before ++ l.since) own host.held.region new.region at bytes news s.led s.region
+    let own : List Event = modify_events host.handle.region.marked.bytes at news in
+    let all : All IsWriters own = log_writers no_details (log_of_modify host.handle.region.marked.bytes at news) in
+    let g = modified (65536 + 32 * bundles) seats (l.before ++ l.since) own host.handle.region new.region at bytes news s.led s.region
     patched.1 b patched.2 (writers_own [] own all) (threads_none (world_after w (l.before ++ l.since)) own all) in
     let there : world_after w ((l.before ++ l.since) ++ own) ≡ world_after host.world own =
     after_append w (l.before ++ l.since) own ∙ ap (λ (x : World). world_after x own) (sym l.world) in
     Then reached
-    (Calls none (Changes patched.0 (ap (λ (h : HeldState). h.begun) patched.3 ∙ patched.0) (Patches at bytes news patched.1 b patched.2 refl))
+    (Calls none (Changes patched.0 (ap (λ (h : RegionHandleState). h.begun) patched.3 ∙ patched.0) (Patches at bytes news patched.1 b patched.2 refl))
     refl)
     (λ looks. subst (λ (x : World). KnowsNoMore new.region.keeper.numbers x.keeper) there g.led.stands.keeper)
 
 -- where no look is pending, the region's keeper knows no more than the world's will
 knows_then : (bundles seats : ℕ) (host : Host) → IsReached bundles seats host → All IsStore host.pending
-    → KnowsNoMore host.held.region.keeper.numbers host.world.keeper
+    → KnowsNoMore host.handle.region.keeper.numbers host.world.keeper
 knows_then bundles seats host reached stores =
-    subst (KnowsNoMore host.held.region.keeper.numbers) (stores_keep host.world host.pending stores)
+    subst (KnowsNoMore host.handle.region.keeper.numbers) (stores_keep host.world host.pending stores)
     ((led bundles seats host reached).found (stores_look_not host.pending stores))
 
 -- where no look is pending, the keeper knows no more than the world will after more stores
 knows_before : (bundles seats : ℕ) (host : Host) (events : List Event) → IsReached bundles seats host → All IsStore host.pending
-    → All IsStore events → KnowsNoMore host.held.region.keeper.numbers (world_after host.world events).keeper
+    → All IsStore events → KnowsNoMore host.handle.region.keeper.numbers (world_after host.world events).keeper
 knows_before bundles seats host events reached stores all =
-    subst (KnowsNoMore host.held.region.keeper.numbers) (sym (stores_keep host.world events all)) (knows_then bundles seats host reached stores)
+    subst (KnowsNoMore host.handle.region.keeper.numbers) (sym (stores_keep host.world events all)) (knows_then bundles seats host reached stores)
 
 -- where nothing is pending, no event but stores is
 none_stores : (pending : List Event) → pending ≡ [] → All IsStore pending
 none_stores pending none = subst (All IsStore) (sym none) (All-nil IsStore)
 
 -- the first call of a deletion leads to a host that is reached
-pub begins : (bundles seats : ℕ) (host : Host) (new : HeldState) (c : Chunk) (stops : List Event) → IsReached bundles seats host
-    → host.pending ≡ [] → HasBegun host.held new c.base c
-    → stops ++ Retires c.base c.length ∷ [] ≡ delete_events host.held.region.marked.marks c.base c.length
-    → IsReached bundles seats (record { held = new; world = host.world; pending = stops })
+pub begins : (bundles seats : ℕ) (host : Host) (new : RegionHandleState) (c : Chunk) (stops : List Event) → IsReached bundles seats host
+    → host.pending ≡ [] → HasBegun host.handle new c.base c
+    → stops ++ Retires c.base c.length ∷ [] ≡ delete_events host.handle.region.marked.marks c.base c.length
+    → IsReached bundles seats (record { handle = new; world = host.world; pending = stops })
 begins bundles seats host new c stops reached none begun own =
-    let same : new.region ≡ host.held.region = ap (λ (h : HeldState). h.region) begun.others in
+    let same : new.region ≡ host.handle.region = ap (λ (h : RegionHandleState). h.region) begun.others in
     Then reached (Calls none (Begins c begun own) refl) (λ looks.
     subst (λ (r : Region). KnowsNoMore r.keeper.numbers (world_after host.world stops).keeper) (sym same)
     (knows_before bundles seats host stops reached (none_stores host.pending none)
-    (rest_stores host.held.region.marked.marks c.base c.length [] stops own)))
+    (rest_stores host.handle.region.marked.marks c.base c.length [] stops own)))
 
 -- the events of a deletion that has begun can be made anew
 pub restarts : (bundles seats : ℕ) (host : Host) (c : Chunk) (stops : List Event) → IsReached bundles seats host
-    → host.held.begun ≡ Some c
-    → stops ++ Retires c.base c.length ∷ [] ≡ delete_events host.held.region.marked.marks c.base c.length
+    → host.handle.begun ≡ Some c
+    → stops ++ Retires c.base c.length ∷ [] ≡ delete_events host.handle.region.marked.marks c.base c.length
     → IsReached bundles seats (record host { pending = stops })
 restarts bundles seats host c stops reached begun own =
     Then reached
     (Restarts c begun (Begins c (could_begin (65536 + 32 * bundles) seats host c (led bundles seats host reached) begun) own) refl) (λ looks.
     knows_before bundles seats host stops reached
     (deletion_stores (65536 + 32 * bundles) seats host c (led bundles seats host reached) begun)
-    (rest_stores host.held.region.marked.marks c.base c.length [] stops own))
+    (rest_stores host.handle.region.marked.marks c.base c.length [] stops own))
 
 -- the last step of a deletion leads to a host that is reached
-pub ends : (bundles seats : ℕ) (host : Host) (new : HeldState) (stamp : ℕ) (is : HasEnded host.held new stamp)
+pub ends : (bundles seats : ℕ) (host : Host) (new : RegionHandleState) (stamp : ℕ) (is : HasEnded host.handle new stamp)
     → IsReached bundles seats host → host.pending ≡ []
-    → IsReached bundles seats (record { held = new; world = host.world; pending = Retires is.chunk.base is.chunk.length ∷ [] })
+    → IsReached bundles seats (record { handle = new; world = host.world; pending = Retires is.chunk.base is.chunk.length ∷ [] })
 ends bundles seats host new stamp is reached none =
     Then reached (Calls none (Ends stamp is refl) refl) (λ looks.
     subst (λ (n : KeeperNumbers). KnowsNoMore n (generation_raised host.world.keeper))
     (sym (ap (λ (k : KeeperState). k.numbers) is.deleted.keeper))
-    (knows_raised host.held.region.keeper.numbers host.world.keeper
+    (knows_raised host.handle.region.keeper.numbers host.world.keeper
     (knows_then bundles seats host reached (none_stores host.pending none))))
 
 -- any other call, refused or not, leads to a host that is reached
-pub asks : (bundles seats : ℕ) (host : Host) (new : HeldState) → IsReached bundles seats host → new.begun ≡ host.held.begun
-    → new.region ≡ record host.held.region { made = new.region.made } → IsReached bundles seats (record host { held = new })
+pub asks : (bundles seats : ℕ) (host : Host) (new : RegionHandleState) → IsReached bundles seats host → new.begun ≡ host.handle.begun
+    → new.region ≡ record host.handle.region { made = new.region.made } → IsReached bundles seats (record host { handle = new })
 asks bundles seats host new reached begun region =
     Then reached (Asks begun region refl) (λ looks.
     subst (λ (k : KeeperState). KnowsNoMore k.numbers (world_after host.world host.pending).keeper)
     (sym (ap (λ (r : Region). r.keeper) region)) ((led bundles seats host reached).found looks))
 
 -- a refused call leads to a host that is reached
-pub fails : (bundles seats : ℕ) (host : Host) (new : HeldState) → IsReached bundles seats host → ChangesPages host.held new
-    → IsReached bundles seats (record host { held = new })
+pub fails : (bundles seats : ℕ) (host : Host) (new : RegionHandleState) → IsReached bundles seats host → ChangesPages host.handle new
+    → IsReached bundles seats (record host { handle = new })
 fails bundles seats host new reached pages =
-    asks bundles seats host new reached (ap (λ (h : HeldState). h.begun) pages) (ap (λ (h : HeldState). h.region) pages)
+    asks bundles seats host new reached (ap (λ (h : RegionHandleState). h.begun) pages) (ap (λ (h : RegionHandleState). h.region) pages)
 
 -- a call after which a look is pending
-pub looks : (bundles seats : ℕ) (host : Host) (new : HeldState) (own : List Event) → IsReached bundles seats host → host.pending ≡ []
-    → IsHeldCall seats host.held new own → ¬ All IsNoLook own
-    → IsReached bundles seats (record { held = new; world = host.world; pending = own })
+pub looks : (bundles seats : ℕ) (host : Host) (new : RegionHandleState) (own : List Event) → IsReached bundles seats host → host.pending ≡ []
+    → IsHandleCall seats host.handle new own → ¬ All IsNoLook own
+    → IsReached bundles seats (record { handle = new; world = host.world; pending = own })
 looks bundles seats host new own reached none call some = Then reached (Calls none call refl) (λ no_look. absurd (some no_look))
 
 -- an event of a thread
@@ -146,6 +146,6 @@ pub runs : (bundles seats : ℕ) (host : Host) (event : Event) → IsReached bun
     → ThreadMay host.world event → IsReached bundles seats (record host { world = after host.world event })
 runs bundles seats host event reached thread may =
     Then reached (Runs event thread may refl) (λ none.
-    subst (KnowsNoMore host.held.region.keeper.numbers)
+    subst (KnowsNoMore host.handle.region.keeper.numbers)
     (sym (same_keeper host.pending (after host.world event) host.world none (thread_keeps_keeper host.world event thread)))
     ((led bundles seats host reached).found none))

@@ -9,7 +9,7 @@ use Rattle.nc_region.specs.schedules.Events.{Looks, after, world_after}
 use Rattle.nc_region.specs.declared.acts.Act.TheVariants.{Put}
 use Rattle.nc_region.specs.Acts.{puts_where, is_marked_at, is_unmarked_at}
 use Rattle.nc_gens.specs.Rule.{generation_raised}
-use Rattle.nc_calls.specs.Weaving.{is_writers}
+use Rattle.nc_calls.specs.Interleaving.{is_writers}
 use Rattle.nc_calls.specs.Calls.{Details, no_details, delete_events}
 use Rattle.nc_calls.proofs.Offered.{IsPart, OfMarked, OfOthers, is_part, events_of}
 use Rattle.nc_hosts.specs.Hosts.{IsNoLook}

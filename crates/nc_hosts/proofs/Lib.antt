@@ -1,5 +1,5 @@
 mod Deleting
-mod Weaving
+mod Interleaving
 mod Looked
 mod Kept
 mod Reaching

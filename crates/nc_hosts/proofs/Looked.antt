@@ -7,7 +7,7 @@ use Rattle.nc_region.specs.schedules.Spans.{RetiredSpan}
 use Rattle.nc_region.specs.schedules.Events.{Event, Frees, Looks}
 use Rattle.nc_region.specs.Log.{unsettled}
 use Rattle.nc_region.specs.Deletion.{unmarkings}
-use Rattle.nc_calls.specs.Weaving.{IsKeepers}
+use Rattle.nc_calls.specs.Interleaving.{IsKeepers}
 use Rattle.nc_calls.specs.Calls.{Details, events_of_log, span_from}
 use Rattle.nc_hosts.specs.Hosts.{IsNoLook}
 

@@ -13,20 +13,20 @@ use Rattle.nc_region.specs.schedules.Events.{Event, Retires, ThreadMay, after, w
 use Rattle.nc_region.proofs.Offered.{after_append, region_of_new}
 use Rattle.nc_region.specs.Region.{Region, IsRegion}
 use Rattle.nc_region.specs.Deletion.{IsDeleted}
-use Rattle.nc_calls.specs.Weaving.{is_writers, writers, ThreadsMay}
+use Rattle.nc_calls.specs.Interleaving.{is_writers, writers, ThreadsMay}
 use Rattle.nc_calls.specs.Calls.{HasLedTo, no_details, delete_events}
 use Rattle.nc_calls.specs.Histories.{AreAttempts, NoneYet, OneMore, IsCall, Deletes, Keeps}
 use Rattle.nc_calls.proofs.Offered.{begins_unused}
 use Rattle.nc_region.specs.Log.{log_of_delete}
-use Rattle.nc_handle.specs.Held.{HeldState, IsLiveAt, IsFirst, HasBegun, HasEnded}
-use Rattle.nc_handle.specs.Pending.{IsHeldCall, Changes, Begins, Ends}
+use Rattle.nc_handle.specs.RegionHandle.{RegionHandleState, IsLiveAt, IsFirst, HasBegun, HasEnded}
+use Rattle.nc_handle.specs.Pending.{IsHandleCall, Changes, Begins, Ends}
 use Rattle.nc_calls.specs.Calls.{KnowsNoMore}
 use Rattle.nc_hosts.specs.Hosts.{Host, IsStep, Runs, Makes, Restarts, Calls, Asks, IsNoLook, HasFound, IsReached, First, Then}
 use Rattle.nc_calls.proofs.Offered.{Stays, same_region, goes_on, call_stays}
 use Rattle.nc_calls.proofs.Offered.{whole_settled, knows_as_much}
 use Rattle.nc_hosts.proofs.Kept.{IsStore, rest_stores}
-use Rattle.nc_hosts.proofs.Weaving.{IsWriters, all_front, one_writers, writers_thread, writers_own, threads_append, threads_none}
-use Rattle.nc_hosts.proofs.Weaving.{log_writers, call_writers}
+use Rattle.nc_hosts.proofs.Interleaving.{IsWriters, all_front, one_writers, writers_thread, writers_own, threads_append, threads_none}
+use Rattle.nc_hosts.proofs.Interleaving.{log_writers, call_writers}
 
 -- The events that there are before a call of a region ends are those of that call so far, whose rest is pending. Or they are unfinished
 -- attempts at a deletion, and the last one so far, whose rest up to the stamp is pending.
@@ -49,7 +49,7 @@ pub record Led (limit seats : ℕ) (host : Host) : Type 0 where
   pub threads : ThreadsMay (world_after (first_world limit seats) before) since
   pub plain : All IsWriters host.pending
   pub found : HasFound host
-  pub phase : Phase seats from (writers since) host.held.begun host.held.region host.pending
+  pub phase : Phase seats from (writers since) host.handle.begun host.handle.region host.pending
 
 -- the world after one more event is that after all events
 led_after : (limit seats : ℕ) (before since : List Event) (w : World) (event : Event)
@@ -92,7 +92,7 @@ led_runs limit seats old event l is may found =
           ((λ no. subst (λ (w : World). ThreadMay w event) (led_there limit seats l.before l.since old.world l.world) may), tt);
       plain = l.plain;
       found = found;
-      phase = subst (λ (own : List Event). Phase seats l.from own old.held.begun old.held.region old.pending)
+      phase = subst (λ (own : List Event). Phase seats l.from own old.handle.begun old.handle.region old.pending)
           (sym (writers_thread l.since event is)) l.phase;
     }
 
@@ -115,34 +115,34 @@ led_makes limit seats old event rest l is found =
           (one_writers event (All-head IsWriters event rest plain)));
       plain = All-tail IsWriters event rest plain;
       found = found;
-      phase = subst (λ (own : List Event). Phase seats l.from own old.held.begun old.held.region rest) (sym own)
-          (phase_made seats l.from (writers l.since) old.held.begun old.held.region event old.pending rest is l.phase);
+      phase = subst (λ (own : List Event). Phase seats l.from own old.handle.begun old.handle.region rest) (sym own)
+          (phase_made seats l.from (writers l.since) old.handle.begun old.handle.region event old.pending rest is l.phase);
     }
 
 -- a deletion that is under way could begin
-pub could_begin : (limit seats : ℕ) (host : Host) (c : Chunk) → Led limit seats host → host.held.begun ≡ Some c
-    → HasBegun (record host.held { begun = None }) host.held c.base c
+pub could_begin : (limit seats : ℕ) (host : Host) (c : Chunk) → Led limit seats host → host.handle.begun ≡ Some c
+    → HasBegun (record host.handle { begun = None }) host.handle c.base c
 could_begin limit seats host c l begun = go l.phase
   where
-    go : Phase seats l.from (writers l.since) host.held.begun host.held.region host.pending
-        → HasBegun (record host.held { begun = None }) host.held c.base c
+    go : Phase seats l.from (writers l.since) host.handle.begun host.handle.region host.pending
+        → HasBegun (record host.handle { begun = None }) host.handle c.base c
     go (Calling called idle pages call) = absurd (let bad : None ≡ Some c = sym idle ∙ begun in cc)
     go (Deleting d is at live room made last first own_is last_is) =
         let here : Some d ≡ Some c = sym is ∙ begun in
         let same : d ≡ c = cc in
         record {
-          live = subst (λ (e : Chunk). IsLiveAt host.held.region.chunks e.base e) same
+          live = subst (λ (e : Chunk). IsLiveAt host.handle.region.chunks e.base e) same
               (subst (λ (r : Region). IsLiveAt r.chunks d.base d) (sym at) live);
           room = subst (λ (r : Region). r.keeper.numbers.generation < 4611686018427387904) (sym at) room;
           none = refl;
-          others = ap (λ (b : Option Chunk). record host.held { begun = b }) begun;
+          others = ap (λ (b : Option Chunk). record host.handle { begun = b }) begun;
         }
 
 -- while a deletion is under way, stores and settlings are pending
-pub deletion_stores : (limit seats : ℕ) (host : Host) (c : Chunk) → Led limit seats host → host.held.begun ≡ Some c → All IsStore host.pending
+pub deletion_stores : (limit seats : ℕ) (host : Host) (c : Chunk) → Led limit seats host → host.handle.begun ≡ Some c → All IsStore host.pending
 deletion_stores limit seats host c l begun = go l.phase
   where
-    go : Phase seats l.from (writers l.since) host.held.begun host.held.region host.pending → All IsStore host.pending
+    go : Phase seats l.from (writers l.since) host.handle.begun host.handle.region host.pending → All IsStore host.pending
     go (Calling called idle pages call) = absurd (let bad : None ≡ Some c = sym idle ∙ begun in cc)
     go (Deleting d is at live room made last first own_is last_is) =
         rest_stores l.from.marked.marks d.base d.length last host.pending last_is
@@ -159,20 +159,20 @@ pages_stay limit seats before old new s pages =
     }
 
 -- where nothing is pending and no deletion is under way, the last call has ended
-pub finished : (limit seats : ℕ) (host : Host) (l : Led limit seats host) → host.pending ≡ [] → host.held.begun ≡ None
-    → Stays limit seats (l.before ++ l.since) host.held.region
+pub finished : (limit seats : ℕ) (host : Host) (l : Led limit seats host) → host.pending ≡ [] → host.handle.begun ≡ None
+    → Stays limit seats (l.before ++ l.since) host.handle.region
 finished limit seats host l none idle =
     go l.phase
   where
-    go : Phase seats l.from (writers l.since) host.held.begun host.held.region host.pending
-        → Stays limit seats (l.before ++ l.since) host.held.region
+    go : Phase seats l.from (writers l.since) host.handle.begun host.handle.region host.pending
+        → Stays limit seats (l.before ++ l.since) host.handle.region
     go (Calling called idle pages call) =
         let own : writers l.since ++ host.pending ≡ writers l.since =
         ap (λ (z : List Event). writers l.since ++ z) none ∙ append-nil (writers l.since) in
-        let now : KnowsNoMore host.held.region.keeper.numbers host.world.keeper =
-        subst (λ (z : List Event). KnowsNoMore host.held.region.keeper.numbers (world_after host.world z).keeper) none
+        let now : KnowsNoMore host.handle.region.keeper.numbers host.world.keeper =
+        subst (λ (z : List Event). KnowsNoMore host.handle.region.keeper.numbers (world_after host.world z).keeper) none
         (l.found (subst (All IsNoLook) (sym none) (All-nil IsNoLook))) in
-        pages_stay limit seats (l.before ++ l.since) called host.held.region
+        pages_stay limit seats (l.before ++ l.since) called host.handle.region
         (call_stays limit seats l.before l.from (record { events = l.since; region = called }) l.stays l.threads
         (subst (λ (w : World). KnowsNoMore called.keeper.numbers w.keeper) l.world
         (subst (λ (k : KeeperState). KnowsNoMore k.numbers host.world.keeper) (ap (λ (r : Region). r.keeper) pages) now))
@@ -180,14 +180,14 @@ finished limit seats host l none idle =
     go (Deleting c is at live room made last first own_is last_is) = absurd (let bad : None ≡ Some c = sym idle ∙ is in cc)
 
 -- a call that begins where the last one has ended
-led_anew : (limit seats : ℕ) (old new : Host) (l : Led limit seats old) → old.pending ≡ [] → old.held.begun ≡ None
+led_anew : (limit seats : ℕ) (old new : Host) (l : Led limit seats old) → old.pending ≡ [] → old.handle.begun ≡ None
     → new.world ≡ old.world → HasFound new → All IsWriters new.pending
-    → Phase seats old.held.region [] new.held.begun new.held.region new.pending → Led limit seats new
+    → Phase seats old.handle.region [] new.handle.begun new.handle.region new.pending → Led limit seats new
 led_anew limit seats old new l none idle same found plain phase =
     record {
       before = l.before ++ l.since;
       since = [];
-      from = old.held.region;
+      from = old.handle.region;
       stays = finished limit seats old l none idle;
       world = same ∙ (l.world ∙ ap (world_after (first_world limit seats)) (sym (append-nil (l.before ++ l.since))));
       threads = tt;
@@ -205,7 +205,7 @@ stops_plain pending r c own =
     (log_writers (record no_details { base = c.base; len = c.length }) (log_of_delete r.marked.marks c.base c.length)))
 
 -- the last call of a deletion
-phase_ended : (seats : ℕ) (from : Region) (own : List Event) (old new : HeldState) (pending later : List Event) (stamp : ℕ)
+phase_ended : (seats : ℕ) (from : Region) (own : List Event) (old new : RegionHandleState) (pending later : List Event) (stamp : ℕ)
     (is : HasEnded old new stamp) → pending ≡ [] → later ≡ Retires is.chunk.base is.chunk.length ∷ [] → Phase seats from own old.begun old.region pending
     → Phase seats from own new.begun new.region later
 phase_ended seats from own old new pending later stamp is none stamped (Calling called idle pages call) =
@@ -215,7 +215,7 @@ phase_ended seats from own old new pending later stamp is none stamped (Deleting
     let same : c ≡ is.chunk = cc in
     let deleted : IsDeleted from new.region is.chunk.base stamp =
     subst (λ (r : Region). IsDeleted r new.region is.chunk.base stamp) at is.deleted in
-    Calling new.region (ap (λ (h : HeldState). h.begun) is.others) refl
+    Calling new.region (ap (λ (h : RegionHandleState). h.begun) is.others) refl
     (gone at is.deleted is.same
     (subst (λ (d : Chunk). AreAttempts from.marked.marks d.base d.length made) same first)
     (ap (λ (z : List Event). z ++ later) own_is
@@ -239,14 +239,14 @@ phase_ended seats from own old new pending later stamp is none stamped (Deleting
         ∙ ap (λ (e : Chunk). made ++ delete_events r.marked.marks is.chunk.base e.length) (sym chunk))))
 
 -- a host is led over a call
-led_calls : (limit seats : ℕ) (old new : Host) → Led limit seats old → old.pending ≡ [] → IsHeldCall seats old.held new.held new.pending
+led_calls : (limit seats : ℕ) (old new : Host) → Led limit seats old → old.pending ≡ [] → IsHandleCall seats old.handle new.handle new.pending
     → new.world ≡ old.world → HasFound new → Led limit seats new
 led_calls limit seats old new l none (Changes idle then call) same found =
-    led_anew limit seats old new l none idle same found (call_writers seats old.held.region new.held.region new.pending call)
-    (Calling new.held.region then refl call)
+    led_anew limit seats old new l none idle same found (call_writers seats old.handle.region new.handle.region new.pending call)
+    (Calling new.handle.region then refl call)
 led_calls limit seats old new l none (Begins c begun own) same found =
-    led_anew limit seats old new l none begun.none same found (stops_plain new.pending old.held.region c own)
-    (Deleting c (ap (λ (h : HeldState). h.begun) begun.others) (ap (λ (h : HeldState). h.region) begun.others) begun.live begun.room
+    led_anew limit seats old new l none begun.none same found (stops_plain new.pending old.handle.region c own)
+    (Deleting c (ap (λ (h : RegionHandleState). h.begun) begun.others) (ap (λ (h : RegionHandleState). h.region) begun.others) begun.live begun.room
     [] [] NoneYet refl own)
 led_calls limit seats old new l none (Ends stamp is stamped) same found =
     record {
@@ -258,16 +258,16 @@ led_calls limit seats old new l none (Ends stamp is stamped) same found =
       threads = l.threads;
       plain = subst (All IsWriters) (sym stamped) (one_writers (Retires is.chunk.base is.chunk.length) refl);
       found = found;
-      phase = phase_ended seats l.from (writers l.since) old.held new.held old.pending new.pending stamp is none stamped l.phase;
+      phase = phase_ended seats l.from (writers l.since) old.handle new.handle old.pending new.pending stamp is none stamped l.phase;
     }
 
 -- a call that leaves the region as it is, but for pages
-led_asks : (limit seats : ℕ) (old : Host) (held : HeldState) → Led limit seats old → held.begun ≡ old.held.begun
-    → held.region ≡ record old.held.region { made = held.region.made } → HasFound (record old { held = held })
-    → Led limit seats (record old { held = held })
-led_asks limit seats old held l begun region found = go l.phase
+led_asks : (limit seats : ℕ) (old : Host) (handle : RegionHandleState) → Led limit seats old → handle.begun ≡ old.handle.begun
+    → handle.region ≡ record old.handle.region { made = handle.region.made } → HasFound (record old { handle = handle })
+    → Led limit seats (record old { handle = handle })
+led_asks limit seats old handle l begun region found = go l.phase
   where
-    go : Phase seats l.from (writers l.since) old.held.begun old.held.region old.pending → Led limit seats (record old { held = held })
+    go : Phase seats l.from (writers l.since) old.handle.begun old.handle.region old.pending → Led limit seats (record old { handle = handle })
     go (Calling called idle pages call) =
         record {
           before = l.before;
@@ -278,16 +278,16 @@ led_asks limit seats old held l begun region found = go l.phase
           threads = l.threads;
           plain = l.plain;
           found = found;
-          phase = Calling called (begun ∙ idle) (region ∙ ap (λ (r : Region). record r { made = held.region.made }) pages) call;
+          phase = Calling called (begun ∙ idle) (region ∙ ap (λ (r : Region). record r { made = handle.region.made }) pages) call;
         }
     go (Deleting c is at live room made last first own_is last_is) =
-        let from : held.region ≡ record l.from { made = held.region.made } =
-        region ∙ ap (λ (r : Region). record r { made = held.region.made }) at in
+        let from : handle.region ≡ record l.from { made = handle.region.made } =
+        region ∙ ap (λ (r : Region). record r { made = handle.region.made }) at in
         record {
           before = l.before;
           since = l.since;
-          from = held.region;
-          stays = pages_stay limit seats l.before l.from held.region l.stays from;
+          from = handle.region;
+          stays = pages_stay limit seats l.before l.from handle.region l.stays from;
           world = l.world;
           threads = l.threads;
           plain = l.plain;
@@ -302,19 +302,19 @@ led_asks limit seats old held l begun region found = go l.phase
         }
 
 -- what is pending after the first call of a deletion
-anew : (seats : ℕ) (held : HeldState) (pending : List Event) (c : Chunk) → held.begun ≡ Some c
-    → IsHeldCall seats (record held { begun = None }) held pending
-    → pending ++ Retires c.base c.length ∷ [] ≡ delete_events held.region.marked.marks c.base c.length
-anew seats held pending c begun (Changes none then call) = absurd (let bad : None ≡ Some c = sym then ∙ begun in cc)
-anew seats held pending c begun (Begins d is own) =
-    let here : Some d ≡ Some c = sym (ap (λ (h : HeldState). h.begun) is.others) ∙ begun in
+anew : (seats : ℕ) (handle : RegionHandleState) (pending : List Event) (c : Chunk) → handle.begun ≡ Some c
+    → IsHandleCall seats (record handle { begun = None }) handle pending
+    → pending ++ Retires c.base c.length ∷ [] ≡ delete_events handle.region.marked.marks c.base c.length
+anew seats handle pending c begun (Changes none then call) = absurd (let bad : None ≡ Some c = sym then ∙ begun in cc)
+anew seats handle pending c begun (Begins d is own) =
+    let here : Some d ≡ Some c = sym (ap (λ (h : RegionHandleState). h.begun) is.others) ∙ begun in
     let same : d ≡ c = cc in
-    subst (λ (e : Chunk). pending ++ Retires e.base e.length ∷ [] ≡ delete_events held.region.marked.marks e.base e.length) same own
-anew seats held pending c begun (Ends stamp is stamped) = absurd (let bad : None ≡ Some is.chunk = is.begun in cc)
+    subst (λ (e : Chunk). pending ++ Retires e.base e.length ∷ [] ≡ delete_events handle.region.marked.marks e.base e.length) same own
+anew seats handle pending c begun (Ends stamp is stamped) = absurd (let bad : None ≡ Some is.chunk = is.begun in cc)
 
 -- a deletion's events are to be made anew
-led_restarts : (limit seats : ℕ) (old : Host) (pending : List Event) (c : Chunk) → Led limit seats old → old.held.begun ≡ Some c
-    → pending ++ Retires c.base c.length ∷ [] ≡ delete_events old.held.region.marked.marks c.base c.length
+led_restarts : (limit seats : ℕ) (old : Host) (pending : List Event) (c : Chunk) → Led limit seats old → old.handle.begun ≡ Some c
+    → pending ++ Retires c.base c.length ∷ [] ≡ delete_events old.handle.region.marked.marks c.base c.length
     → HasFound (record old { pending = pending }) → Led limit seats (record old { pending = pending })
 led_restarts limit seats old pending c l begun own found =
     record {
@@ -324,13 +324,13 @@ led_restarts limit seats old pending c l begun own found =
       stays = l.stays;
       world = l.world;
       threads = l.threads;
-      plain = stops_plain pending old.held.region c own;
+      plain = stops_plain pending old.handle.region c own;
       found = found;
       phase = go l.phase;
     }
   where
-    go : Phase seats l.from (writers l.since) old.held.begun old.held.region old.pending
-        → Phase seats l.from (writers l.since) old.held.begun old.held.region pending
+    go : Phase seats l.from (writers l.since) old.handle.begun old.handle.region old.pending
+        → Phase seats l.from (writers l.since) old.handle.begun old.handle.region pending
     go (Calling called idle pages call) = absurd (let bad : None ≡ Some c = sym idle ∙ begun in cc)
     go (Deleting d is at live room made last first own_is last_is) =
         let here : Some d ≡ Some c = sym is ∙ begun in
@@ -349,34 +349,34 @@ led_step limit seats old new l (Makes event is same) found =
     subst (Led limit seats) (sym same) (led_makes limit seats old event new.pending l is (subst HasFound same found))
 led_step limit seats old new l (Restarts c begun call same) found =
     subst (Led limit seats) (sym same)
-    (led_restarts limit seats old new.pending c l begun (anew seats old.held new.pending c begun call) (subst HasFound same found))
+    (led_restarts limit seats old new.pending c l begun (anew seats old.handle new.pending c begun call) (subst HasFound same found))
 led_step limit seats old new l (Calls none call same) found = led_calls limit seats old new l none call same found
 led_step limit seats old new l (Asks begun region same) found =
-    subst (Led limit seats) (sym same) (led_asks limit seats old new.held l begun region (subst HasFound same found))
+    subst (Led limit seats) (sym same) (led_asks limit seats old new.handle l begun region (subst HasFound same found))
 
 -- the first state of a host is led
-led_first : (bundles seats : ℕ) (host : Host) → IsFirst bundles seats host.held
+led_first : (bundles seats : ℕ) (host : Host) → IsFirst bundles seats host.handle
     → host.world ≡ first_world (65536 + 32 * bundles) seats → host.pending ≡ [] → Led (65536 + 32 * bundles) seats host
 led_first bundles seats host is world none =
-    let numbers : host.held.region.keeper.numbers ≡ first_keeper_numbers seats = ap (λ (k : KeeperState). k.numbers) is.keeper in
+    let numbers : host.handle.region.keeper.numbers ≡ first_keeper_numbers seats = ap (λ (k : KeeperState). k.numbers) is.keeper in
     record {
       before = [];
       since = [];
-      from = host.held.region;
+      from = host.handle.region;
       stays = record {
-        led = begins_unused (65536 + 32 * bundles) seats host.held.region is.lawful is.marked is.chunks numbers;
+        led = begins_unused (65536 + 32 * bundles) seats host.handle.region is.lawful is.marked is.chunks numbers;
         whole = whole_settled (unused_text (65536 + 32 * bundles)).marks (unused_text (65536 + 32 * bundles)).bytes;
-        region = subst (λ (m : MarkedText). IsRegion m host.held.region.chunks) (sym is.marked)
+        region = subst (λ (m : MarkedText). IsRegion m host.handle.region.chunks) (sym is.marked)
             (subst (IsRegion (unused_text (65536 + 32 * bundles))) (sym is.chunks)
             (region_of_new (unused_text (65536 + 32 * bundles)) (65536 + 32 * bundles, is.lawful, refl)));
       };
       world = world;
       threads = tt;
       plain = subst (All IsWriters) (sym none) (All-nil IsWriters);
-      found = λ all. subst (λ (z : List Event). KnowsNoMore host.held.region.keeper.numbers (world_after host.world z).keeper) (sym none)
-          (subst (λ (w : World). KnowsNoMore host.held.region.keeper.numbers w.keeper) (sym world)
-          (knows_as_much host.held.region.keeper.numbers (first_keeper_numbers seats) (sym numbers)));
-      phase = Calling host.held.region is.begun refl (Keeps refl none);
+      found = λ all. subst (λ (z : List Event). KnowsNoMore host.handle.region.keeper.numbers (world_after host.world z).keeper) (sym none)
+          (subst (λ (w : World). KnowsNoMore host.handle.region.keeper.numbers w.keeper) (sym world)
+          (knows_as_much host.handle.region.keeper.numbers (first_keeper_numbers seats) (sym numbers)));
+      phase = Calling host.handle.region is.begun refl (Keeps refl none);
     }
 
 -- every state of a host that is reached is led

@@ -12,10 +12,10 @@ use Rattle.nc_calls.specs.Histories.{Creates}
 use Rattle.nc_calls.proofs.Offered.{still_created}
 use Rattle.nc_handle.specs.declared.acts.act.NcAct.{NcAct}
 use Rattle.nc_handle.specs.acts.Runs.{runs_of_create, HasRuns}
-use Rattle.nc_handle.specs.Held.{HeldState, IsLiveAt, HasBegun, HasLoaded}
+use Rattle.nc_handle.specs.RegionHandle.{RegionHandleState, IsLiveAt, HasBegun, HasLoaded}
 use Rattle.nc_handle.specs.RunCalls.{AreCreationRuns, AreDeletionRuns}
 use Rattle.nc_handle.specs.Lent.{bytes_of_span}
-use Rattle.nc_handle.specs.Pending.{IsHeldCall, Changes, Begins, events_pending}
+use Rattle.nc_handle.specs.Pending.{IsHandleCall, Changes, Begins, events_pending}
 use Rattle.nc_handle.proofs.Offered.{create_runs_due, delete_runs_due, still_none, one_of_base, span_put, chunk_span}
 use Rattle.nc_hosts.specs.Hosts.{Host, IsReached}
 use Rattle.nc_hosts.proofs.Going.{restarts}
@@ -28,45 +28,45 @@ inserted old new k c le is =
     (k, omega (arith, le, length-insert old k c), get_or-insert_at old k c c le)
 
 -- the live chunk with the base of the one created is that one
-the_chunk : (bundles seats : ℕ) (host : Host) (new : HeldState) (v : MarkedChunk) (c : Chunk) → IsReached bundles seats host → IsValid v
-    → HasLoaded v host.held new → IsLiveAt new.region.chunks v.base c → c ≡ live_chunk v
+the_chunk : (bundles seats : ℕ) (host : Host) (new : RegionHandleState) (v : MarkedChunk) (c : Chunk) → IsReached bundles seats host → IsValid v
+    → HasLoaded v host.handle new → IsLiveAt new.region.chunks v.base c → c ≡ live_chunk v
 the_chunk bundles seats host new v c reached valid loaded live =
     one_of_base new.region.marked new.region.chunks c (live_chunk v)
-    (still_created host.held.region new.region v (is_region bundles seats host reached) valid loaded.1 loaded.3)
-    live.0 (inserted host.held.region.chunks new.region.chunks loaded.3.chunks.0 (live_chunk v) loaded.3.chunks.1.0 loaded.3.chunks.2) live.2
+    (still_created host.handle.region new.region v (is_region bundles seats host reached) valid loaded.1 loaded.3)
+    live.0 (inserted host.handle.region.chunks new.region.chunks loaded.3.chunks.0 (live_chunk v) loaded.3.chunks.1.0 loaded.3.chunks.2) live.2
 
--- a creation whose runs are told is a call by a handle (`IsHeldCall`)
-pub creation : (bundles seats : ℕ) (host : Host) (new : HeldState) (v : MarkedChunk) (c : Chunk) (lent now : List NcAct) (count : ℕ)
-    → IsReached bundles seats host → IsValid v → HasLoaded v host.held new → IsLiveAt new.region.chunks v.base c
-    → AreCreationRuns new c lent now count → IsHeldCall seats host.held new (events_pending v (take count now))
+-- a creation whose runs are reported is a call by a handle (`IsHandleCall`)
+pub creation : (bundles seats : ℕ) (host : Host) (new : RegionHandleState) (v : MarkedChunk) (c : Chunk) (lent now : List NcAct) (count : ℕ)
+    → IsReached bundles seats host → IsValid v → HasLoaded v host.handle new → IsLiveAt new.region.chunks v.base c
+    → AreCreationRuns new c lent now count → IsHandleCall seats host.handle new (events_pending v (take count now))
 creation bundles seats host new v c lent now count reached valid loaded live runs =
     let same : c ≡ live_chunk v = the_chunk bundles seats host new v c reached valid loaded live in
     let code : bytes_of_span new.region.marked.bytes c.base c.length ≡ v.code =
     ap (λ (d : Chunk). bytes_of_span new.region.marked.bytes d.base d.length) same
     ∙ (ap (λ (z : List ℕ). bytes_of_span z v.base (length v.code)) loaded.3.bytes
-    ∙ span_put host.held.region.marked.bytes v.base v.code (chunk_span host.held.region v valid loaded.1)) in
+    ∙ span_put host.handle.region.marked.bytes v.base v.code (chunk_span host.handle.region v valid loaded.1)) in
     let here : HasRuns lent now count v.base v.code (runs_of_create v.base v.code) (log_of_create v.base v.code) =
     subst (λ (z : List ℕ). HasRuns lent now count v.base z (runs_of_create v.base z) (log_of_create v.base z)) code
     (subst (λ (b : ℕ). HasRuns lent now count b (bytes_of_span new.region.marked.bytes c.base c.length)
     (runs_of_create b (bytes_of_span new.region.marked.bytes c.base c.length))
     (log_of_create b (bytes_of_span new.region.marked.bytes c.base c.length))) live.2 runs.1) in
-    Changes loaded.0 (still_none host.held new loaded.4 loaded.0)
+    Changes loaded.0 (still_none host.handle new loaded.4 loaded.0)
     (Creates v valid loaded.1 loaded.3 (create_runs_due v lent now count here))
 
 -- the first call of a deletion
-pub deletion : (seats : ℕ) (old new : HeldState) (base : ℕ) (v : MarkedChunk) (c : Chunk) (lent now : List NcAct) (count : ℕ)
-    → HasBegun old new base c → AreDeletionRuns new c lent now count → IsHeldCall seats old new (events_pending v (take count now))
+pub deletion : (seats : ℕ) (old new : RegionHandleState) (base : ℕ) (v : MarkedChunk) (c : Chunk) (lent now : List NcAct) (count : ℕ)
+    → HasBegun old new base c → AreDeletionRuns new c lent now count → IsHandleCall seats old new (events_pending v (take count now))
 deletion seats old new base v c lent now count begun runs =
-    let region : new.region ≡ old.region = ap (λ (h : HeldState). h.region) begun.others in
+    let region : new.region ≡ old.region = ap (λ (h : RegionHandleState). h.region) begun.others in
     Begins c (subst (λ (b : ℕ). HasBegun old new b c) (sym begun.live.2) begun)
     (delete_runs_due v new.region.marked.marks c.base c.length (bytes_of_span new.region.marked.bytes c.base c.length) lent now count runs.1
     ∙ ap (λ (r : Region). delete_events r.marked.marks c.base c.length) region)
 
 -- a deletion that is under way
 pub again : (bundles seats : ℕ) (host : Host) (v : MarkedChunk) (c : Chunk) (lent now : List NcAct) (count : ℕ)
-    → IsReached bundles seats host → host.held.begun ≡ Some c → AreDeletionRuns host.held c lent now count
+    → IsReached bundles seats host → host.handle.begun ≡ Some c → AreDeletionRuns host.handle c lent now count
     → IsReached bundles seats (record host { pending = events_pending v (take count now) })
 again bundles seats host v c lent now count reached begun runs =
     restarts bundles seats host c (events_pending v (take count now)) reached begun
-    (delete_runs_due v host.held.region.marked.marks c.base c.length (bytes_of_span host.held.region.marked.bytes c.base c.length) lent now
+    (delete_runs_due v host.handle.region.marked.marks c.base c.length (bytes_of_span host.handle.region.marked.bytes c.base c.length) lent now
     count runs.1)

@@ -3,16 +3,16 @@ use Rattle.std.specs.Prelude.{◌≡◌, ℕ, ◌+◌, ◌*◌, ⊤, false, List
 use Rattle.nc_list.specs.declared.chunk.Chunk.{Chunk}
 use Rattle.nc_region.specs.schedules.World.{World, first_world}
 use Rattle.nc_region.specs.schedules.Events.{Event, Looks, ThreadMay, after, world_after}
-use Rattle.nc_calls.specs.Weaving.{is_writers}
+use Rattle.nc_calls.specs.Interleaving.{is_writers}
 use Rattle.nc_calls.specs.Calls.{KnowsNoMore}
-use Rattle.nc_handle.specs.Held.{HeldState, IsFirst}
-use Rattle.nc_handle.specs.Pending.{IsHeldCall}
+use Rattle.nc_handle.specs.RegionHandle.{RegionHandleState, IsFirst}
+use Rattle.nc_handle.specs.Pending.{IsHandleCall}
 
 -- The library's state for the host's handle; the world of the host's memory, whose text is the bytes stored there; and the
--- pending events, in their order. These are the stores and settlings that the host was told and hasn't made yet, or the
+-- pending events, in their order. These are the stores and settlings that were reported to the host and haven't been made, or the
 -- library's own steps.
 pub record Host : Type 0 where
-  pub held : HeldState
+  pub handle : RegionHandleState
   pub world : World
   pub pending : List Event
 
@@ -25,11 +25,11 @@ pub data IsStep (seats : ℕ) (old new : Host) : Type 0 where
       → new ≡ record old { world = after old.world event } → IsStep seats old new
   Makes : (event : Event) → old.pending ≡ event ∷ new.pending
       → new ≡ record old { world = after old.world event; pending = new.pending } → IsStep seats old new
-  Restarts : (c : Chunk) → old.held.begun ≡ Some c → IsHeldCall seats (record old.held { begun = None }) old.held new.pending
+  Restarts : (c : Chunk) → old.handle.begun ≡ Some c → IsHandleCall seats (record old.handle { begun = None }) old.handle new.pending
       → new ≡ record old { pending = new.pending } → IsStep seats old new
-  Calls : old.pending ≡ [] → IsHeldCall seats old.held new.held new.pending → new.world ≡ old.world → IsStep seats old new
-  Asks : new.held.begun ≡ old.held.begun → new.held.region ≡ record old.held.region { made = new.held.region.made }
-      → new ≡ record old { held = new.held } → IsStep seats old new
+  Calls : old.pending ≡ [] → IsHandleCall seats old.handle new.handle new.pending → new.world ≡ old.world → IsStep seats old new
+  Asks : new.handle.begun ≡ old.handle.begun → new.handle.region ≡ record old.handle.region { made = new.handle.region.made }
+      → new ≡ record old { handle = new.handle } → IsStep seats old new
 
 -- the event isn't a look at a seat's word
 abbrev pub IsNoLook : Event → Type 0
@@ -38,11 +38,11 @@ IsNoLook event = ⊤
 
 -- if no look is pending any more, the region's keeper knows no more than the world's will once the pending events are made
 abbrev pub HasFound : Host → Type 0
-HasFound host = All IsNoLook host.pending → KnowsNoMore host.held.region.keeper.numbers (world_after host.world host.pending).keeper
+HasFound host = All IsNoLook host.pending → KnowsNoMore host.handle.region.keeper.numbers (world_after host.world host.pending).keeper
 
 -- A state that a host can reach from a new region of a handle: nothing is pending, and its memory is a region's without any
 -- chunk; then steps, after each of which the keeper knows no more than the world's (`HasFound`).
 pub data IsReached (bundles seats : ℕ) : Host → Type 0 where
-  First : {host : Host} → IsFirst bundles seats host.held → host.world ≡ first_world (0x10000 + 32 * bundles) seats
+  First : {host : Host} → IsFirst bundles seats host.handle → host.world ≡ first_world (0x10000 + 32 * bundles) seats
       → host.pending ≡ [] → IsReached bundles seats host
   Then : {old new : Host} → IsReached bundles seats old → IsStep seats old new → HasFound new → IsReached bundles seats new

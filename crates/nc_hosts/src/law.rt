@@ -28,7 +28,7 @@ ghost use Rattle.nc_hosts.specs.Hosts.{Host, IsStep, IsReached};
 ///
 /// A host (`specs/Hosts`) makes the pending events one by one and in order, and makes no call that may change the region before it has
 /// made all of them. While a deletion is under way it may make all of the deletion's stores and its settling again. The pending events
-/// are those that it reads in the buffer that it lent (`TellsPending` of `nc_handle`), or those that the library makes itself
+/// are those that it reads in the buffer that it lent (`ReportsPending` of `nc_handle`), or those that the library makes itself
 /// (`DoesItself`). There is a state after each single store, so `stand` and `whole` are about every moment. The function does nothing
 /// when called.
 ///
@@ -45,14 +45,14 @@ pub fn law_of_hosts()
     ensures whole { (bundles seats : ℕ) (host : Host) → IsReached bundles seats host → AllFetchWhole host.world }
     ensures freed { (bundles seats : ℕ) (host : Host) (span : RetiredSpan) (later : List Event) → IsReached bundles seats host
         → host.pending ≡ Event.Frees span ∷ later → NoneIsWithin host.world span }
-    ensures memory { (bundles seats : ℕ) (host : Host) → IsReached bundles seats host → host.pending ≡ [] → host.held.begun ≡ None
-        → StandsFor host.world host.held.region }
+    ensures memory { (bundles seats : ℕ) (host : Host) → IsReached bundles seats host → host.pending ≡ [] → host.handle.begun ≡ None
+        → StandsFor host.world host.handle.region }
     ensures stopped { (bundles seats : ℕ) (host : Host) (c : Chunk) → IsReached bundles seats host → host.pending ≡ []
-        → host.held.begun ≡ Some c → host.world.marked ≡ record host.held.region.marked {
-          bytes = with_span host.held.region.marked.bytes (c.base - 0x10000) (replicate c.length 0xF4);
+        → host.handle.begun ≡ Some c → host.world.marked ≡ record host.handle.region.marked {
+          bytes = with_span host.handle.region.marked.bytes (c.base - 0x10000) (replicate c.length 0xF4);
         } }
     ensures stores { (seats : ℕ) (old new : Host) → IsStep seats old new → (new.world.marked.bytes ≡ old.world.marked.bytes)
         ⊎ ((at : ℕ) × (byte : ℕ) × (old.pending ≡ Event.Puts at byte ∷ new.pending)
         × (new.world.marked.bytes ≡ slice_set old.world.marked.bytes (at - 0x10000) byte)) }
-    ensures confined { (bundles seats : ℕ) (host : Host) → IsReached bundles seats host → IsConfined host.held.region.marked.bytes }
+    ensures confined { (bundles seats : ℕ) (host : Host) → IsReached bundles seats host → IsConfined host.handle.region.marked.bytes }
 {}

@@ -5,10 +5,10 @@ ghost use Rattle.nc_vet.specs.Chunk.{MarkedChunk, Piece, IsValid};
 ghost use Rattle.nc_list.specs.declared.chunk.Chunk.{Chunk};
 ghost use Rattle.nc_region.specs.schedules.Events.{Event, ThreadMay, after};
 ghost use Rattle.nc_region.specs.Patch.{AreBytesOf};
-ghost use Rattle.nc_calls.specs.Weaving.{is_writers};
+ghost use Rattle.nc_calls.specs.Interleaving.{is_writers};
 ghost use Rattle.nc_calls.specs.Calls.{create_events, modify_events, delete_events};
-ghost use Rattle.nc_handle.specs.Held.{HeldState, HasLoaded, HasPatched, HasBegun, HasEnded};
-ghost use Rattle.nc_handle.specs.Pending.{IsHeldCall, ChangesPages};
+ghost use Rattle.nc_handle.specs.RegionHandle.{RegionHandleState, HasLoaded, HasPatched, HasBegun, HasEnded};
+ghost use Rattle.nc_handle.specs.Pending.{IsHandleCall, ChangesPages};
 ghost use Rattle.nc_hosts.specs.Hosts.{Host, IsNoLook, IsReached};
 
 /// From each state that a host can reach, these lead to another one:
@@ -26,34 +26,34 @@ pub fn law_of_reaching()
     ensures makes { (bundles seats : ℕ) (host : Host) (event : Event) (later : List Event) → IsReached bundles seats host
         → host.pending ≡ event ∷ later → IsNoLook event
         → IsReached bundles seats (record host { world = after host.world event; pending = later }) }
-    ensures loads { (bundles seats : ℕ) (host : Host) (new : HeldState) (v : MarkedChunk) → IsReached bundles seats host
-        → host.pending ≡ [] → IsValid v → HasLoaded v host.held new
-        → IsReached bundles seats (record { held = new; world = host.world; pending = create_events v }) }
-    ensures patches { (bundles seats : ℕ) (host : Host) (new : HeldState) (at : ℕ) (bytes : List ℕ) (news : List Piece)
-        → IsReached bundles seats host → host.pending ≡ [] → AreBytesOf bytes news → HasPatched at bytes host.held new
-        → IsReached bundles seats (record { held = new; world = host.world; pending = modify_events host.held.region.marked.bytes at news }) }
-    ensures begins { (bundles seats : ℕ) (host : Host) (new : HeldState) (c : Chunk) (stops : List Event) → IsReached bundles seats host
-        → host.pending ≡ [] → HasBegun host.held new c.base c
-        → stops ++ Event.Retires c.base c.length ∷ [] ≡ delete_events host.held.region.marked.marks c.base c.length
-        → IsReached bundles seats (record { held = new; world = host.world; pending = stops }) }
+    ensures loads { (bundles seats : ℕ) (host : Host) (new : RegionHandleState) (v : MarkedChunk) → IsReached bundles seats host
+        → host.pending ≡ [] → IsValid v → HasLoaded v host.handle new
+        → IsReached bundles seats (record { handle = new; world = host.world; pending = create_events v }) }
+    ensures patches { (bundles seats : ℕ) (host : Host) (new : RegionHandleState) (at : ℕ) (bytes : List ℕ) (news : List Piece)
+        → IsReached bundles seats host → host.pending ≡ [] → AreBytesOf bytes news → HasPatched at bytes host.handle new
+        → IsReached bundles seats (record { handle = new; world = host.world; pending = modify_events host.handle.region.marked.bytes at news }) }
+    ensures begins { (bundles seats : ℕ) (host : Host) (new : RegionHandleState) (c : Chunk) (stops : List Event) → IsReached bundles seats host
+        → host.pending ≡ [] → HasBegun host.handle new c.base c
+        → stops ++ Event.Retires c.base c.length ∷ [] ≡ delete_events host.handle.region.marked.marks c.base c.length
+        → IsReached bundles seats (record { handle = new; world = host.world; pending = stops }) }
     ensures restarts { (bundles seats : ℕ) (host : Host) (c : Chunk) (stops : List Event) → IsReached bundles seats host
-        → host.held.begun ≡ Some c
-        → stops ++ Event.Retires c.base c.length ∷ [] ≡ delete_events host.held.region.marked.marks c.base c.length
+        → host.handle.begun ≡ Some c
+        → stops ++ Event.Retires c.base c.length ∷ [] ≡ delete_events host.handle.region.marked.marks c.base c.length
         → IsReached bundles seats (record host { pending = stops }) }
-    ensures ends { (bundles seats : ℕ) (host : Host) (new : HeldState) (stamp : ℕ) (is : HasEnded host.held new stamp)
+    ensures ends { (bundles seats : ℕ) (host : Host) (new : RegionHandleState) (stamp : ℕ) (is : HasEnded host.handle new stamp)
         → IsReached bundles seats host → host.pending ≡ []
         → IsReached bundles seats (record {
-          held = new;
+          handle = new;
           world = host.world;
           pending = Event.Retires is.chunk.base is.chunk.length ∷ [];
         }) }
-    ensures looks { (bundles seats : ℕ) (host : Host) (new : HeldState) (own : List Event) → IsReached bundles seats host
-        → host.pending ≡ [] → IsHeldCall seats host.held new own → ¬ All IsNoLook own
-        → IsReached bundles seats (record { held = new; world = host.world; pending = own }) }
-    ensures asks { (bundles seats : ℕ) (host : Host) (new : HeldState) → IsReached bundles seats host → new.begun ≡ host.held.begun
-        → new.region ≡ record host.held.region { made = new.region.made } → IsReached bundles seats (record host { held = new }) }
-    ensures fails { (bundles seats : ℕ) (host : Host) (new : HeldState) → IsReached bundles seats host → ChangesPages host.held new
-        → IsReached bundles seats (record host { held = new }) }
+    ensures looks { (bundles seats : ℕ) (host : Host) (new : RegionHandleState) (own : List Event) → IsReached bundles seats host
+        → host.pending ≡ [] → IsHandleCall seats host.handle new own → ¬ All IsNoLook own
+        → IsReached bundles seats (record { handle = new; world = host.world; pending = own }) }
+    ensures asks { (bundles seats : ℕ) (host : Host) (new : RegionHandleState) → IsReached bundles seats host → new.begun ≡ host.handle.begun
+        → new.region ≡ record host.handle.region { made = new.region.made } → IsReached bundles seats (record host { handle = new }) }
+    ensures fails { (bundles seats : ℕ) (host : Host) (new : RegionHandleState) → IsReached bundles seats host → ChangesPages host.handle new
+        → IsReached bundles seats (record host { handle = new }) }
     ensures runs { (bundles seats : ℕ) (host : Host) (event : Event) → IsReached bundles seats host → is_writers event ≡ false
         → ThreadMay host.world event → IsReached bundles seats (record host { world = after host.world event }) }
 {}

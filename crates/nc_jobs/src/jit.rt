@@ -7,7 +7,7 @@ use crate::loading::{NONE, load};
 use crate::pieces::Pieces;
 use crate::plan::{Live, Plan, SEATS};
 use nc_decode::MAX_BUNDLES;
-use nc_handle::{Guest, Held, NcAct};
+use nc_handle::{NcAct, RegionHandle, SeatHandle};
 use std::alloc::{AllocError, Global};
 
 /// The number of slots, of which half are live.
@@ -22,8 +22,8 @@ const ROOM: usize = 2 * MOST + 2;
 /// A region, its threads' seats, and what its host does with it.
 #[derive(Drop)]
 struct Jit {
-    held: Held,
-    guests: Vec<Box<Guest, Global>>,
+    handle: RegionHandle,
+    seats: Vec<Box<SeatHandle, Global>>,
     plan: Plan,
     acts: [NcAct; ROOM],
     count: usize,
@@ -32,15 +32,15 @@ struct Jit {
 impl Jit {
     /// A new region, with its seats given out; chunks are made of the first `count` pieces. Nothing without memory.
     fn new(alloc: Global, seed: u32, slots: u32, count: usize) -> Option<Jit> {
-        let Ok(mut held) = Held::new(alloc, MAX_BUNDLES, SEATS) else {
+        let Ok(mut handle) = RegionHandle::new(alloc, MAX_BUNDLES, SEATS) else {
             return None;
         };
-        let mut guests = Vec::new(alloc);
+        let mut seats = Vec::new(alloc);
         for _ in 0..SEATS {
-            let Ok(guest) = held.seat(alloc) else {
+            let Ok(seat) = handle.seat(alloc) else {
                 return None;
             };
-            if guests.push(guest).is_err() {
+            if seats.push(seat).is_err() {
                 return None;
             }
         }
@@ -48,8 +48,8 @@ impl Jit {
             return None;
         };
         Some(Jit {
-            held,
-            guests,
+            handle,
+            seats,
             plan,
             acts: [NONE; ROOM],
             count,
@@ -66,7 +66,7 @@ impl Jit {
 
     /// Vets the code of a chunk, and creates it.
     fn load(&mut self, digest: &mut Digest, live: Live, code: Vec<u8>) {
-        if let Some(count) = load(&mut self.held, digest, live.base, code, &mut self.acts) {
+        if let Some(count) = load(&mut self.handle, digest, live.base, code, &mut self.acts) {
             self.add_acts(digest, count);
         }
     }
@@ -90,7 +90,7 @@ impl Jit {
         let Some(patch) = self.plan.patch(pieces) else {
             return;
         };
-        match self.held.modify(patch.at, &patch.new, &mut self.acts) {
+        match self.handle.modify(patch.at, &patch.new, &mut self.acts) {
             Ok(count) => self.add_acts(digest, count),
             Err(_) => digest.add(4),
         }
@@ -98,14 +98,14 @@ impl Jit {
 
     /// Deletes the chunk with a base.
     fn delete(&mut self, digest: &mut Digest, base: u32) {
-        if self.held.begin_delete(base, &mut []).is_err() {
+        if self.handle.begin_delete(base, &mut []).is_err() {
             return digest.add(5);
         }
-        match self.held.deletion_runs(&mut self.acts) {
+        match self.handle.deletion_runs(&mut self.acts) {
             Ok(count) => self.add_acts(digest, count),
             Err(_) => digest.add(6),
         }
-        digest.add(self.held.end_delete().unwrap_or(0));
+        digest.add(self.handle.end_delete().unwrap_or(0));
     }
 
     /// Asks where a thread may be, as a profiler does.
@@ -114,15 +114,15 @@ impl Jit {
             return;
         };
         let at = live.base.wrapping_add(self.plan.random.below(32));
-        digest.add(u64::from(self.held.byte(at).unwrap_or(0)));
-        digest.add(u64::from(matches!(self.held.mark(at), Some(nc_decode::Mark::Plain))));
+        digest.add(u64::from(self.handle.byte(at).unwrap_or(0)));
+        digest.add(u64::from(matches!(self.handle.mark(at), Some(nc_decode::Mark::Plain))));
     }
 
     /// A thread checks in.
     fn check_in(&mut self) {
-        let seat = self.plan.check_in();
-        if let Some(guest) = self.guests.get_mut(seat) {
-            guest.check_in();
+        let number = self.plan.check_in();
+        if let Some(seat) = self.seats.get_mut(number) {
+            seat.check_in();
         }
     }
 
@@ -151,7 +151,7 @@ impl Jit {
 
     /// Frees the spans that are due.
     fn reclaim(&mut self, digest: &mut Digest) -> Result<(), AllocError> {
-        digest.add(u64::from(self.held.reclaim().unwrap_or(0)));
+        digest.add(u64::from(self.handle.reclaim().unwrap_or(0)));
         self.plan.reclaim()
     }
 }
@@ -172,6 +172,6 @@ pub fn run_jit(alloc: Global, digest: &mut Digest, input: Input<'_>) -> Result<(
             jit.reclaim(digest)?;
         }
     }
-    digest.add(jit.held.chunk_count() as u64);
+    digest.add(jit.handle.chunk_count() as u64);
     Ok(())
 }

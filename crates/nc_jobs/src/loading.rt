@@ -1,7 +1,7 @@
 //! Loading a chunk into a region.
 
 use crate::digest::Digest;
-use nc_handle::{Held, NcAct};
+use nc_handle::{NcAct, RegionHandle};
 use nc_vet::vet;
 
 /// An act that stands for none.
@@ -14,21 +14,21 @@ pub const NONE: NcAct = NcAct {
 /// Vets the code of a chunk, creates it, and writes the runs of its creation into a buffer. It returns their number, or nothing
 /// if one of these three is refused; then it adds to the digest which.
 pub fn load(
-    held: &mut Held,
+    handle: &mut RegionHandle,
     digest: &mut Digest,
     base: u32,
     code: Vec<u8>,
     runs: &mut [NcAct],
 ) -> Option<usize> {
-    let Ok(vetted) = vet(base, held.limit(), code) else {
+    let Ok(vetted) = vet(base, handle.limit(), code) else {
         digest.add(1);
         return None;
     };
-    if held.create(vetted, &mut []).is_err() {
+    if handle.create(vetted, &mut []).is_err() {
         digest.add(2);
         return None;
     }
-    let Ok(count) = held.creation_runs(base, runs) else {
+    let Ok(count) = handle.creation_runs(base, runs) else {
         digest.add(3);
         return None;
     };

@@ -5,7 +5,7 @@ use crate::input::Input;
 use crate::loading::{NONE, load};
 use crate::random::Random;
 use nc_decode::MAX_BUNDLES;
-use nc_handle::{Held, NcAct};
+use nc_handle::{NcAct, RegionHandle};
 use std::alloc::{AllocError, Global};
 
 /// The address of the first module.
@@ -20,7 +20,7 @@ const PLACES: u32 = 8;
 /// A region for modules.
 #[derive(Drop)]
 struct Host {
-    held: Held,
+    handle: RegionHandle,
     runs: Vec<NcAct>,
 }
 
@@ -34,33 +34,33 @@ impl Host {
 
     /// Vets the code of a module, and creates it.
     fn load(&mut self, digest: &mut Digest, base: u32, code: Vec<u8>) {
-        if let Some(count) = load(&mut self.held, digest, base, code, &mut self.runs) {
+        if let Some(count) = load(&mut self.handle, digest, base, code, &mut self.runs) {
             self.add_runs(digest, count);
         }
     }
 
     /// Deletes the module with a base, if there is one, and frees its span.
     fn unload(&mut self, digest: &mut Digest, base: u32) {
-        if self.held.begin_delete(base, &mut []).is_err() {
+        if self.handle.begin_delete(base, &mut []).is_err() {
             return digest.add(4);
         }
-        match self.held.deletion_runs(&mut self.runs) {
+        match self.handle.deletion_runs(&mut self.runs) {
             Ok(count) => self.add_runs(digest, count),
             Err(_) => digest.add(5),
         }
-        digest.add(self.held.end_delete().unwrap_or(0));
-        digest.add(u64::from(self.held.reclaim().unwrap_or(0)));
+        digest.add(self.handle.end_delete().unwrap_or(0));
+        digest.add(u64::from(self.handle.reclaim().unwrap_or(0)));
     }
 }
 
 /// A new region, with room for the runs of a module.
 fn new_host(alloc: Global) -> Result<Host, AllocError> {
-    let Ok(held) = Held::new(alloc, MAX_BUNDLES, 1) else {
+    let Ok(handle) = RegionHandle::new(alloc, MAX_BUNDLES, 1) else {
         return Err(AllocError);
     };
     let mut runs = Vec::new(alloc);
     runs.resize(2 * MOST as usize + 2, NONE)?;
-    Ok(Host { held, runs })
+    Ok(Host { handle, runs })
 }
 
 /// The numbers of bundles of modules, from 64 KiB to 4 MiB.

@@ -20,7 +20,7 @@ use Rattle.nc_region.specs.declared.acts.Act.TheVariants.{Put}
 use Rattle.nc_region.specs.Acts.{puts_where, is_inside, is_start}
 use Rattle.nc_region.specs.Region.{Region, IsCreated, live_chunk}
 use Rattle.nc_region.proofs.Offered.{after_append, start_or_not, is_inside_false}
-use Rattle.nc_calls.specs.Weaving.{writers, ThreadsMay}
+use Rattle.nc_calls.specs.Interleaving.{writers, ThreadsMay}
 use Rattle.nc_calls.specs.Calls.{Details, no_details, create_events}
 use Rattle.nc_calls.specs.Histories.{Creates, Turn, IsTurn}
 use Rattle.nc_calls.specs.Example.{first_region, PutsSome, start_of, CreatesAround}

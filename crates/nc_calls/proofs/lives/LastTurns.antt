@@ -18,7 +18,7 @@ use Rattle.nc_region.specs.declared.acts.Entry.{Entry}
 use Rattle.nc_region.specs.Region.{Region, live_chunk}
 use Rattle.nc_region.specs.Deletion.{IsDeleted, IsReclaimed}
 use Rattle.nc_region.proofs.Offered.{after_append, same_code, deleted_region, deleted_at, reclaimed_region, reclaimed_exists}
-use Rattle.nc_calls.specs.Weaving.{writers, ThreadsMay}
+use Rattle.nc_calls.specs.Interleaving.{writers, ThreadsMay}
 use Rattle.nc_calls.specs.Calls.{delete_events, reclaim_events}
 use Rattle.nc_calls.specs.Histories.{NoneYet, Deletes, Reclaims, Turn, IsTurn, AreTurns}
 use Rattle.nc_calls.specs.Example.{ThreadIsIn, start_of, last_of}

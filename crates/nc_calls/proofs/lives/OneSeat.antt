@@ -9,7 +9,7 @@ use Rattle.nc_region.specs.schedules.Spans.{RetiredSpan}
 use Rattle.nc_region.specs.schedules.World.{World, Seat, first_seat, first_world, seat_at}
 use Rattle.nc_region.specs.schedules.Events.{Event, Steps, Enters, Puts, Settles, Marks, after, world_after}
 use Rattle.nc_region.proofs.Offered.{as_it_stands}
-use Rattle.nc_calls.specs.Weaving.{writers, ThreadsMay}
+use Rattle.nc_calls.specs.Interleaving.{writers, ThreadsMay}
 use Rattle.nc_calls.specs.Example.{last_of}
 use Rattle.nc_calls.proofs.lives.TextEvents.{AreOfText}
 

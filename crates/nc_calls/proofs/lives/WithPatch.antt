@@ -25,9 +25,9 @@ use Rattle.nc_calls.proofs.lives.Refilled.{span_over}
 use Rattle.nc_calls.proofs.lives.TextEvents.{own_of_text, may_of_text, modify_text}
 use Rattle.nc_calls.proofs.lives.OneSeat.{Stage, stage_of_text, seat_in}
 use Rattle.nc_calls.proofs.lives.LastTurns.{with_live, Ended, Begun, ended}
-use Rattle.nc_calls.proofs.lives.FirstTurn.{creation_events, stage_created, fresh, same_created, creation_turn, creation_is_turn, creates_around}
+use Rattle.nc_calls.proofs.lives.FirstTurn.{creation_events, stage_created, fresh, same_created, creation_turn, creation_is_turn}
 use Rattle.nc_calls.proofs.lives.FirstTurn.{lies_in, bytes_back, marks_back}
-use Rattle.nc_calls.proofs.lives.WithoutPatch.{HasLives, history_of, same_keeper}
+use Rattle.nc_calls.proofs.lives.WithoutPatch.{HasLives, history_of, life_of, same_keeper}
 
 -- the only chunk of a list
 only_one : (x c : Chunk) → Contains (x ∷ []) c → x ≡ c
@@ -169,21 +169,9 @@ life_patched : (v : MarkedChunk) (keeper : KeeperState) (created : Region) (at :
     (with_span created.marked.bytes (at - 65536) bytes)
 life_patched v keeper created at bytes valid is lawful path joined =
     let e = ended_patched v keeper created at bytes valid is lawful path joined in
-    record {
-      deletion = e.deletion;
-      reclaim = e.reclaim;
-      history = history_of v keeper
-          (creation_turn v created ∷ patch_turn created at bytes lawful ∷ e.deletion ∷ e.reclaim ∷ []) valid
-          (creation_is_turn v keeper created valid is, (patch_is_turn v keeper created at bytes is lawful, e.turns_are));
-      creates = creates_around v keeper created valid is;
-      deletes = e.deletes;
-      goes = e.goes;
-      stays = e.stays;
-      checks_in = e.checks_in;
-      frees = e.frees;
-      no_chunk = e.no_chunk;
-      unused = e.unused;
-    }
+    life_of v keeper created (patch_turn created at bytes lawful ∷ [])
+    (creation_events v ++ modify_events created.marked.bytes at lawful.1.2.0.run.news) path valid is e
+    (creation_is_turn v keeper created valid is, (patch_is_turn v keeper created at bytes is lawful, e.turns_are)) e.stays
 
 -- what is to be shown of each creation and patch, for a keeper
 abbrev HasPatchedLife : MarkedChunk → (created : Region) (at : ℕ) (bytes : List ℕ) → KeeperState → Type 0

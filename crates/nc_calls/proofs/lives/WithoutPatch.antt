@@ -1,5 +1,5 @@
 -- A chunk's life without a patch.
-use Rattle.std.proofs.Common.{◌≡◌, ℕ, ◌+◌, ◌-◌, ◌/◌, false, List, [], ◌∷◌, length}
+use Rattle.std.proofs.Common.{◌≡◌, ℕ, ◌+◌, ◌-◌, ◌/◌, false, List, [], ◌∷◌, ◌++◌, length}
 use Rattle.std.proofs.Common.{arith, refl, sym, ap, subst}
 use Rattle.std.proofs.lemmas.List.{length-replicate}
 use Rattle.std.proofs.lemmas.List.Elements.{All-nil}
@@ -10,11 +10,12 @@ use Rattle.nc_text.specs.Ready.{unmade_pages}
 use Rattle.nc_gens.specs.declared.view.KeeperNumbers.{KeeperNumbers}
 use Rattle.nc_gens.specs.Rule.{first_keeper_numbers}
 use Rattle.nc_gens.specs.Seen.{KeeperState}
+use Rattle.nc_region.specs.schedules.Events.{Event}
 use Rattle.nc_region.specs.Region.{Region, IsCreated}
 use Rattle.nc_region.proofs.Offered.{created_region, created_at, pages_made, pages_get_ready}
-use Rattle.nc_calls.specs.Weaving.{IsKeepers}
-use Rattle.nc_calls.specs.Histories.{Turn, AreTurns, IsHistory}
-use Rattle.nc_calls.specs.Example.{first_region, start_of, IsLife}
+use Rattle.nc_calls.specs.Interleaving.{IsKeepers}
+use Rattle.nc_calls.specs.Histories.{Turn, AreTurns, IsHistory, happened, region_at_end}
+use Rattle.nc_calls.specs.Example.{first_region, start_of, last_of, ThreadIsIn, IsLife}
 use Rattle.nc_calls.proofs.AllTurns.{text_at_end}
 use Rattle.nc_calls.proofs.Knowing.{knows_as_much}
 use Rattle.nc_calls.proofs.lives.LastTurns.{Ended, Begun, ended}
@@ -40,6 +41,27 @@ history_of v keeper turns valid are = record {
   turns_are = are;
 }
 
+-- a creation, turns after it and the last turns are a chunk's life
+pub life_of : (v : MarkedChunk) (keeper : KeeperState) (created : Region) (between : List Turn) (before : List Event) (path : List State)
+    → IsValid v → IsCreated (first_region v.limit (fresh keeper)) created v → (e : Ended v before (region_at_end created between) path)
+    → AreTurns v.limit 1 [] (first_region v.limit (fresh keeper)) (creation_turn v created ∷ (between ++ e.deletion ∷ e.reclaim ∷ []))
+    → ThreadIsIn v.limit (happened [] (creation_turn v created ∷ (between ++ e.deletion ∷ []))) (last_of (start_of v) path)
+    → IsLife v (fresh keeper) (creation_turn v created) between path
+life_of v keeper created between before path valid is e turns stays =
+    record {
+      deletion = e.deletion;
+      reclaim = e.reclaim;
+      history = history_of v keeper (creation_turn v created ∷ (between ++ e.deletion ∷ e.reclaim ∷ [])) valid turns;
+      creates = creates_around v keeper created valid is;
+      deletes = e.deletes;
+      goes = e.goes;
+      stays = stays;
+      checks_in = e.checks_in;
+      frees = e.frees;
+      no_chunk = e.no_chunk;
+      unused = e.unused;
+    }
+
 -- where the creation leaves the world
 begun_created : (v : MarkedChunk) (keeper : KeeperState) (created : Region) → IsValid v
     → IsCreated (first_region v.limit (fresh keeper)) created v → Begun v (creation_events v) created.marked.bytes
@@ -63,20 +85,7 @@ life_created : (v : MarkedChunk) (keeper : KeeperState) (created : Region) → I
     → HasLives v (fresh keeper) (creation_turn v created) [] created.marked.bytes
 life_created v keeper created valid is path joined =
     let e = ended_created v keeper created valid is path joined in
-    record {
-      deletion = e.deletion;
-      reclaim = e.reclaim;
-      history = history_of v keeper (creation_turn v created ∷ e.deletion ∷ e.reclaim ∷ []) valid
-          (creation_is_turn v keeper created valid is, e.turns_are);
-      creates = creates_around v keeper created valid is;
-      deletes = e.deletes;
-      goes = e.goes;
-      stays = e.stays;
-      checks_in = e.checks_in;
-      frees = e.frees;
-      no_chunk = e.no_chunk;
-      unused = e.unused;
-    }
+    life_of v keeper created [] (creation_events v) path valid is e (creation_is_turn v keeper created valid is, e.turns_are) e.stays
 
 -- a creation in a new region
 created_first : (v : MarkedChunk) (keeper : KeeperState) → IsValid v

@@ -4,7 +4,7 @@ use Rattle.std.specs.List.{AllWithin}
 use Rattle.atomic_table.specs.Seated.{TableId}
 use Rattle.nc_gens.specs.Seen.{PassState, Raised}
 use Rattle.nc_region.specs.Region.{Region}
-use Rattle.nc_handle.specs.Held.{IsIn}
+use Rattle.nc_handle.specs.RegionHandle.{IsIn}
 
 -- The first `count` of the passes have checked in, and the keeper has met them.
 pub record HasAttended (gens : TableId) (old : Region) (before : List PassState) (new : Region) (now : List PassState) (count : ℕ) : Type 0 where

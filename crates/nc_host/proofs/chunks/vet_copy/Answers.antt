@@ -6,6 +6,6 @@ use Rattle.nc_host.proofs.chunks.vet_copy.Goals as goal
 
 pub returns-in-Err-to_vec-clause-fault : goal.returns-in-Err-to_vec-clause-fault
 returns-in-Err-to_vec-clause-fault c =
-    let number = ap (λ (v : NcVerdict). v.fault) c.told-in-Err-to_vec.ensures in
-    let place = ap (λ (v : NcVerdict). v.at) c.told-in-Err-to_vec.ensures in
+    let number = ap (λ (v : NcVerdict). v.fault) c.verdict_of-in-Err-to_vec.ensures in
+    let place = ap (λ (v : NcVerdict). v.at) c.verdict_of-in-Err-to_vec.ensures in
     (subst (λ n. 0 < n) (sym number) (some_fault OutOfMemory), (OutOfMemory, good_span _ _ _ _ c.in-Ok.ensures.valid, number, place))

@@ -8,7 +8,7 @@ returns-in-Err-NotBundle-clause-refused c = λ lt. (
   refl,
   inl (
     c.no_walk.ensures,
-    subst (λ (f : WalkFault). MayRefuseWalk c.args.held.now.region.marked.bytes c.args.start f)
+    subst (λ (f : WalkFault). MayRefuseWalk c.args.handle.now.region.marked.bytes c.args.start f)
         c.in-Err-NotBundle.field-0-is c.in-Err-NotBundle.ensures.refused,
   ),
 )

@@ -7,6 +7,6 @@ use Rattle.nc_host.proofs.vetted.keep.Goals as goal
 
 pub returns-clause-fault : goal.returns-clause-fault
 returns-clause-fault c =
-    let number = ap (λ (v : NcVerdict). v.fault) c.told.ensures in
-    let place = ap (λ (v : NcVerdict). v.at) c.told.ensures in
+    let number = ap (λ (v : NcVerdict). v.fault) c.verdict_of.ensures in
+    let place = ap (λ (v : NcVerdict). v.at) c.verdict_of.ensures in
     (subst (λ n. 0 < n) (sym number) (some_fault OutOfMemory), (OutOfMemory, vetted_span _ _ _ _ c.in-Ok.ensures.vetted, number, place))

@@ -1,6 +1,6 @@
 use Rattle.std.proofs.Common.{Some, ap, sym, inl, inr, ⊎_elim, ◌∙◌}
-use Rattle.nc_handle.specs.Held.{HeldState}
-use Rattle.nc_handle.specs.declared.kept.Kept.{Kept}
+use Rattle.nc_handle.specs.RegionHandle.{RegionHandleState}
+use Rattle.nc_handle.specs.declared.vetted_handle.VettedHandle.{VettedHandle}
 use Rattle.nc_host.proofs.vetted.nc_region_load.Goals as goal
 
 pub returns-else-change-gt0-clause-created : goal.returns-else-change-gt0-clause-created
@@ -9,14 +9,14 @@ returns-else-change-gt0-clause-created c = λ e.
       c.take.ensures.left,
       (
         c.deref_mut-2.result.now,
-        c.in-Some.ensures.some ∙ ap (λ (k : Kept). Some k) (sym c.deref_mut-2.ensures.value),
+        c.in-Some.ensures.some ∙ ap (λ (k : VettedHandle). Some k) (sym c.deref_mut-2.ensures.value),
         (
           made.0,
           made.1,
           record {
             before = c.deref_mut.result.now;
-            after = c.load_kept-change.new.held;
-            had = c.in-Some-take.ensures.some ∙ ap (λ (h : HeldState). Some h) (sym c.deref_mut.ensures.value);
+            after = c.load_kept-change.new.handle;
+            had = c.in-Some-take.ensures.some ∙ ap (λ (h : RegionHandleState). Some h) (sym c.deref_mut.ensures.value);
             has = c.of-2.ensures;
             did = made.2;
           },
@@ -29,25 +29,25 @@ pub returns-then-change-gt0-clause-untouched : goal.returns-then-change-gt0-clau
 returns-then-change-gt0-clause-untouched c = λ lt.
     let same = c.load_kept-change.ensures.untouched lt in (
       same.0,
-      c.of-then-change-gt0.ensures ∙ (ap (λ (k : Kept). Some k) (same.1 ∙ c.deref_mut-2.ensures.value) ∙ sym c.in-Some.ensures.some),
+      c.of-then-change-gt0.ensures ∙ (ap (λ (k : VettedHandle). Some k) (same.1 ∙ c.deref_mut-2.ensures.value) ∙ sym c.in-Some.ensures.some),
     )
 
 pub returns-then-change-gt0-clause-unchanged : goal.returns-then-change-gt0-clause-unchanged
 returns-then-change-gt0-clause-unchanged c = λ lt.
     ⊎_elim
-    (λ e. inl (c.of-2.ensures ∙ (ap (λ (h : HeldState). Some h) (e ∙ c.deref_mut.ensures.value) ∙ sym c.in-Some-take.ensures.some)))
+    (λ e. inl (c.of-2.ensures ∙ (ap (λ (h : RegionHandleState). Some h) (e ∙ c.deref_mut.ensures.value) ∙ sym c.in-Some-take.ensures.some)))
     (λ p. inr (
       p.0,
       (
         c.deref_mut-2.result.now,
-        c.in-Some.ensures.some ∙ ap (λ (k : Kept). Some k) (sym c.deref_mut-2.ensures.value),
+        c.in-Some.ensures.some ∙ ap (λ (k : VettedHandle). Some k) (sym c.deref_mut-2.ensures.value),
         (
           p.1.0,
           p.1.1,
           record {
             before = c.deref_mut.result.now;
-            after = c.load_kept-change.new.held;
-            had = c.in-Some-take.ensures.some ∙ ap (λ (h : HeldState). Some h) (sym c.deref_mut.ensures.value);
+            after = c.load_kept-change.new.handle;
+            had = c.in-Some-take.ensures.some ∙ ap (λ (h : RegionHandleState). Some h) (sym c.deref_mut.ensures.value);
             has = c.of-2.ensures;
             did = p.1.2;
           },
@@ -58,8 +58,8 @@ returns-then-change-gt0-clause-unchanged c = λ lt.
 
 pub returns-then-change-gt0-clause-refused : goal.returns-then-change-gt0-clause-refused
 returns-then-change-gt0-clause-refused c = λ lt.
-    let had = c.in-Some-take.ensures.some ∙ ap (λ (h : HeldState). Some h) (sym c.deref_mut.ensures.value) in
-    let kept = c.in-Some.ensures.some ∙ ap (λ (k : Kept). Some k) (sym c.deref_mut-2.ensures.value) in
+    let had = c.in-Some-take.ensures.some ∙ ap (λ (h : RegionHandleState). Some h) (sym c.deref_mut.ensures.value) in
+    let kept = c.in-Some.ensures.some ∙ ap (λ (k : VettedHandle). Some k) (sym c.deref_mut-2.ensures.value) in
     ⊎_elim (λ n. inl (n.0, n.1, inr (inr (c.deref_mut-2.result.now, kept, n.2))))
     (λ r. inr (c.deref_mut.result.now, c.deref_mut-2.result.now, r.0, had, kept, r.1, r.2))
     (c.load_kept-change.ensures.refused lt)

@@ -1,4 +1,0 @@
-use Rattle.nc_handle.proofs.held.Held.check_begin.Goals as goal
-
-pub returns-then-is_short-clause-allowed : goal.returns-then-is_short-clause-allowed
-returns-then-is_short-clause-allowed c = tt

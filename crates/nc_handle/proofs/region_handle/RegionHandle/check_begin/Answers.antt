@@ -1,0 +1,4 @@
+use Rattle.nc_handle.proofs.region_handle.RegionHandle.check_begin.Goals as goal
+
+pub returns-then-is_short-clause-allowed : goal.returns-then-is_short-clause-allowed
+returns-then-is_short-clause-allowed c = tt

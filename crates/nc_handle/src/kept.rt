@@ -1,9 +1,0 @@
-//! A vetted chunk that isn't in a region yet.
-
-use nc_vet::Vetted;
-
-/// A slot for a vetted chunk: creating the chunk in a region empties it, and a refusal refills it without allocating.
-#[derive(Drop)]
-pub struct Kept {
-    pub chunk: Option<Vetted>,
-}

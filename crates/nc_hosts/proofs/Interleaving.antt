@@ -1,0 +1,131 @@
+-- Events of threads and of the writer, one after the other.
+use Rattle.std.proofs.Common.{◌≡◌, ℕ, zero, suc, ◌+◌, Bool, true, false, cond, List, [], ◌∷◌, ◌++◌, map, length, refl, ◌∙◌, sym, ap, subst}
+use Rattle.std.specs.Prelude.{All}
+use Rattle.std.specs.List.{range_with_len}
+use Rattle.std.proofs.lemmas.List.{append-nil, take_at}
+use Rattle.std.proofs.lemmas.List.Elements.{All-nil, All-cons, All-head, All-tail, All-append, All-take, All-weaker, filter-append}
+use Rattle.nc_decode.specs.declared.instruction.Mark.{Mark}
+use Rattle.nc_region.specs.schedules.World.{World}
+use Rattle.nc_region.specs.schedules.Events.{Event, Steps, Enters, Exits, Takes, Sees, Stores, Leaves, Puts, Settles, Marks, Bumps, Retires, Frees}
+use Rattle.nc_region.specs.schedules.Events.{Looks, after, world_after}
+use Rattle.nc_region.specs.declared.acts.Act.TheVariants.{Put, MarkSpan, UnmarkSpan, Bump, Look}
+use Rattle.nc_region.specs.declared.acts.Entry.{Entry}
+use Rattle.nc_region.specs.declared.acts.Entry.TheVariants.{Did, Settled}
+use Rattle.nc_gens.specs.Seen.{least_number}
+use Rattle.nc_region.specs.Region.{Region}
+use Rattle.nc_region.specs.Log.{unsettled, log_of_create, log_of_delete}
+use Rattle.nc_region.specs.Patch.{log_of_modify}
+use Rattle.nc_region.specs.Deletion.{freed, unmarkings}
+use Rattle.nc_region.specs.Quiet.{retired_spans}
+use Rattle.nc_calls.specs.Interleaving.{is_writers, writers, IsKeepers, ThreadsMay}
+use Rattle.nc_calls.specs.Calls.{Details, no_details, events_of_entry, events_of_log, delete_events}
+use Rattle.nc_calls.proofs.Offered.{refusal_silent}
+use Rattle.nc_calls.specs.Histories.{AreAttempts, NoneYet, OneMore, IsCall, Creates, Patches, Deletes, Reclaims, UsesKeeper, Refuses, Keeps}
+
+-- the event is the writer's
+abbrev pub IsWriters : Event → Type 0
+IsWriters event = is_writers event ≡ true
+
+-- the first of some elements
+pub all_front : {X : Type 0} (P : X → Type 0) (xs ys : List X) → All P (xs ++ ys) → All P xs
+all_front P xs ys all = subst (All P) (take_at xs ys (length xs) refl) (All-take P (length xs) (xs ++ ys) all)
+
+-- where all events are the writer's, the writer's events among them are all of them
+pub writers_all : (events : List Event) → All IsWriters events → writers events ≡ events
+writers_all [] all = refl
+writers_all (event ∷ events) all =
+    ap (λ (b : Bool). cond b (event ∷ writers events) (writers events)) (All-head IsWriters event events all)
+    ∙ ap (λ (z : List Event). event ∷ z) (writers_all events (All-tail IsWriters event events all))
+
+-- an event of a thread adds none to the writer's
+pub writers_thread : (since : List Event) (event : Event) → is_writers event ≡ false → writers (since ++ event ∷ []) ≡ writers since
+writers_thread since event is =
+    filter-append is_writers since (event ∷ [])
+    ∙ (ap (λ (b : Bool). writers since ++ cond b (event ∷ []) []) is ∙ append-nil (writers since))
+
+-- events of the writer alone are all added to the writer's
+pub writers_own : (since pending : List Event) → All IsWriters pending → writers (since ++ pending) ≡ writers since ++ pending
+writers_own since pending all = filter-append is_writers since pending ∙ ap (λ (z : List Event). writers since ++ z) (writers_all pending all)
+
+-- threads do what they may in events after others in which they do
+pub threads_append : (w : World) (xs ys : List Event) → ThreadsMay w xs → ThreadsMay (world_after w xs) ys → ThreadsMay w (xs ++ ys)
+threads_append w [] ys a b = b
+threads_append w (x ∷ xs) ys a b = (a.0, threads_append (after w x) xs ys a.1 b)
+
+-- the writer's own events ask nothing of threads
+pub threads_none : (w : World) (events : List Event) → All IsWriters events → ThreadsMay w events
+threads_none w [] all = tt
+threads_none w (event ∷ events) all = (
+  (λ no. absurd (let bad : true ≡ false = sym (All-head IsWriters event events all) ∙ no in cc)),
+  threads_none (after w event) events (All-tail IsWriters event events all),
+)
+
+-- ---- the events of a call
+
+-- all looks are the writer's
+looks_writers : (from n : ℕ) → All IsWriters (map Looks (range_with_len from n))
+looks_writers from zero = All-nil IsWriters
+looks_writers from (suc n) = All-cons IsWriters (Looks from) (map Looks (range_with_len (from + 1) n)) refl (looks_writers (from + 1) n)
+
+-- a writer's event is all the writer's
+pub one_writers : (event : Event) → IsWriters event → All IsWriters (event ∷ [])
+one_writers event is = All-cons IsWriters event [] is (All-nil IsWriters)
+
+-- the events of an entry are all the writer's
+entry_writers : (d : Details) (entry : Entry) → All IsWriters (events_of_entry d entry)
+entry_writers d (Did (Put at byte)) = one_writers (Puts at byte) refl
+entry_writers d (Did (MarkSpan at len)) = one_writers (Marks at d.marks) refl
+entry_writers d (Did (UnmarkSpan at len)) = one_writers (Frees _) refl
+entry_writers d (Did Bump) = one_writers (Retires d.base d.len) refl
+entry_writers d (Did Look) = looks_writers 0 d.seats
+entry_writers d Settled = one_writers Settles refl
+
+-- the events of a log are all the writer's
+pub log_writers : (d : Details) (log : List Entry) → All IsWriters (events_of_log d log)
+log_writers d [] = All-nil IsWriters
+log_writers d (entry ∷ log) =
+    All-append IsWriters (events_of_entry d entry) (events_of_log d log) (entry_writers d entry) (log_writers d log)
+
+-- the keeper's events are the writer's
+keepers_writers : (event : Event) → IsKeepers event → IsWriters event
+keepers_writers (Puts at byte) k = refl
+keepers_writers Settles k = refl
+keepers_writers (Marks at marks) k = refl
+keepers_writers Bumps k = refl
+keepers_writers (Retires base len) k = refl
+keepers_writers (Frees span) k = refl
+keepers_writers (Looks n) k = refl
+keepers_writers (Steps n next) k = absurd k
+keepers_writers (Enters n at) k = absurd k
+keepers_writers (Exits n) k = absurd k
+keepers_writers (Takes n) k = absurd k
+keepers_writers (Sees n) k = absurd k
+keepers_writers (Stores n) k = absurd k
+keepers_writers (Leaves n) k = absurd k
+
+-- the events of unfinished attempts at a deletion are all the writer's
+begun_writers : (marks : List Mark) (base len : ℕ) (made : List Event) → AreAttempts marks base len made → All IsWriters made
+begun_writers marks base len [] NoneYet = All-nil IsWriters
+begun_writers marks base len _ (OneMore {earlier} first part rest own) =
+    All-append IsWriters earlier part (begun_writers marks base len earlier first)
+    (all_front IsWriters part (rest ++ Retires base len ∷ [])
+    (subst (All IsWriters) (sym own) (log_writers (record no_details { base = base; len = len }) (log_of_delete marks base len))))
+
+-- the events of a call are all the writer's
+pub call_writers : (seats : ℕ) (old new : Region) (own : List Event) → IsCall seats old new own → All IsWriters own
+call_writers seats old new own (Creates v valid lim is same) =
+    subst (All IsWriters) (sym same) (log_writers (record no_details { marks = v.marks }) (log_of_create v.base v.code))
+call_writers seats old new own (Patches at bytes news lawful b is same) =
+    subst (All IsWriters) (sym same) (log_writers no_details (log_of_modify old.marked.bytes at news))
+call_writers seats old new own (Deletes base stamp is made begun same) =
+    subst (All IsWriters) (sym same)
+    (All-append IsWriters made (delete_events old.marked.marks base is.chunk.length)
+    (begun_writers old.marked.marks base is.chunk.length made begun)
+    (log_writers (record no_details { base = base; len = is.chunk.length }) (log_of_delete old.marked.marks base is.chunk.length)))
+call_writers seats old new own (Reclaims count is same) =
+    subst (All IsWriters) (sym same)
+    (log_writers (record no_details { seats = seats; spans = retired_spans old.chunks })
+    (unsettled (Look ∷ unmarkings (freed (least_number new.keeper.numbers) old.chunks))))
+call_writers seats old new own (UsesKeeper marked chunks all range) = All-weaker IsKeepers IsWriters keepers_writers own all
+call_writers seats old new own (Refuses is) = subst (All IsWriters) (sym (refusal_silent old new own is)) (All-nil IsWriters)
+call_writers seats old new own (Keeps is same) = subst (All IsWriters) (sym same) (All-nil IsWriters)
