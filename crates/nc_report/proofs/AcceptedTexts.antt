@@ -1,14 +1,13 @@
 -- What is written of an accepted source.
-use Rattle.std.proofs.Common.{◌≡◌, ◌≢◌, ℕ, Bool, false, List, [], ◌++◌, length, refl, sym, subst, ◌∙◌, ap, append-nil, Option, inl}
+use Rattle.std.proofs.Common.{◌≡◌, ◌≢◌, ℕ, List, [], ◌++◌, length, refl, sym, subst, ◌∙◌, ap, append-nil}
 use Rattle.nc_vet.specs.Chunk.{Piece, MarkedChunk, IsValid, AreSpelled, code_of}
 use Rattle.nc_output.specs.declared.detail.Detail.{Detail}
 use Rattle.nc_output.specs.declared.detail.Detail.TheVariants.{Brief, Usual, Calls}
 use Rattle.nc_output.specs.declared.detail.Detail.TheVariants as detail
 use Rattle.nc_output.specs.declared.detail.Style.{Style}
 use Rattle.nc_report.specs.Outside.{OutsideRow, AreCalls, rows_text}
-use Rattle.nc_report.specs.Report.{ok_text, end_of, accepted_text, TellsAccepted, Tells, HasBegun}
+use Rattle.nc_report.specs.Report.{ok_text, end_of, accepted_text, TellsAccepted}
 use Rattle.nc_report.specs.machinery.Found.{HasInstructions, AddsCalls, AddsAccepted}
-use Rattle.nc_report.proofs.Additions.{begun_so}
 use Rattle.nc_report.proofs.Appended.{three_added}
 
 -- an accepted source is told
@@ -61,17 +60,3 @@ adds_ok chunk s name old mid late new count has v long e f g =
     whole Usual n rows = refl
     whole Calls n rows = refl
     whole detail.All n rows = refl
-
--- a prefix of the report on an accepted source is one of a report
-pub any_accepted : (limit base : ℕ) (s : Style) (name code : List ℕ) {l b : ℕ} {n k : List ℕ} (before after : Option (List ℕ)) → l ≡ limit → b ≡ base
-    → n ≡ name → k ≡ code → HasBegun (TellsAccepted l b s n k) before after
-    → HasBegun (λ text. (refused : Bool) × Tells limit base s name code refused text) before after
-any_accepted limit base s name code {l} {b} {n} {k} before after e f g h =
-    begun_so (TellsAccepted l b s n k) (λ text. (refused : Bool) × Tells limit base s name code refused text) before after
-    (λ text t. ([], (false, inl (refl, subst (λ (z : List ℕ). TellsAccepted limit base s name code z) (sym (append-nil text)) (same text t)))))
-  where
-    same : (text : List ℕ) → TellsAccepted l b s n k text → TellsAccepted limit base s name code text
-    same text t =
-        subst (λ (z : List ℕ). TellsAccepted limit base s name z text) h
-        (subst (λ (z : List ℕ). TellsAccepted limit base s z k text) g
-        (subst (λ (m : ℕ). TellsAccepted limit m s n k text) f (subst (λ (m : ℕ). TellsAccepted m b s n k text) e t)))

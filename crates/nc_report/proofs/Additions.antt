@@ -2,8 +2,8 @@
 use Rattle.std.proofs.Common.{◌≡◌, ℕ, Bool, true, List, [], ◌∷◌, ◌++◌, take, drop, refl, sym, subst, ◌∙◌, ap, append_assoc, append-nil, Option, inl, inr}
 use Rattle.std.specs.Prelude.{◌&&◌, ◌⊎◌}
 use Rattle.std.specs.List.{flat_map, list_all}
-use Rattle.std.specs.Io.KnownBytes.{Appends, Keeps}
-use Rattle.std.proofs.KnownBytes.{Appends-trans, Appends-nil, Appends-kept}
+use Rattle.std.specs.Io.KnownBytes.{Appends}
+use Rattle.std.proofs.KnownBytes.{Appends-trans, Appends-nil}
 use Rattle.std.proofs.lemmas.List.{take-append-drop}
 use Rattle.std.proofs.lemmas.List.Folds.{list_all-append}
 use Rattle.nc_vet.proofs.Offered.{flat_map-append}
@@ -58,8 +58,7 @@ line_details old start mid new e a f = record {
     shown = ap (λ (b : Bool). b && true) a.says;
     is = sym (append-nil (detail_line a.text));
   };
-  added = f ∙ ap (λ (z : List ℕ). z ++ 10 ∷ []) (a.added ∙ ap (λ (z : List ℕ). z ++ a.text) e)
-      ∙ append_assoc (old ++ 32 ∷ 32 ∷ []) a.text (10 ∷ []) ∙ append_assoc old (32 ∷ 32 ∷ []) (a.text ++ 10 ∷ []);
+  added = simp (f, a.added, e, append_assoc);
 }
 
 -- nothing was added or written
@@ -71,12 +70,6 @@ writes_none before out P p = record {
   written = Appends-nil before;
   kept = sym (append-nil out);
 }
-
--- what was added says what follows from what it says
-pub writes_so : (before after : Option (List ℕ)) (old new : List ℕ) (P Q : List ℕ → Type 0) → ((text : List ℕ) → P text → Q text)
-    → WritesOn before after old new P → WritesOn before after old new Q
-writes_so before after old new P Q f w =
-    record { text = w.text; says = f w.text w.says; part = w.part; written = w.written; kept = w.kept }
 
 -- more text was added, and some of what is kept was written
 pub writes_more : (before mid after : Option (List ℕ)) (old out added new part : List ℕ) (P Q R : List ℕ → Type 0)
@@ -129,10 +122,6 @@ cut_in before mid after old out added n P Q R f w a p =
     (writes_more before mid after old out added (drop n added) (take n added) P Q (λ text. (more : List ℕ) × R (text ++ more)) f w a p
     (take-append-drop n added))
 
--- nothing was written
-pub begun_none : (P : List ℕ → Type 0) (before : Option (List ℕ)) → HasBegun P before before
-begun_none P before = record { part = []; begins = inl refl; written = Appends-nil before }
-
 -- a prefix of a text that can be completed to another one
 pub begun_so : (P Q : List ℕ → Type 0) (before after : Option (List ℕ)) → ((text : List ℕ) → P text → (more : List ℕ) × Q (text ++ more))
     → HasBegun P before after → HasBegun Q before after
@@ -153,33 +142,27 @@ begun_written P before after text n p w = record {
   written = w;
 }
 
--- a text is kept where the writer is only flushed
-pub written_kept : (P : List ℕ → Type 0) (before mid after : Option (List ℕ)) → Keeps mid after → HasWritten P before mid
+-- where nothing was there before, a prefix of text after what was there is one of the text
+pub begun_alone : (P : List ℕ → Type 0) (old : List ℕ) (before after : Option (List ℕ)) → old ≡ [] → HasBegun (After old P) before after
+    → HasBegun P before after
+begun_alone P old before after none =
+    begun_so (After old P) P before after
+    (λ whole w. ([], subst P (sym (append-nil whole ∙ w.2 ∙ ap (λ (z : List ℕ). z ++ w.0) none)) w.1))
+
+-- where nothing was there before and nothing is kept, the text was written
+pub written_alone : (P : List ℕ → Type 0) (old : List ℕ) (before after : Option (List ℕ)) → old ≡ [] → WritesOn before after old [] P
     → HasWritten P before after
-written_kept P before mid after k h = record {
-  text = h.text;
-  says = h.says;
-  written = Appends-kept before mid after h.text h.written k;
+written_alone P old before after none w = record {
+  text = w.part;
+  says = subst P (sym (sym (append-nil w.part) ∙ w.kept ∙ ap (λ (z : List ℕ). z ++ w.text) none)) w.says;
+  written = w.written;
 }
 
--- all of a text is a prefix of it
-pub begun_all : (P : Bool → List ℕ → Type 0) (refused : Bool) (before mid after : Option (List ℕ)) → Keeps mid after → HasWritten (P refused) before mid
-    → HasBegun (λ text. (refused : Bool) × P refused text) before after
-begun_all P refused before mid after k h = record {
-  part = h.text;
-  begins = inr ([], (refused, subst (P refused) (sym (append-nil h.text)) h.says));
-  written = Appends-kept before mid after h.text h.written k;
-}
-
--- a prefix of text after other text, where the text can be completed
-pub begun_after : (before after : Option (List ℕ)) (old : List ℕ) (P Q : List ℕ → Type 0)
-    → ((text : List ℕ) → P text → (more : List ℕ) × Q (text ++ more)) → HasBegun (After old P) before after → HasBegun (After old Q) before after
-begun_after before after old P Q f = begun_so (After old P) (After old Q) before after (λ whole h. go whole h)
-  where
-    go : (whole : List ℕ) → After old P whole → (more : List ℕ) × After old Q (whole ++ more)
-    go whole (text, p, e) =
-        let (more, q) = f text p in
-        (more, (text ++ more, q, ap (λ (z : List ℕ). z ++ more) e ∙ append_assoc old text more))
+-- a prefix of one of two texts is a prefix of either
+pub begun_any : (P : Bool → List ℕ → Type 0) (Q : List ℕ → Type 0) (b : Bool) (before after : Option (List ℕ)) → ((text : List ℕ) → Q text → P b text)
+    → HasBegun Q before after → HasBegun (λ text. (b : Bool) × P b text) before after
+begun_any P Q b before after f =
+    begun_so Q (λ text. (b : Bool) × P b text) before after (λ text q. ([], (b, subst (P b) (sym (append-nil text)) (f text q))))
 
 -- a prefix of text after text that was added, where both together can be completed
 pub begun_later : (before after : Option (List ℕ)) (old mid : List ℕ) (P Q R : List ℕ → Type 0)
@@ -189,12 +172,5 @@ begun_later before after old mid P Q R f a = begun_so (After mid Q) (After old R
   where
     go : (whole : List ℕ) → After mid Q whole → (more : List ℕ) × After old R (whole ++ more)
     go whole (text, q, e) =
-        let (more, r) = f a.text text a.says q in (
-          more,
-          (
-            (a.text ++ text) ++ more,
-            r,
-            ap (λ (z : List ℕ). z ++ more) (e ∙ ap (λ (z : List ℕ). z ++ text) a.added ∙ append_assoc old a.text text)
-                ∙ append_assoc old (a.text ++ text) more,
-          ),
-        )
+        let (more, r) = f a.text text a.says q in
+        (more, ((a.text ++ text) ++ more, r, simp (e, a.added, append_assoc)))

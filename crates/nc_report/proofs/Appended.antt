@@ -1,6 +1,5 @@
 -- Text that is added part after part.
 use Rattle.std.proofs.Common.{◌≡◌, ℕ, ◌+◌, ◌<◌, ◌≤◌, length, take, get_or, List, ◌∷◌, [], ◌++◌, sym, ap, ◌∙◌, append_assoc, append-nil}
-use Rattle.std.specs.Prelude.{codes}
 use Rattle.std.specs.List.{flat_map}
 use Rattle.std.proofs.lemmas.List.{take_all, take_more}
 use Rattle.nc_vet.proofs.Offered.{flat_map-append}
@@ -13,18 +12,6 @@ two_added o a b n1 n2 e1 e2 = e2 ∙ ap (λ (z : List ℕ). z ++ b) e1 ∙ appen
 pub three_added : (o a b c n1 n2 n3 : List ℕ) → n1 ≡ o ++ a → n2 ≡ n1 ++ b → n3 ≡ n2 ++ c → n3 ≡ o ++ (a ++ (b ++ c))
 three_added o a b c n1 n2 n3 e1 e2 e3 =
     two_added o (a ++ b) c n2 n3 (two_added o a b n1 n2 e1 e2) e3 ∙ ap (λ (z : List ℕ). o ++ z) (append_assoc a b c)
-
--- the verdict on an accepted source, after its name
-pub accepted_line : (o name bytes count : List ℕ)
-    → o ++ (name ++ ((codes ": ok, " ++ (bytes ++ (codes " bytes, " ++ (count ++ codes " instructions\n")))) ++ []))
-    ≡ o ++ (name ++ (codes ": " ++ ((codes "ok, " ++ (bytes ++ (codes " bytes, " ++ (count ++ codes " instructions")))) ++ 10 ∷ [])))
-accepted_line o name bytes count = simp (append_assoc, append-nil)
-
--- the line on an address outside, part after part
-pub row_parts : (o digits times words : List ℕ)
-    → o ++ (codes "  -> " ++ (digits ++ (codes ": " ++ (times ++ (words ++ 10 ∷ [])))))
-    ≡ o ++ (codes "  -> " ++ ((digits ++ (codes ": " ++ (times ++ words))) ++ 10 ∷ []))
-row_parts o digits times words = simp append_assoc
 
 -- what an element is written as was added to what those before it are
 pub one_written : {X : Type 0} (f : X → List ℕ) (xs : List X) (old now next : List ℕ) (i : ℕ) (d : X) → i < length xs

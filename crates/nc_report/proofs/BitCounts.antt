@@ -1,5 +1,5 @@
 -- The number of instructions by the bits of bundles.
-use Rattle.std.proofs.Common.{◌≡◌, ℕ, zero, suc, ◌+◌, ◌-◌, ◌*◌, ◌/◌, ◌%◌, ◌<◌, ◌≤◌, max, Bool, true, false, eqb, List, [], ◌∷◌, ◌++◌}
+use Rattle.std.proofs.Common.{◌≡◌, ℕ, zero, suc, ◌+◌, ◌-◌, ◌*◌, ◌/◌, ◌%◌, ◌<◌, ◌≤◌, max, Bool, true, false, eqb, List}
 use Rattle.std.proofs.Common.{length, map, take, cond, get_or, refl, sym, ◌∙◌, ap, arith}
 use Rattle.std.specs.Prelude.{◌||◌, bit_or, count_ones, slice_index}
 use Rattle.std.specs.Int.{bit_at}
@@ -10,6 +10,9 @@ use Rattle.std.proofs.lemmas.List.{take_all}
 use Rattle.std.proofs.lemmas.List.Sums.{sum_by-cons, sum_by-append, sum_by_more, count_by-le-length}
 use Rattle.std.proofs.lemmas.Simd.{mask_l-lt, bit_mask_l, ones-mask_l}
 use lib.Lanes.{mask_l}
+use Rattle.std.proofs.lemmas.List.Folds.{fold-map}
+use Rattle.std.proofs.lemmas.List.FromFn.{get_or-map-range_with_len}
+use Rattle.nc_report.proofs.CountedFaults.{range_append}
 use Rattle.nc_decode.specs.declared.instruction.Mark.{Mark}
 use Rattle.nc_decode.specs.declared.instruction.Mark.TheVariants.{Unmarked, Plain, After}
 use Rattle.nc_output.proofs.Offered.{eqb_no}
@@ -38,16 +41,6 @@ or_true : (b : Bool) → bit (b || true) ≡ 1
 or_true true = refl
 or_true false = refl
 
--- the larger of bits, of which one is set
-one_set : (a b : ℕ) → a < 2 → b < 2 → max (max a 1) b ≡ 1
-one_set zero zero l m = refl
-one_set zero (suc zero) l m = refl
-one_set zero (suc (suc b)) l m = absurd (omega (arith, m))
-one_set (suc zero) zero l m = refl
-one_set (suc zero) (suc zero) l m = refl
-one_set (suc zero) (suc (suc b)) l m = absurd (omega (arith, m))
-one_set (suc (suc a)) b l m = absurd (omega (arith, l))
-
 -- the low bits of a number
 low_bit : (n i : ℕ) → i < 31 → bit_at (n % 2147483648) i ≡ bit_at n i
 low_bit n i lt =
@@ -63,7 +56,7 @@ word_bit : (w : Bundle) (i : ℕ) → i < 32 → bit_at (word w) i ≡ cond (beg
 word_bit w zero lt =
     bit_at_or (bit_or (w.ends * 2 % 4294967296) 1) (w.pairs / 2) 0
     ∙ ap (λ (n : ℕ). max n (bit_at (w.pairs / 2) 0)) (bit_at_or (w.ends * 2 % 4294967296) 1 0)
-    ∙ one_set (bit_at (w.ends * 2 % 4294967296) 0) (bit_at (w.pairs / 2) 0) (bit_at-lt (w.ends * 2 % 4294967296) 0) (bit_at-lt (w.pairs / 2) 0)
+    ∙ omega (arith, bit_at-lt (w.ends * 2 % 4294967296) 0, bit_at-lt (w.pairs / 2) 0)
     ∙ sym (or_true (is_second w 0))
 word_bit w (suc j) lt =
     let ends : bit_at (w.ends * 2 % 4294967296) (suc j) ≡ bit_at w.ends j =
@@ -80,12 +73,6 @@ word_bit w (suc j) lt =
     ∙ ap (λ (n : ℕ). cond (is_second w (suc j) || (false || eqb (bit_at w.ends n) 1)) 1 0) (omega arith)
     ∙ ap (λ (b : Bool). cond (is_second w (suc j) || (b || eqb (bit_at w.ends (suc j - 1)) 1)) 1 0) (sym (eqb_no (suc j) 0 (λ e. omega (arith, e))))
 
--- a place of what is made of a range
-get_range : (p : ℕ → Bool) (a n i : ℕ) → i < n → get_or (map p (range_with_len a n)) i false ≡ p (a + i)
-get_range p a zero i lt = absurd (omega (arith, lt))
-get_range p a (suc n) zero lt = ap p (omega arith)
-get_range p a (suc n) (suc i) lt = get_range p (a + 1) n i (omega (arith, lt)) ∙ ap p (omega arith)
-
 -- the word of a bundle has as many ones as instructions begin in the bundle
 pub ones_begun : (w : Bundle) → w.pairs < 4294967296 → count_ones (word w) ≡ begun_in w
 unfolding begun_in
@@ -94,7 +81,7 @@ ones_begun w small =
     let places = range_with_len 0 32 in
     let bits : (i : ℕ) → i < 32 → bit_at (word w) i ≡ bit_at (mask_l (map p places)) i = λ i lt.
     word_bit w i lt
-    ∙ ap (λ (b : Bool). cond b 1 0) (sym (get_range p 0 32 i lt ∙ ap p (omega arith)))
+    ∙ ap (λ (b : Bool). cond b 1 0) (sym (get_or-map-range_with_len p 0 32 i i false lt (omega arith)))
     ∙ sym (bit_mask_l (map p places) i) in
     let same : word w ≡ mask_l (map p places) =
     same_from_bits_below 32 (word w) (mask_l (map p places))
@@ -110,14 +97,6 @@ begun_small w = count_by-le-length (begins_at w) (range_with_len 0 32)
 
 -- ---- all bundles
 
--- a range parts
-range_append : (a m n : ℕ) → range_with_len a (m + n) ≡ range_with_len a m ++ range_with_len (a + m) n
-range_append a zero n = ap (range_with_len a) (omega arith) ∙ ap (λ (b : ℕ). range_with_len b n) (omega arith)
-range_append a (suc m) n =
-    ap (range_with_len a) {y = suc (m + n)} (omega arith)
-    ∙ ap (λ (ks : List ℕ). a ∷ ks) (range_append (a + 1) m n)
-    ∙ ap (λ (b : ℕ). a ∷ (range_with_len (a + 1) m ++ range_with_len b n)) (omega arith)
-
 -- two ranges count the same where their places do
 same_sum : (f g : ℕ → ℕ) (a b n : ℕ) → ((k : ℕ) → k < n → f (a + k) ≡ g (b + k))
     → sum_by f (range_with_len a n) ≡ sum_by g (range_with_len b n)
@@ -127,12 +106,6 @@ same_sum f g a b (suc n) h =
     ∙ ap (λ (x : ℕ). x + sum_by f (range_with_len (a + 1) n)) (ap f (omega arith) ∙ h 0 (omega arith) ∙ ap g (omega arith))
     ∙ ap (λ (x : ℕ). g b + x) (same_sum f g (a + 1) (b + 1) n (λ k lt. ap f (omega arith) ∙ h (k + 1) (omega (arith, lt)) ∙ ap g (omega arith)))
     ∙ sym (sum_by-cons g b (range_with_len (b + 1) n))
-
--- what is counted of what is made of numbers
-sum_made : (f : ℕ → Mark) (ks : List ℕ) → sum_by one (map f ks) ≡ sum_by (λ k. one (f k)) ks
-sum_made f [] = refl
-sum_made f (k ∷ ks) =
-    sum_by-cons one (f k) (map f ks) ∙ ap (λ (n : ℕ). one (f k) + n) (sum_made f ks) ∙ sym (sum_by-cons (λ (j : ℕ). one (f j)) k ks)
 
 -- the mark by bits
 one_mark : (a b : Bool) (r : ℕ) → one (cond a (After r) (cond b Plain Unmarked)) ≡ cond (a || b) 1 0
@@ -171,7 +144,7 @@ sum_bundles code bundles (suc n) le =
 pub sum_bits : (code : List ℕ) (bundles : List Bundle) → 32 * length bundles ≡ length code
     → sum_by one (marks_in code bundles) ≡ sum_by begun_in bundles
 sum_bits code bundles e =
-    sum_made (mark_by_bits code bundles) (range_with_len 0 (length code))
+    fold-map (λ (n : ℕ) (m : Mark). n + one m) (mark_by_bits code bundles) 0 (range_with_len 0 (length code))
     ∙ ap (λ (n : ℕ). sum_by (λ k. one (mark_by_bits code bundles k)) (range_with_len 0 n)) (sym e)
     ∙ sum_bundles code bundles (length bundles) (omega arith)
     ∙ ap (λ (bs : List Bundle). sum_by begun_in bs) (take_all (length bundles) bundles (omega arith))

@@ -1,18 +1,14 @@
 -- The number of instructions by marks.
-use Rattle.std.proofs.Common.{◌≡◌, ℕ, zero, suc, ◌+◌, ◌-◌, Bool, true, false, List, [], ◌∷◌, length, cond, replicate, refl, ◌∙◌, ap, arith}
+use Rattle.std.proofs.Common.{◌≡◌, ℕ, ◌+◌, ◌-◌, Bool, true, false, List, [], ◌∷◌, length, cond, replicate, refl, ◌∙◌, ap, arith}
 use Rattle.std.specs.List.{sum_by}
 use Rattle.std.proofs.lemmas.List.Sums.{sum_by-cons, sum_by-append}
+use Rattle.std.proofs.lemmas.List.Folds.{sum_by-replicate}
 use Rattle.nc_decode.specs.declared.instruction.Mark.{Mark}
 use Rattle.nc_decode.specs.declared.instruction.Mark.TheVariants.{Unmarked, Plain, After}
 use Rattle.nc_decode.specs.Transfers.{is_indirect}
 use Rattle.nc_vet.specs.Chunk.{Piece, instr_marks, marks_of, mark_of, MarkedChunk, IsValid}
 use Rattle.nc_report.specs.machinery.Found.{HasInstructions}
 use Rattle.nc_report.specs.machinery.Counts.{one}
-
--- unmarked places count nothing
-none_counted : (n : ℕ) → sum_by one (replicate n Unmarked) ≡ 0
-none_counted zero = refl
-none_counted (suc n) = sum_by-cons one Unmarked (replicate n Unmarked) ∙ ap (λ (k : ℕ). 0 + k) (none_counted n)
 
 -- an instruction has a mark at its first byte
 marked_first : (b : Bool) (r : ℕ) → one (cond b (After r) Plain) ≡ 1
@@ -24,7 +20,7 @@ one_counted : (p : Piece) → sum_by one (instr_marks p.instr) ≡ 1
 one_counted p =
     sum_by-cons one (mark_of p.instr) (replicate (p.instr.len - 1) Unmarked)
     ∙ ap (λ (n : ℕ). n + sum_by one (replicate (p.instr.len - 1) Unmarked)) (marked_first (is_indirect p.instr.flow) p.instr.reg)
-    ∙ ap (λ (n : ℕ). 1 + n) (none_counted (p.instr.len - 1))
+    ∙ ap (λ (n : ℕ). 1 + n) {y = 0} (sum_by-replicate one (p.instr.len - 1) Unmarked ∙ omega arith)
 
 -- the marks of instructions count as many as there are instructions
 pub all_counted : (pieces : List Piece) → sum_by one (marks_of pieces) ≡ length pieces

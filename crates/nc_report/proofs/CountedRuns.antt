@@ -1,20 +1,15 @@
 -- Ascending numbers, and how often each occurs.
 use Rattle.std.proofs.Common.{◌≡◌, ◌≢◌, ℕ, ◌+◌, ◌<◌, ◌≤◌, List, [], ◌∷◌, ◌++◌, length, drop, replicate, refl, sym, subst, ◌∙◌, ap, arith}
 use Rattle.std.proofs.Common.{append_assoc, append-nil, get_or}
-use Rattle.std.specs.List.{flat_map}
 use Rattle.std.specs.List.Sorted.{IsNonDecreasing, IsPermutation}
 use Rattle.std.proofs.lemmas.List.{take-append-drop, length-drop, get_or-drop, flat_map_more}
 use Rattle.std.proofs.lemmas.List.Sorted.{IsNonDecreasingBy-drop}
 use Rattle.nc_vet.proofs.Offered.{flat_map-append}
 use Rattle.nc_vet.specs.Chunk.{Piece, code_of, AreSpelled}
-use Rattle.std.specs.Prelude.{codes}
-use Rattle.nc_output.specs.declared.detail.Detail.TheVariants.{Calls}
 use Rattle.nc_output.specs.declared.detail.Format.{Format}
-use Rattle.nc_output.specs.declared.detail.Format.TheVariants.{Text, Json}
 use Rattle.nc_report.specs.Outside.{OutsideRow, AscendFrom, all_sent, row_text}
-use Rattle.nc_report.specs.machinery.Found.{AddsRows, AddsCalls}
+use Rattle.nc_report.specs.machinery.Found.{AddsRows}
 use Rattle.nc_report.specs.machinery.Runs.{BeginsWithRun, IsSent, HasCounted, AddsCounts, numbers_of}
-use Rattle.nc_report.proofs.Appended.{three_added}
 
 -- before the first run nothing is written
 pub none_counted : (f : Format) (numbers out : List ℕ) → IsNonDecreasing numbers → HasCounted f numbers out out numbers
@@ -81,20 +76,4 @@ lists_outside f base code sent numbers old new is moved counts = λ pieces s par
         (subst (IsPermutation sent) counts.all moved);
   };
   added = counts.added;
-}
-
--- as lines the rows are what is asked for
-pub called_lines : (old new : List ℕ) (base : ℕ) (pieces : List Piece) → AddsRows Text old new base pieces
-    → AddsCalls Calls Text old new base pieces
-called_lines old new base pieces a = record { rows = a.rows; calls = a.counts; added = a.added }
-
--- as an array the rows are what is asked for
-pub called_object : (none rows old one two new : List ℕ) (base : ℕ) (pieces : List Piece) → none ≡ [] → AddsRows Json none rows base pieces
-    → one ≡ old ++ codes ",\"calls\":[" → two ≡ one ++ drop 1 rows → new ≡ two ++ codes "]" → AddsCalls Calls Json old new base pieces
-called_object none rows old one two new base pieces e a first middle last = record {
-  rows = a.rows;
-  calls = a.counts;
-  added = three_added old _ _ _ one two new first middle last
-      ∙ ap (λ (z : List ℕ). old ++ (codes ",\"calls\":[" ++ (drop 1 z ++ codes "]")))
-      (a.added ∙ ap (λ (z : List ℕ). z ++ flat_map (row_text Json) a.rows) e);
 }

@@ -1,8 +1,7 @@
 -- The text about the places of a chunk, one place after the other.
-use Rattle.std.proofs.Common.{◌≡◌, ℕ, zero, suc, ◌+◌, ◌-◌, ◌≤◌, cond, List, [], ◌∷◌, ◌++◌, length, refl, sym, subst, ◌∙◌, ap}
-use Rattle.std.proofs.Common.{append_assoc, append-nil, Option, arith}
+use Rattle.std.proofs.Common.{◌≡◌, ℕ, ◌+◌, ◌-◌, ◌≤◌, cond, List, [], ◌∷◌, ◌++◌, length, refl, sym, subst, ◌∙◌, ap, append_assoc, append-nil, Option, arith}
 use Rattle.std.specs.Prelude.{codes, ◌==◌}
-use Rattle.std.specs.List.{flat_map}
+use Rattle.std.specs.List.{flat_map, range_with_len}
 use Rattle.nc_vet.proofs.Offered.{flat_map-append}
 use Rattle.nc_vet.specs.declared.fault.VetFault.{VetFault}
 use Rattle.nc_output.specs.declared.detail.Format.{Format}
@@ -16,7 +15,7 @@ use Rattle.nc_report.specs.machinery.Added.{Adds}
 use Rattle.nc_report.specs.machinery.Seen.{HasSpots}
 use Rattle.nc_report.proofs.ObjectTexts.{TellsObject}
 use Rattle.nc_report.proofs.Additions.{no_details}
-use Rattle.nc_report.proofs.CountedFaults.{range_to}
+use Rattle.nc_report.proofs.CountedFaults.{range_append, range_to}
 
 -- text about faults after text about others
 pub each_both : (f : Format) (fs gs : List VetFault) (a b : List ℕ) → TellsEach f fs a → TellsEach f gs b → TellsEach f (fs ++ gs) (a ++ b)
@@ -54,33 +53,18 @@ others_more base limit code spots own k =
     ap (λ (z : List ℕ). flat_map f z) (range_to k) ∙ flat_map-append f _ (k ∷ [])
     ∙ ap (λ (z : List VetFault). others_to base limit code spots own k ++ z) (append-nil (f k))
 
--- the faults from a place on
-others_from : (base limit : ℕ) (code : List ℕ) (spots : List Spot) (own k n : ℕ)
-    → (gs : List VetFault) × (others_to base limit code spots own (k + n) ≡ others_to base limit code spots own k ++ gs)
-others_from base limit code spots own k zero =
-    ([], ap (others_to base limit code spots own) {x = k + 0} {y = k} (omega arith) ∙ sym (append-nil (others_to base limit code spots own k)))
-others_from base limit code spots own k (suc n) =
-    let (gs, e) = others_from base limit code spots own k n in
-    let last = others_at base limit code spots own (k + n) in (
-      gs ++ last,
-      ap (others_to base limit code spots own) {x = k + suc n} {y = (k + n) + 1} (omega arith)
-          ∙ others_more base limit code spots own (k + n) ∙ ap (λ (z : List VetFault). z ++ last) e
-          ∙ append_assoc (others_to base limit code spots own k) gs last,
-    )
-
 -- text about the first places can be completed
 pub completed : (f : Format) (base limit : ℕ) (code : List ℕ) (spots : List Spot) (own k n : ℕ) → k ≤ n → (text : List ℕ)
     → TellsEach f (others_to base limit code spots own k) text
     → (more : List ℕ) × TellsEach f (others_to base limit code spots own n) (text ++ more)
 completed f base limit code spots own k n le text h =
-    let (gs, e) = others_from base limit code spots own k (n - k) in
+    let at = others_at base limit code spots own in
+    let gs = flat_map at (range_with_len (0 + k) (n - k)) in
     let (more, t) = each_some f gs in
-    let same : k + (n - k) ≡ n = omega (arith, le) in (
-      more,
-      subst (λ (m : ℕ). TellsEach f (others_to base limit code spots own m) (text ++ more)) same
-          (subst (λ (fs : List VetFault). TellsEach f fs (text ++ more)) (sym e)
-          (each_both f (others_to base limit code spots own k) gs text more h t)),
-    )
+    let parts : others_to base limit code spots own n ≡ others_to base limit code spots own k ++ gs =
+    ap (others_to base limit code spots own) {x = n} {y = k + (n - k)} (omega (arith, le))
+    ∙ ap (flat_map at) (range_append 0 k (n - k)) ∙ flat_map-append at (range_with_len 0 k) _ in
+    (more, subst (λ (fs : List VetFault). TellsEach f fs (text ++ more)) (sym parts) (each_both f _ gs text more h t))
 
 -- the text about the first places and that about the next one are the text about all of these
 pub told_more : (f : Format) (base limit : ℕ) (code : List ℕ) (spots : List Spot) (own k : ℕ) (a b : List ℕ)
@@ -91,18 +75,11 @@ told_more f base limit code spots own k a b t u =
     (each_both f (others_to base limit code spots own k) (others_at base limit code spots own k) a b t u)
 
 -- the text about a place is that about the fault there, if it isn't the chunk's own
-told_at : (f : Format) (base limit : ℕ) (code : List ℕ) (spots : List Spot) (own k : ℕ) (found other : Option VetFault) (text : List ℕ)
-    → found ≡ fault_at base limit code spots k → listed other ≡ cond (k == own) [] (listed found) → TellsEach f (listed other) text
-    → TellsEach f (others_at base limit code spots own k) text
-told_at f base limit code spots own k found other text is only t =
-    subst (λ (fs : List VetFault). TellsEach f fs text)
-    (only ∙ ap (λ (x : Option VetFault). cond (k == own) [] (listed x)) is) t
-
 pub told_there : (f : Format) (base limit : ℕ) (code : List ℕ) (spots : List Spot) (own k : ℕ) (found other : Option VetFault) (out new : List ℕ)
     → found ≡ fault_at base limit code spots k → listed other ≡ cond (k == own) [] (listed found) → Adds out new (TellsEach f (listed other))
     → Adds out new (TellsEach f (others_at base limit code spots own k))
 told_there f base limit code spots own k found other out new is only a =
-    record { text = a.text; says = told_at f base limit code spots own k found other a.text is only a.says; added = a.added }
+    subst (λ (fs : List VetFault). Adds out new (TellsEach f fs)) (only ∙ ap (λ (x : Option VetFault). cond (k == own) [] (listed x)) is) a
 
 -- a further fault as an object
 pub also_object : (old new : List ℕ) (fault : VetFault) → Adds old new (TellsObject (codes ",") fault) → Adds old new (TellsEach Json (fault ∷ []))

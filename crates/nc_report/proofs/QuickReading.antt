@@ -1,27 +1,25 @@
 -- A bundle that the automaton reads to its end is read by the same steps.
-use Rattle.std.proofs.Common.{◌≡◌, ◌≢◌, ℕ, zero, suc, ◌+◌, ◌-◌, ◌/◌, ◌%◌, ◌<◌, ◌≤◌, Bool, true, false, List, [], ◌∷◌, ◌++◌, length, take, drop, get_or, set}
+use Rattle.std.proofs.Common.{◌≡◌, ◌≢◌, ℕ, zero, suc, ◌+◌, ◌-◌, ◌/◌, ◌%◌, ◌<◌, ◌≤◌, Bool, true, false, List, [], ◌∷◌, ◌++◌, length, take, drop, get_or}
 use Rattle.std.proofs.Common.{refl, sym, subst, ◌∙◌, ap, arith, inl, inr, append_assoc, append-nil, Option, Some, None, ◌==◌, cond, All, eqb-true, ne_eqb, eq-eqb}
-use Rattle.std.specs.Prelude.{slice_index, replicate, nat_lt, IsTrue}
+use Rattle.std.specs.Prelude.{slice_index, replicate, nat_lt}
 use Rattle.std.proofs.lemmas.Bool.{cases_lt, le-ltb, lt-ltb}
-use Rattle.std.proofs.lemmas.List.{length-append, length-drop, length-take-le, drop-drop, drop_at, set_at, get_or_default, get_or_append_left}
+use Rattle.std.proofs.lemmas.List.{length-append, length-drop, length-take-le, drop-drop, drop_at, get_or_default, get_or_append_left}
 use Rattle.std.proofs.lemmas.List.{get_or-append-add, get_or-take, get_or-drop, take-append-drop}
 use Rattle.std.proofs.lemmas.List.{nil_from_length, take_more, replicate-append-replicate, get_or_past, drop_all}
-use Rattle.std.proofs.Common.{Fits, w8}
 use Rattle.nc_decode.specs.declared.automaton.TheConstants.{STATES, END, AFTER_PAIR}
 use Rattle.nc_decode.specs.declared.instruction.Instr.{Instr}
 use Rattle.nc_decode.specs.Automaton.{next_state, masked_at, LeadsToEnd, Ends}
 use Rattle.nc_decode.specs.Spelling.{IsAtFront}
 use Rattle.nc_decode.specs.Transfers.{is_indirect}
-use Rattle.nc_decode.proofs.Offered.{exact, spells_some, reads_by_states, none_is_paired, next_small, cond_is_true, cond_is_false}
+use Rattle.nc_decode.proofs.Offered.{spells_some, reads_by_states, none_is_paired, next_small, cond_is_true, cond_is_false}
 use Rattle.nc_report.specs.declared.spot.Spot.{Spot}
 use Rattle.nc_report.specs.declared.spot.Spot.TheVariants.{Inside, Entry, Second}
 use Rattle.nc_report.specs.declared.steps.Found.TheVariants.{Sound}
 use Rattle.nc_report.specs.declared.steps.Step.{Step}
-use Rattle.nc_report.specs.Lengths.{known_length}
-use Rattle.nc_report.specs.Reading.{IsStep, extent, extent_by, spot_of, step_spots, masked_by}
+use Rattle.nc_report.specs.Reading.{IsStep, spot_of, step_spots, masked_by}
 use Rattle.nc_report.specs.machinery.Seen.{HasSeenTo, HasFilled}
 use Rattle.nc_report.specs.machinery.Quick.{states_after, spot_by, spots_by, HasRead}
-use Rattle.nc_report.proofs.ReadSteps.{known_step, front_cut, one_step, some_after}
+use Rattle.nc_report.proofs.ReadSteps.{extent_of, front_cut, one_step, some_after}
 
 -- the state after all of some bytes
 abbrev last_state : ℕ → List ℕ → ℕ
@@ -54,19 +52,23 @@ record FirstEnd (m : ℕ) (bs : List ℕ) : Type 0 where
   ended : END ≤ end
   small : end < STATES
 
-first_end : (m : ℕ) (bs : List ℕ) → 0 < length bs → END ≤ last_state m bs → FirstEnd m bs
-first_end m [] some e = absurd (omega (arith, some))
-first_end m (b ∷ []) some e = record {
+-- the first byte alone leads there
+ends_here : (m b : ℕ) (back : List ℕ) → END ≤ next_state m b → FirstEnd m (b ∷ back)
+ends_here m b back ended = record {
   byte = b;
   more = [];
-  back = [];
+  back = back;
   end = next_state m b;
   parts = refl;
-  leads = (refl, e);
+  leads = (refl, ended);
   last = refl;
-  ended = e;
+  ended = ended;
   small = next_small m b;
 }
+
+first_end : (m : ℕ) (bs : List ℕ) → 0 < length bs → END ≤ last_state m bs → FirstEnd m bs
+first_end m [] some e = absurd (omega (arith, some))
+first_end m (b ∷ []) some e = ends_here m b [] e
 first_end m (b ∷ c ∷ bs) some e = elim (cases_lt (next_state m b) END) [
   | inl inside ↦
       (let r = first_end (next_state m b) (c ∷ bs) (omega arith) e in
@@ -81,17 +83,7 @@ first_end m (b ∷ c ∷ bs) some e = elim (cases_lt (next_state m b) END) [
         ended = r.ended;
         small = r.small;
       })
-  | inr ended ↦ record {
-    byte = b;
-    more = [];
-    back = c ∷ bs;
-    end = next_state m b;
-    parts = refl;
-    leads = (refl, ended);
-    last = refl;
-    ended = ended;
-    small = next_small m b;
-  }
+  | inr ended ↦ ends_here m b (c ∷ bs) ended
 ]
 
 -- the spot of a byte inside an instruction
@@ -148,11 +140,6 @@ first_spots m e b front back i low small bytes l ends =
 
 -- ---- all instructions of a bundle
 
--- the extent of bytes with an instruction at their front
-extent_of : (rest : List ℕ) (i : Instr) (n : ℕ) → IsAtFront rest i → n ≡ i.len → extent rest ≡ Some n
-extent_of rest i n f e =
-    ap (λ (o : Option Instr). extent_by o (known_length rest)) ((exact rest i).1 f) ∙ ap (λ (m : ℕ). Some m) (sym e)
-
 -- the step over an instruction
 abbrev over : Instr → ℕ → Step
 over i n = record { found = Sound i; len = n; whole = true }
@@ -194,7 +181,7 @@ reads (suc fuel) code at m masked done bs rest few some here whole low small las
         front_cut (drop at code) i (32 - at % 32) f (omega (arith, len, size, whole)),
         λ indirect. masks i.reg (r.1.paired (eqb-true w.end AFTER_PAIR (sym r.1.indirect ∙ indirect))).0,
       );
-      goes = known_step (extent (drop at code)) (32 - at % 32) n (extent_of (drop at code) i n f (sym len));
+      goes = rw (extent_of (drop at code) i n f (sym len)) (refl, refl);
     } in
     let now : HasSeenTo code (at + n) (masked_by at (over i n)) (done ++ step_spots (over i n))
     = one_step code at (at + n) (32 - at % 32) masked (masked_by at (over i n)) done (done ++ step_spots (over i n)) (over i n) seen left step refl
@@ -233,7 +220,7 @@ reads (suc fuel) code at m masked done bs rest few some here whole low small las
 
 -- a bundle is read by the automaton to its end
 pub bundle_read : (code : List ℕ) (at : ℕ) (masked : Option ℕ) (done : List Spot) → at % 32 ≡ 0 → at + 32 ≤ length code
-    → ((k : ℕ) → Fits w8 (get_or code k 0)) → END ≤ last_state END (take 32 (drop at code)) → HasSeenTo code at masked done
+    → ((k : ℕ) → get_or code k 0 < 256) → END ≤ last_state END (take 32 (drop at code)) → HasSeenTo code at masked done
     → HasSeenTo code (at + 32) None (done ++ spots_by END (states_after END (take 32 (drop at code))))
 bundle_read code at masked done start room fits last seen =
     let bs = take 32 (drop at code) in
@@ -254,7 +241,7 @@ bundle_byte code at i lt = get_or-take 32 (drop at code) i 0 lt ∙ get_or-drop 
 
 -- the spots of a bundle that is read to its end are written
 pub bundle_filled : (code : List ℕ) (at : ℕ) (masked : Option ℕ) (spots new : List Spot) → at % 32 ≡ 0 → at + 32 ≤ length code
-    → ((k : ℕ) → Fits w8 (get_or code k 0)) → END ≤ get_or (states_after END (take 32 (drop at code))) 31 0
+    → ((k : ℕ) → get_or code k 0 < 256) → END ≤ get_or (states_after END (take 32 (drop at code))) 31 0
     → ((front after : List Spot) → length front ≡ at → spots ≡ front ++ (replicate 32 Inside ++ after)
     → new ≡ front ++ (spots_by END (states_after END (take 32 (drop at code))) ++ after))
     → HasFilled code at masked spots → HasFilled code (at + 32) None new
@@ -331,31 +318,9 @@ spot_more bytes states state k before next size h lt b n =
     ∙ ap (λ (v : Spot). take k all ++ v ∷ []) (sym (spot_at END (states_after END bytes) k (omega (arith, lt, size, length-states_after END bytes))))
     ∙ sym (take_more all k Inside (omega (arith, lt, size, length-spots bytes)))
 
--- one spot more is written
-pub one_put : (front put after spots : List Spot) (at k : ℕ) (v : Spot) → length front ≡ at → length put ≡ k → k < 32
-    → spots ≡ front ++ (put ++ (replicate (32 - k) Inside ++ after))
-    → set spots (at + k) v ≡ front ++ ((put ++ v ∷ []) ++ (replicate (32 - (k + 1)) Inside ++ after))
-one_put front put after spots at k v n len lt e =
-    let rest = replicate (32 - (k + 1)) Inside ++ after in
-    let long : length (front ++ put) ≡ at + k = omega (arith, n, len, length-append front put) in
-    ap (λ (z : List Spot). set z (at + k) v)
-    (e ∙ ap (λ (m : ℕ). front ++ (put ++ (replicate m Inside ++ after))) {x = 32 - k} {y = suc (32 - (k + 1))} (omega (arith, lt))
-    ∙ sym (append_assoc front put (Inside ∷ rest)))
-    ∙ set_at (front ++ put) Inside rest v (at + k) long
-    ∙ append_assoc front put (v ∷ rest)
-    ∙ ap (λ (z : List Spot). front ++ z) (sym (append_assoc put (v ∷ []) rest))
+-- what is masked at the place where the reading begins, and after it
+pub masked_at_start : (at : ℕ) (masked : Option ℕ) → masked ≡ cond (at == at) masked None
+masked_at_start at masked = sym (cond_is_true (at == at) masked None (eq-eqb at at refl))
 
--- ---- a lane's bundle is written
-
-pub bundle_put : (code : List ℕ) (at to i state : ℕ) (states : List ℕ) (masked : Option ℕ) (spots new : List Spot) (put : Bool) → at % 32 ≡ 0
-    → at + 32 ≤ length code → to ≡ at + 32 → ((k : ℕ) → Fits w8 (get_or code k 0)) → i ≡ 32 → HasRead (take 32 (drop at code)) i state states
-    → ((bytes : List ℕ) → IsTrue put → length bytes ≡ 32 → HasRead bytes 32 state states → END ≤ get_or (states_after END bytes) 31 0)
-    → ((bytes : List ℕ) (front after : List Spot) → IsTrue put → length bytes ≡ 32 → HasRead bytes 32 state states → length front ≡ at
-    → spots ≡ front ++ (replicate 32 Inside ++ after) → new ≡ front ++ (spots_by END (states_after END bytes) ++ after))
-    → IsTrue put → HasFilled code at masked spots → HasFilled code to None new
-bundle_put code at to i state states masked spots new put start room goes fits end h whole puts is filled =
-    let bs = take 32 (drop at code) in
-    let size = bundle_size code at room in
-    let all : HasRead bs 32 state states = subst (λ (n : ℕ). HasRead bs n state states) end h in
-    subst (λ (n : ℕ). HasFilled code n None new) (sym goes)
-    (bundle_filled code at masked spots new start room fits (whole bs is size all) (λ front after n e. puts bs front after is size all n e) filled)
+pub none_masked_past : (at n : ℕ) (masked : Option ℕ) → at < n → cond (n == at) masked None ≡ None
+none_masked_past at n masked lt = cond_is_false (n == at) masked None (ne_eqb n at (λ e. omega (arith, e, lt)))

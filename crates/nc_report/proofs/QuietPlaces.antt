@@ -1,7 +1,8 @@
 -- Places that have no fault, by their spot and their byte alone.
 use Rattle.std.proofs.Common.{◌≡◌, ℕ, zero, suc, ◌+◌, ◌-◌, ◌<◌, ◌≤◌, Bool, true, false, List, [], ◌∷◌, ◌++◌, length, drop, get_or, cond, refl, sym, subst, ◌∙◌, ap}
 use Rattle.std.proofs.Common.{append-nil, Option, Some, None, arith, inl, inr}
-use Rattle.std.specs.Prelude.{slice_index, not, ◌&&◌, ◌==◌}
+use Rattle.std.specs.Prelude.{slice_index, not, ◌==◌}
+use Rattle.std.proofs.lemmas.Bool.{not-true, cond_both, and_left}
 use Rattle.std.proofs.lemmas.List.{get_or-drop}
 use Rattle.nc_decode.specs.declared.instruction.Instr.{Instr}
 use Rattle.nc_decode.specs.Spelling.{Spells, IsAtFront}
@@ -18,11 +19,6 @@ use Rattle.nc_report.specs.machinery.Seen.{is_quiet, counted}
 use Rattle.nc_report.proofs.CountedFaults.{counts_more}
 use Rattle.nc_report.proofs.FurtherTexts.{others_more}
 
--- a truth value whose negation is true is false
-not_true : (b : Bool) → not b ≡ true → b ≡ false
-not_true true e = absurd cc
-not_true false e = refl
-
 -- a direct transfer begins with one of its bytes
 first_byte : (bytes : List ℕ) (i : Instr) → IsAtFront bytes i → is_direct i.flow ≡ true → may_transfer (get_or bytes 0 0) ≡ true
 first_byte bytes i f direct = go f.front refl
@@ -33,11 +29,6 @@ first_byte bytes i f direct = go f.front refl
         subst (λ (z : List ℕ). may_transfer (get_or z 0 0) ≡ true) (sym (f.parts ∙ ap (λ (z : List ℕ). z ++ f.rest) e))
         (direct_begins b more i (subst (λ (z : List ℕ). Spells z i) e f.spells) direct)
 
--- the test of a direct transfer fails where it fails on the flow
-bad_target_by : (direct goes : Bool) → direct ≡ false → direct && not goes ≡ false
-bad_target_by true goes e = absurd cc
-bad_target_by false goes e = refl
-
 -- where no direct transfer begins with the byte, none has a bad target
 no_bad_target : (base limit : ℕ) (spots : List Spot) (at : ℕ) (bytes : List ℕ) (found : Option Instr) → first_instruction bytes ≡ found
     → may_transfer (get_or bytes 0 0) ≡ false → has_bad_target base limit spots at found ≡ false
@@ -45,7 +36,7 @@ no_bad_target base limit spots at bytes None is other = refl
 no_bad_target base limit spots at bytes (Some i) is other =
     elim (true_or_false (is_direct i.flow)) [
       | inl direct ↦ absurd (let f : true ≡ false = sym (first_byte bytes i ((exact bytes i).0 is) direct) ∙ other in cc)
-      | inr indirect ↦ bad_target_by (is_direct i.flow) (may_go base limit spots (target i at)) indirect
+      | inr indirect ↦ and_left (is_direct i.flow) (not (may_go base limit spots (target i at))) indirect
     ]
 
 -- no fault by a quiet spot and byte
@@ -54,7 +45,7 @@ quiet_by : (spot : Spot) (byte : ℕ) (bad_target : Bool) (at : ℕ) → is_quie
 quiet_by Inside byte bad_target at q f = refl
 quiet_by Skipped byte bad_target at q f = refl
 quiet_by Second byte bad_target at q f = refl
-quiet_by Entry byte bad_target at q f = ap (λ (b : Bool). cond b (Some (vet.BadTarget at)) None) (f (not_true (may_transfer byte) q))
+quiet_by Entry byte bad_target at q f = ap (λ (b : Bool). cond b (Some (vet.BadTarget at)) None) (f (not-true (may_transfer byte) q))
 quiet_by NotPermitted byte bad_target at q f = absurd cc
 quiet_by Crosses byte bad_target at q f = absurd cc
 quiet_by Bare byte bad_target at q f = absurd cc
@@ -72,49 +63,34 @@ quiet_none base limit code spots k q =
 abbrev pub AreFaultless : ℕ → ℕ → List ℕ → List Spot → ℕ → ℕ → Type 0
 AreFaultless base limit code spots k next = (j : ℕ) → k ≤ j → j < next → fault_at base limit code spots j ≡ None
 
--- no fault is listed, whatever the test says
-no_others : (b : Bool) → cond {A = List VetFault} b [] [] ≡ []
-no_others true = refl
-no_others false = refl
-
 -- a place without a fault has no further fault
 none_at : (base limit : ℕ) (code : List ℕ) (spots : List Spot) (own k : ℕ) → fault_at base limit code spots k ≡ None
     → others_at base limit code spots own k ≡ []
-none_at base limit code spots own k e = ap (λ (x : Option VetFault). cond (k == own) [] (listed x)) e ∙ no_others (k == own)
+none_at base limit code spots own k e = cond_both (k == own) _ _ (λ (z : List VetFault). z ≡ []) (λ _. refl) (λ _. ap listed e)
 
--- the faults to a place, over `n` places without one
-others_on_over : (base limit : ℕ) (code : List ℕ) (spots : List Spot) (own k n : ℕ) → AreFaultless base limit code spots k (k + n)
-    → others_to base limit code spots own (k + n) ≡ others_to base limit code spots own k
-others_on_over base limit code spots own k zero none = ap (others_to base limit code spots own) {x = k + 0} {y = k} (omega arith)
-others_on_over base limit code spots own k (suc n) none =
-    ap (others_to base limit code spots own) {x = k + suc n} {y = (k + n) + 1} (omega arith)
-    ∙ others_more base limit code spots own (k + n)
-    ∙ ap (λ (z : List VetFault). others_to base limit code spots own (k + n) ++ z)
-    (none_at base limit code spots own (k + n) (none (k + n) (omega arith) (omega arith)))
-    ∙ append-nil (others_to base limit code spots own (k + n))
-    ∙ others_on_over base limit code spots own k n (λ j low high. none j low (omega (arith, high)))
+-- what each of some places keeps, all of them keep
+kept_on : {X : Type 0} (f : ℕ → X) (k n : ℕ) → ((j : ℕ) → k ≤ j → j < k + n → f (j + 1) ≡ f j) → f (k + n) ≡ f k
+kept_on f k zero each = ap f {x = k + 0} {y = k} (omega arith)
+kept_on f k (suc n) each =
+    ap f {x = k + suc n} {y = (k + n) + 1} (omega arith) ∙ each (k + n) (omega arith) (omega arith)
+    ∙ kept_on f k n (λ j low high. each j low (omega (arith, high)))
+
+kept_over : {X : Type 0} (f : ℕ → X) (k next : ℕ) → k ≤ next → ((j : ℕ) → k ≤ j → j < next → f (j + 1) ≡ f j) → f next ≡ f k
+kept_over f k next low each =
+    ap f {x = next} {y = k + (next - k)} (omega arith) ∙ kept_on f k (next - k) (λ j a b. each j a (omega (arith, b, low)))
 
 -- places without a fault add none
 pub others_over : (base limit : ℕ) (code : List ℕ) (spots : List Spot) (own k next : ℕ) → k ≤ next
     → AreFaultless base limit code spots k next
     → others_to base limit code spots own next ≡ others_to base limit code spots own k
 others_over base limit code spots own k next low none =
-    ap (others_to base limit code spots own) {x = next} {y = k + (next - k)} (omega arith)
-    ∙ others_on_over base limit code spots own k (next - k) (λ j a b. none j a (omega (arith, b, low)))
-
--- the counts to a place, over `n` places without a fault
-counts_on_over : (base limit : ℕ) (code : List ℕ) (spots : List Spot) (k n : ℕ) → AreFaultless base limit code spots k (k + n)
-    → counts_to base limit code spots (k + n) ≡ counts_to base limit code spots k
-counts_on_over base limit code spots k zero none = ap (counts_to base limit code spots) {x = k + 0} {y = k} (omega arith)
-counts_on_over base limit code spots k (suc n) none =
-    ap (counts_to base limit code spots) {x = k + suc n} {y = (k + n) + 1} (omega arith)
-    ∙ sym (counts_more base limit code spots (k + n))
-    ∙ ap (counted (counts_to base limit code spots (k + n))) (none (k + n) (omega arith) (omega arith))
-    ∙ counts_on_over base limit code spots k n (λ j low high. none j low (omega (arith, high)))
+    kept_over (others_to base limit code spots own) k next low
+    (λ j a b. others_more base limit code spots own j
+    ∙ ap (λ (z : List VetFault). others_to base limit code spots own j ++ z) (none_at base limit code spots own j (none j a b)) ∙ append-nil _)
 
 -- places without a fault aren't counted
 pub counts_over : (base limit : ℕ) (code : List ℕ) (spots : List Spot) (k next : ℕ) → k ≤ next → AreFaultless base limit code spots k next
     → counts_to base limit code spots next ≡ counts_to base limit code spots k
 counts_over base limit code spots k next low none =
-    ap (counts_to base limit code spots) {x = next} {y = k + (next - k)} (omega arith)
-    ∙ counts_on_over base limit code spots k (next - k) (λ j a b. none j a (omega (arith, b, low)))
+    kept_over (counts_to base limit code spots) k next low
+    (λ j a b. sym (counts_more base limit code spots j) ∙ ap (counted (counts_to base limit code spots j)) (none j a b))

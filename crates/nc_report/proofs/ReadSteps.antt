@@ -1,43 +1,24 @@
 -- Code that is read step by step.
-use Rattle.std.proofs.Common.{◌≡◌, ◌≢◌, ℕ, suc, ◌+◌, ◌-◌, ◌%◌, ◌<◌, ◌≤◌, List, [], ◌∷◌, ◌++◌, length, take, drop, refl, sym, subst, ◌∙◌, ap, arith}
-use Rattle.std.proofs.Common.{append_assoc, append-nil, Option, None, Some, true, false}
-use Rattle.std.specs.Prelude.{MatchOption, replicate, slice_set}
-use Rattle.std.proofs.lemmas.List.{length-append, length-replicate, drop-drop, length-drop, set_at, replicate_more}
-use Rattle.std.proofs.lemmas.List.{replicate-append-replicate}
+use Rattle.std.proofs.Common.{◌≡◌, ◌≢◌, ℕ, suc, ◌+◌, ◌-◌, ◌%◌, ◌<◌, ◌≤◌, List, [], ◌∷◌, ◌++◌, length, take, drop, set, refl, sym, subst, ◌∙◌, ap, arith}
+use Rattle.std.proofs.Common.{append_assoc, append-nil, Option, None, Some}
+use Rattle.std.specs.Prelude.{replicate, slice_set}
+use Rattle.std.proofs.lemmas.List.{length-append, length-replicate, drop-drop, length-drop, drop_all, set_at, replicate-append-replicate}
 use Rattle.std.proofs.Math.Seq.{take-append-add}
 use Rattle.nc_decode.specs.declared.instruction.Instr.{Instr}
 use Rattle.nc_decode.specs.Spelling.{IsAtFront}
-use Rattle.nc_decode.proofs.Offered.{spells_some}
+use Rattle.nc_decode.proofs.Offered.{exact, spells_some}
 use Rattle.nc_vet.proofs.Offered.{flat_map-append}
+use Rattle.nc_report.specs.Lengths.{known_length}
 use Rattle.nc_report.specs.declared.spot.Spot.{Spot}
-use Rattle.nc_report.specs.declared.spot.Spot.TheVariants.{Inside, Skipped}
+use Rattle.nc_report.specs.declared.spot.Spot.TheVariants.{Inside}
 use Rattle.nc_report.specs.declared.steps.Step.{Step}
-use Rattle.nc_report.specs.Reading.{ReadsFrom, IsReading, IsStep, masked_by, step_spots, spots_of, later_spot}
+use Rattle.nc_report.specs.Reading.{extent, extent_by, ReadsFrom, IsReading, IsStep, masked_by, step_spots, spots_of, later_spot}
 use Rattle.nc_report.specs.machinery.Seen.{HasSpots, HasSeenTo, HasFilled}
 
--- a step over an instruction whose length is known
-pub known_step : (known : Option ℕ) (room len : ℕ) → known ≡ Some len
-    → MatchOption known ((true ≡ false) × (len ≡ room)) (λ n. (true ≡ true) × (len ≡ n))
-known_step known room len e =
-    subst (λ (o : Option ℕ). MatchOption o ((true ≡ false) × (len ≡ room)) (λ n. (true ≡ true) × (len ≡ n))) (sym e) (refl, refl)
-
--- a step to the end of the bundle
-pub cut_step : (known : Option ℕ) (room : ℕ) → known ≡ None → MatchOption known ((false ≡ false) × (room ≡ room)) (λ n. (false ≡ true) × (room ≡ n))
-cut_step known room e =
-    subst (λ (o : Option ℕ). MatchOption o ((false ≡ false) × (room ≡ room)) (λ n. (false ≡ true) × (room ≡ n))) (sym e) (refl, refl)
-
--- before the first step no code has been read
-pub none_read_yet : (code : List ℕ) (spots : List Spot) → spots ≡ [] → HasSeenTo code 0 None spots
-none_read_yet code spots e = record {
-  steps = [];
-  goes_on = λ more h. h;
-  is = e;
-  each = ap (λ (z : List Spot). length z) e;
-}
-
--- a step's spots are as many as its bytes
-length-step_spots : (s : Step) → 1 ≤ s.len → length (step_spots s) ≡ s.len
-length-step_spots s some = omega (arith, length-replicate (s.len - 1) (later_spot s.whole), some)
+-- the extent of bytes with an instruction at their front
+pub extent_of : (rest : List ℕ) (i : Instr) (n : ℕ) → IsAtFront rest i → n ≡ i.len → extent rest ≡ Some n
+extent_of rest i n f e =
+    ap (λ (o : Option Instr). extent_by o (known_length rest)) ((exact rest i).1 f) ∙ ap (λ (m : ℕ). Some m) (sym e)
 
 -- after one step more the code has been read up to the end of the step
 pub one_step : (code : List ℕ) (at next room : ℕ) (masked after : Option ℕ) (spots new : List Spot) (s : Step) → HasSeenTo code at masked spots
@@ -59,30 +40,12 @@ one_step code at next room masked after spots new s h left step is_room some e m
       ∙ ap (λ (z : List Spot). spots_of h.steps ++ z) (sym (append-nil (step_spots s)))
       ∙ sym (flat_map-append step_spots h.steps (s ∷ []));
   each = ap (λ (z : List Spot). length z) e
-      ∙ omega (arith, length-append spots (step_spots s), length-step_spots s some, h.each, to);
+      ∙ omega (arith, length-append spots (step_spots s), length-replicate (s.len - 1) (later_spot s.whole), some, h.each, to);
 }
 
 -- before the last byte something is left
 pub some_after : (code : List ℕ) (at : ℕ) → at < length code → drop at code ≢ []
 some_after code at lt e = absurd (omega (arith, length-drop at code, ap (λ (z : List ℕ). length z) e, lt))
-
--- nothing is left after the last byte
-none_after : (code : List ℕ) (at : ℕ) → at ≡ length code → drop at code ≡ []
-none_after code at e = none (drop at code) (omega (arith, length-drop at code, e))
-  where
-    none : (xs : List ℕ) → length xs ≡ 0 → xs ≡ []
-    none [] z = refl
-    none (x ∷ xs) z = absurd (omega (arith, z))
-
--- all of the code is read
-pub all_read : (code : List ℕ) (at : ℕ) (masked : Option ℕ) (spots : List Spot) → HasSeenTo code at masked spots → at ≡ length code
-    → HasSpots code spots
-all_read code at masked spots h e = record {
-  steps = h.steps;
-  reading = subst (IsReading code) (append-nil h.steps) (h.goes_on [] (none_after code at e));
-  is = h.is;
-  each = h.each ∙ e;
-}
 
 -- an instruction at the front of some bytes is at the front of the first of them that it fits in
 pub front_cut : (bytes : List ℕ) (i : Instr) (w : ℕ) → IsAtFront bytes i → i.len ≤ w → IsAtFront (take w bytes) i
@@ -97,28 +60,23 @@ front_cut bytes i w f long =
       spells = f.spells;
     }
 
--- the next spot of some skipped bytes is written
-pub one_skipped : (before after spots : List Spot) (from k count : ℕ) → length before ≡ from → k < count
-    → spots ≡ before ++ (replicate k Skipped ++ (replicate (count - k) Inside ++ after))
-    → slice_set spots (from + k) Skipped ≡ before ++ (replicate (k + 1) Skipped ++ (replicate (count - (k + 1)) Inside ++ after))
-one_skipped before after spots from k count n lt e =
+-- one spot more is written
+pub one_put : (front put after spots : List Spot) (at k count : ℕ) (v : Spot) → length front ≡ at → length put ≡ k → k < count
+    → spots ≡ front ++ (put ++ (replicate (count - k) Inside ++ after))
+    → set spots (at + k) v ≡ front ++ ((put ++ v ∷ []) ++ (replicate (count - (k + 1)) Inside ++ after))
+one_put front put after spots at k count v n len lt e =
     let rest = replicate (count - (k + 1)) Inside ++ after in
-    let front = before ++ replicate k Skipped in
-    let len : length front ≡ from + k = omega (arith, n, length-append before (replicate k Skipped), length-replicate k Skipped) in
-    ap (λ (z : List Spot). slice_set z (from + k) Skipped)
-    (e ∙ ap (λ (m : ℕ). before ++ (replicate k Skipped ++ (replicate m Inside ++ after))) {x = count - k} {y = suc (count - (k + 1))} (omega (arith, lt))
-    ∙ sym (append_assoc before (replicate k Skipped) (Inside ∷ rest)))
-    ∙ set_at front Inside rest Skipped (from + k) len
-    ∙ append_assoc before (replicate k Skipped) (Skipped ∷ rest)
-    ∙ ap (λ (z : List Spot). before ++ z)
-    (sym (append_assoc (replicate k Skipped) (Skipped ∷ []) rest)
-    ∙ ap (λ (z : List Spot). z ++ rest) (replicate_more k Skipped))
+    let long : length (front ++ put) ≡ at + k = omega (arith, n, len, length-append front put) in
+    ap (λ (z : List Spot). set z (at + k) v)
+    (e ∙ ap (λ (m : ℕ). front ++ (put ++ (replicate m Inside ++ after))) {x = count - k} {y = suc (count - (k + 1))} (omega (arith, lt))
+    ∙ sym (append_assoc front put (Inside ∷ rest)))
+    ∙ set_at (front ++ put) Inside rest v (at + k) long ∙ simp append_assoc
 
 -- before the first step all spots are `Inside`
 pub none_filled_yet : (code : List ℕ) (spots : List Spot) → spots ≡ replicate (length code) Inside → HasFilled code 0 None spots
 none_filled_yet code spots e = record {
   done = [];
-  seen = none_read_yet code [] refl;
+  seen = record { steps = []; goes_on = λ more h. h; is = refl; each = refl };
   is = e ∙ ap (λ (n : ℕ). replicate n Inside) {x = length code} {y = length code - 0} (omega arith);
 }
 
@@ -141,9 +99,14 @@ one_filled code at next room masked after spots new s h left step is_room some w
 pub all_filled : (code : List ℕ) (at : ℕ) (masked : Option ℕ) (spots : List Spot) → HasFilled code at masked spots → at ≡ length code
     → HasSpots code spots
 all_filled code at masked spots h e =
-    subst (HasSpots code)
-    (sym (h.is ∙ ap (λ (n : ℕ). h.done ++ replicate n Inside) {x = length code - at} {y = 0} (omega (arith, e)) ∙ append-nil h.done))
-    (all_read code at masked h.done h.seen e)
+    let none : drop at code ≡ [] = drop_all at code (omega (arith, e)) in
+    let all : spots ≡ h.done = h.is ∙ ap (λ (n : ℕ). h.done ++ replicate n Inside) {x = length code - at} {y = 0} (omega (arith, e)) ∙ append-nil h.done in
+    record {
+      steps = h.seen.steps;
+      reading = subst (IsReading code) (append-nil h.seen.steps) (h.seen.goes_on [] none);
+      is = all ∙ h.seen.is;
+      each = ap (λ (z : List Spot). length z) all ∙ h.seen.each ∙ e;
+    }
 
 -- the spot of a step's first byte is written, and the others are `Inside`
 pub first_put : (spots before : List Spot) (at n more : ℕ) (first : Spot) → length before ≡ at → 1 ≤ n

@@ -1,15 +1,13 @@
 -- What the instructions of some code send outside of it.
-use Rattle.std.proofs.Common.{◌≡◌, ℕ, ◌+◌, ◌≤◌, List, [], ◌∷◌, ◌++◌, length, drop, refl, sym, ◌∙◌, ap, arith}
-use Rattle.std.proofs.Common.{append_assoc, append-nil}
+use Rattle.std.proofs.Common.{◌≡◌, ℕ, ◌+◌, ◌≤◌, List, [], ◌∷◌, ◌++◌, length, drop, refl, sym, ◌∙◌, ap, arith, append_assoc, append-nil}
 use Rattle.std.proofs.lemmas.List.{length-append, drop_at, length-drop}
 use Rattle.nc_decode.specs.declared.instruction.Instr.{Instr}
 use Rattle.nc_decode.specs.Spelling.{IsAtFront}
 use Rattle.nc_decode.proofs.Offered.{spells_some}
 use Rattle.nc_vet.specs.Chunk.{Piece, code_of, place, AreSpelled}
-use Rattle.nc_vet.proofs.Offered.{code_of-append, place-push}
+use Rattle.nc_vet.proofs.Offered.{code_of-append, place-push, one_at_front}
 use Rattle.nc_report.specs.Outside.{sent_outside, all_sent}
 use Rattle.nc_report.specs.machinery.Runs.{KnowsSent, HasReadCode, IsSent}
-use Rattle.nc_vet.proofs.Offered.{one_at_front}
 
 -- what two lists of instructions send outside is what the first sends, and then the second
 sent_append : (base len at : ℕ) (xs ys : List Piece)

@@ -4,7 +4,6 @@ use Rattle.std.proofs.Common.{append_assoc, Bor, ◌+◌, length, get_or, drop, 
 use Rattle.std.proofs.lemmas.List.{drop_more}
 use Rattle.std.specs.Prelude.{codes, not, ◌==◌, ◌||◌}
 use Rattle.std.specs.Fmt.{decimal}
-use Rattle.nc_report.specs.Shown.{detail_line}
 use Rattle.nc_report.specs.Totals.{kinds_from}
 use Rattle.nc_report.specs.machinery.Seen.{kind_words}
 
@@ -40,16 +39,3 @@ kind_added old out new begun kinds all i d lt e added =
     ∙ ap (λ (z : List ℕ). out ++ z) (sym (kind_first begun kind.0 kind.1.now rest))
     ∙ ap (λ (z : List (ℕ × Bor (List ℕ))). out ++ kinds_from begun (named z)) (sym (drop_more kinds i d lt))
     ∙ e
-
--- the line of totals, part after part
-pub totals_added : (old digits words kinds : List ℕ)
-    → ((old ++ (codes "  " ++ (digits ++ words))) ++ kinds) ++ 10 ∷ [] ≡ old ++ detail_line (digits ++ (words ++ kinds))
-totals_added old digits words kinds = simp append_assoc
-
--- the numbers as a member, part after part
-pub counts_parts : (old crosses barred bare targets : List ℕ)
-    → old ++ (codes "],\"counts\":{\"Crosses\":" ++ ((crosses ++ (codes ",\"NotPermitted\":" ++ barred))
-    ++ (codes ",\"Bare\":" ++ ((bare ++ (codes ",\"BadTarget\":" ++ targets)) ++ (codes "}" ++ [])))))
-    ≡ old ++ (codes "]" ++ (codes ",\"counts\":{\"Crosses\":" ++ (crosses ++ (codes ",\"NotPermitted\":" ++ (barred
-    ++ (codes ",\"Bare\":" ++ (bare ++ (codes ",\"BadTarget\":" ++ (targets ++ codes "}")))))))))
-counts_parts old crosses barred bare targets = simp append_assoc

@@ -50,25 +50,19 @@ fn push_lines(
     push_finding(out, labels, finding)
 }
 
-/// Adds the text about a further fault, at this place.
+/// Adds the text about a further fault.
 fn push_also(
     out: &mut Vec<u8>,
-    judged: &Judged<'_>,
-    spots: &[Spot],
-    k: usize,
+    labels: &Labels,
     fault: VetFault,
+    finding: &Finding<'_>,
     format: Format,
 ) -> Result<(), AllocError>
-    requires span { judged.now.base + length judged.now.code.now < 2 ^ 32 }
-    requires whole { length judged.now.code.now % 32 ≡ 0 }
-    requires each { length spots.now ≡ length judged.now.code.now }
-    requires within { k < length judged.now.code.now }
     ensures { OnOk result (Adds out.old.items out.new.items (TellsEach format (fault ∷ []))) }
 {
-    let finding = finding_at(judged, spots, fault, k);
     match format {
-        Format::Text => push_lines(out, judged.labels, fault, &finding),
-        Format::Json => push_fault_object(out, b",", judged.labels, fault, &finding),
+        Format::Text => push_lines(out, labels, fault, finding),
+        Format::Json => push_fault_object(out, b",", labels, fault, finding),
     }
 }
 
@@ -96,7 +90,10 @@ fn push_place(
     ensures { OnOk result (Adds out.old.items out.new.items (TellsEach format (listed other))) }
 {
     match other {
-        Some(fault) => push_also(out, judged, spots, k, fault, format),
+        Some(fault) => {
+            let finding = finding_at(judged, spots, fault, k);
+            push_also(out, judged.labels, fault, &finding, format)
+        }
         None => Ok(()),
     }
 }
@@ -162,24 +159,16 @@ fn write_places<W: Write>(
 /// Adds the text before the further faults: in JSON the beginning of an array whose first element is the chunk's own fault.
 fn push_opening(
     out: &mut Vec<u8>,
-    judged: &Judged<'_>,
-    spots: &[Spot],
-    own: usize,
+    labels: &Labels,
     fault: VetFault,
+    finding: &Finding<'_>,
     format: Format,
 ) -> Result<(), AllocError>
-    requires span { judged.now.base + length judged.now.code.now < 2 ^ 32 }
-    requires whole { length judged.now.code.now % 32 ≡ 0 }
-    requires each { length spots.now ≡ length judged.now.code.now }
-    requires within { own < length judged.now.code.now }
     ensures { OnOk result (Adds out.old.items out.new.items (Opens format fault)) }
 {
     match format {
         Format::Text => Ok(()),
-        Format::Json => {
-            let finding = finding_at(judged, spots, fault, own);
-            push_fault_object(out, b",\"faults\":[", judged.labels, fault, &finding)
-        }
+        Format::Json => push_fault_object(out, b",\"faults\":[", labels, fault, finding),
     }
 }
 
@@ -205,7 +194,8 @@ pub(crate) fn write_others<W: Write>(
     let Ok(spots) = read_spots(*out.allocator(), judged.code) else {
         return Err(ReportFault::OutOfMemory);
     };
-    match push_opening(out, judged, &spots, own, fault, format) {
+    let finding = finding_at(judged, &spots, fault, own);
+    match push_opening(out, judged.labels, fault, &finding, format) {
         Ok(()) => {}
         Err(_) => return Err(ReportFault::OutOfMemory),
     }

@@ -1,9 +1,9 @@
 //! The quick reading of bundles of a refused chunk, by the automaton.
 
-ghost use Rattle.std.specs.Prelude.{◌≡◌, ◌≤◌, ◌<◌, ◌+◌, ◌%◌, ◌++◌, ◌==◌, ℕ, List, Option, None, IsTrue, IsFalse, length, replicate, get_or, if◌then◌else◌};
+ghost use Rattle.std.specs.Prelude.{◌≡◌, ◌≤◌, ◌<◌, ◌+◌, ◌%◌, ◌++◌, ℕ, List, Option, None, length, replicate, take, drop, get_or, slice_index};
 ghost use Rattle.nc_decode.specs.declared.automaton.TheConstants.{END};
 ghost use Rattle.nc_report.specs.declared.spot.Spot.{Spot};
-ghost use Rattle.nc_report.specs.machinery.Quick.{states_after, spot_by, spots_by, HasRead};
+ghost use Rattle.nc_report.specs.machinery.Quick.{states_after, spot_by, spots_by, HasRead, ReadsOn};
 ghost use Rattle.nc_report.specs.machinery.Seen.{HasFilled};
 
 use crate::spot::Spot;
@@ -36,9 +36,9 @@ impl Lane {
         }
     }
 
-    /// Reads byte `i` of the bundle.
+    /// Reads this byte, byte `i` of the bundle.
     #[inline(always)]
-    fn step(&mut self, i: usize, byte: u8)
+    fn read(&mut self, i: usize, byte: u8)
         requires place { i < 32 }
         ensures { (bytes : List ℕ) → length bytes ≡ 32 → byte ≡ get_or bytes i 0 → HasRead bytes i self.old.state self.old.states
             → HasRead bytes (i + 1) self.new.state self.new.states }
@@ -47,25 +47,40 @@ impl Lane {
         self.states[i + 1] = self.state.state();
     }
 
-    /// Writes the spots of the bundle's bytes over as many that are `Inside`, if an instruction ends at the end of the bundle,
-    /// whose instructions are then all allowed. Otherwise nothing is written, and the answer is false.
+    /// Reads byte `i` of the bundle at this place of the code.
     #[inline(always)]
-    fn put(&self, spots: &mut [Spot], at: usize) -> bool
+    fn step(&mut self, code: &[u8], at: usize, i: usize)
+        requires place { i < 32 }
+        requires room { at + 32 ≤ length code.now }
+        ensures { HasRead (take 32 (drop at code.now)) i self.old.state self.old.states
+            → HasRead (take 32 (drop at code.now)) (i + 1) self.new.state self.new.states }
+    {
+        self.read(i, code[at + i]);
+    }
+
+    /// Writes the spots of the bytes of the bundle at this place over as many that are `Inside`, if those of all bytes before it
+    /// are written, and an instruction ends at its end: its instructions are then all allowed. Spots are written up to `end`
+    /// before, and afterwards up to the place that is returned.
+    #[inline(always)]
+    fn put(&self, spots: &mut [Spot], at: usize, end: usize) -> usize
+        requires start { at % 32 ≡ 0 }
         requires within { at + 32 ≤ length spots.old }
-        ensures whole { (bytes : List ℕ) → IsTrue result → length bytes ≡ 32 → HasRead bytes 32 self.now.state self.now.states
-            → END ≤ get_or (states_after END bytes) 31 0 }
-        ensures put { (bytes : List ℕ) (front after : List Spot) → IsTrue result → length bytes ≡ 32
-            → HasRead bytes 32 self.now.state self.now.states
-            → length front ≡ at → spots.old ≡ front ++ (replicate 32 Spot.Inside ++ after)
-            → spots.new ≡ front ++ (spots_by END (states_after END bytes) ++ after) }
-        ensures same { IsFalse result → spots.new ≡ spots.old }
+        requires before { end ≤ at }
+        ensures read { (code : List ℕ) (mask : ℕ → Option ℕ) (i : ℕ) → at + 32 ≤ length code → ((k : ℕ) → slice_index code k < 256) → i ≡ 32
+            → HasRead (take 32 (drop at code)) i self.now.state self.now.states → mask (at + 32) ≡ None
+            → HasFilled code end (mask end) spots.old → HasFilled code result (mask result) spots.new }
+        ensures low { end ≤ result }
+        ensures high { result ≤ at + 32 }
         ensures long { length spots.new ≡ length spots.old }
     {
+        if end != at {
+            return end;
+        }
         if self.states[32] < END {
-            return false;
+            return end;
         }
         put_bundle(spots, at, &self.states);
-        true
+        at + 32
     }
 }
 
@@ -97,81 +112,60 @@ fn put_bundle(spots: &mut [Spot], at: usize, states: &[u8; 34])
     }
 }
 
-/// Reads the bundle at a place, and writes its spots if an instruction ends at its end. Returns the number of spots that are
+/// Reads the bundle at a place, and writes its spots if an instruction ends at its end. Returns the place up to which spots are
 /// written.
 #[inline(always)]
 fn read_one(spots: &mut [Spot], code: &[u8], at: usize) -> usize
     requires start { at % 32 ≡ 0 }
     requires room { at + 32 ≤ length code.now }
     requires each { length spots.old ≡ length code.now }
-    ensures read { (masked : Option ℕ) → HasFilled code.now at masked spots.old
-        → HasFilled code.now (at + result) (if result == 0 then masked else None) spots.new }
-    ensures room { at + result ≤ length code.now }
-    ensures same { result ≡ 0 → spots.new ≡ spots.old }
-    ensures long { length spots.new ≡ length spots.old }
+    ensures { ReadsOn code.now at spots.old result spots.new }
 {
     let mut a = Lane::new();
     for i in 0..32 {
-        a.step(i, code[at + i]);
+        a.step(code, at, i);
     }
-    if a.put(spots, at) { 32 } else { 0 }
+    a.put(spots, at, at)
 }
 
 /// Reads the four bundles at a place in lock step, and writes the spots of those before the first at whose end no instruction
-/// ends. Returns the number of spots that are written. Each state of a lane depends on the one before, so a lane mostly waits,
-/// and four of them take little longer than one.
+/// ends. Returns the place up to which spots are written. Each state of a lane depends on the one before, so a lane mostly
+/// waits, and four of them take little longer than one.
 #[inline(never)]
 fn read_four(spots: &mut [Spot], code: &[u8], at: usize) -> usize
     requires start { at % 32 ≡ 0 }
     requires room { at + 128 ≤ length code.now }
     requires each { length spots.old ≡ length code.now }
-    ensures read { (masked : Option ℕ) → HasFilled code.now at masked spots.old
-        → HasFilled code.now (at + result) (if result == 0 then masked else None) spots.new }
-    ensures room { at + result ≤ length code.now }
-    ensures same { result ≡ 0 → spots.new ≡ spots.old }
-    ensures long { length spots.new ≡ length spots.old }
+    ensures { ReadsOn code.now at spots.old result spots.new }
 {
     let mut a = Lane::new();
     let mut b = Lane::new();
     let mut c = Lane::new();
     let mut d = Lane::new();
     for i in 0..32 {
-        a.step(i, code[at + i]);
-        b.step(i, code[at + 32 + i]);
-        c.step(i, code[at + 64 + i]);
-        d.step(i, code[at + 96 + i]);
+        a.step(code, at, i);
+        b.step(code, at + 32, i);
+        c.step(code, at + 64, i);
+        d.step(code, at + 96, i);
     }
-    if !a.put(spots, at) {
-        return 0;
-    }
-    if !b.put(spots, at + 32) {
-        return 32;
-    }
-    if !c.put(spots, at + 64) {
-        return 64;
-    }
-    if !d.put(spots, at + 96) {
-        return 96;
-    }
-    FOUR
+    let first = a.put(spots, at, at);
+    let second = b.put(spots, at + 32, first);
+    let third = c.put(spots, at + 64, second);
+    d.put(spots, at + 96, third)
 }
 
 /// If a bundle begins at a place, reads four from there, or one where fewer are left. The spots of those before the first at
 /// whose end no instruction ends are written over as many that are `Inside`: their instructions are all allowed. Returns the
-/// number of spots that are written.
+/// place up to which spots are written.
 #[inline(always)]
 pub(crate) fn read_bundles(spots: &mut [Spot], code: &[u8], at: usize) -> usize
     requires bundles { length code.now % 32 ≡ 0 }
     requires within { at < length code.now }
     requires each { length spots.old ≡ length code.now }
-    ensures read { (masked : Option ℕ) → HasFilled code.now at masked spots.old
-        → HasFilled code.now (at + result) (if result == 0 then masked else None) spots.new }
-    ensures room { at + result ≤ length code.now }
-    ensures same { result ≡ 0 → spots.new ≡ spots.old }
-    ensures long { length spots.new ≡ length spots.old }
+    ensures { ReadsOn code.now at spots.old result spots.new }
 {
     if at % BUNDLE as usize != 0 {
-        return 0;
+        return at;
     }
     if code.len() - at < FOUR {
         return read_one(spots, code, at);

@@ -1,9 +1,8 @@
 //! Vetting a source, and reporting on it.
 
-ghost use Rattle.std.specs.Prelude.{◌≡◌, ◌↔◌, Bool, IfOk, IfErr, OnErr, IsErrOf};
+ghost use Rattle.std.specs.Prelude.{◌≡◌, ◌↔◌, Bool, IfOk, IsErrOf};
 ghost use Rattle.nc_decode.specs.Bundles.{IsRegionSize, limit_after};
 ghost use Rattle.nc_report.specs.Report.{Tells, HasWritten, HasBegun};
-ghost use Rattle.nc_report.specs.machinery.Added.{IsOfWriting};
 
 use crate::fault::ReportFault;
 use crate::source::Source;
@@ -12,32 +11,6 @@ use nc_decode::{BUNDLE, START, is_region_size};
 use nc_output::Style;
 use std::alloc::Global;
 use std::io::Write;
-
-/// Vets a source for a region of this limit, writes the report on it, and flushes the writer. Returns whether it is refused.
-fn tell_all<W: Write>(
-    alloc: Global,
-    source: Source,
-    base: u32,
-    limit: u32,
-    style: Style,
-    writer: &mut W,
-) -> Result<bool, ReportFault>
-    ensures ok { IfOk result (λ refused. HasWritten (Tells limit base style source.name.items source.code.items refused)
-        (W.contents writer.old) (W.contents writer.new)) }
-    ensures cut { OnErr result (HasBegun
-        (λ text. (refused : Bool) × Tells limit base style source.name.items source.code.items refused text)
-        (W.contents writer.old) (W.contents writer.new)) }
-    ensures faults { IfErr result IsOfWriting }
-{
-    let refused = match tell(alloc, source, base, limit, style, writer) {
-        Ok(refused) => refused,
-        Err(fault) => return Err(fault),
-    };
-    match writer.flush() {
-        Ok(()) => Ok(refused),
-        Err(_) => Err(ReportFault::WriteFailed),
-    }
-}
 
 /// Vets a source as a chunk at this base in a region of `bundles` bundles, and writes the report on it. Returns whether it is
 /// refused.
@@ -78,5 +51,5 @@ pub fn report<W: Write>(
     if !is_region_size(bundles) {
         return Err(ReportFault::BadSize);
     }
-    tell_all(alloc, source, base, START + BUNDLE * bundles, style, writer)
+    tell(alloc, source, base, START + BUNDLE * bundles, style, writer)
 }

@@ -177,10 +177,10 @@ fn fill_spots(spots: &mut [Spot], code: &[u8])
     let mut at = 0usize;
     let mut masked = None;
     while at < code.len() {
-        let read = read_bundles(spots, code, at);
-        if read > 0 {
+        let end = read_bundles(spots, code, at);
+        if end > at {
             masked = None;
-            at += read;
+            at = end;
             continue;
         }
         let room = BUNDLE as usize - at % BUNDLE as usize;

@@ -1,6 +1,7 @@
 //! The report on one source.
 
-ghost use Rattle.std.specs.Prelude.{◌≡◌, ◌≢◌, ◌++◌, Bool, List, length, IfOk, IfErr, OnOk, OnErr};
+ghost use Rattle.std.specs.Prelude.{◌≡◌, ◌≢◌, ◌++◌, Bool, ℕ, List, length, take, IfOk, IfErr, OnOk, OnErr};
+ghost use Rattle.std.specs.Io.KnownBytes.{Appends};
 ghost use Rattle.nc_vet.specs.Faults.{HasFault};
 ghost use Rattle.nc_vet.specs.declared.fault.VetFault.TheVariants.{OutOfMemory};
 ghost use Rattle.nc_output.specs.Verdicts.{with_line_end, place_of};
@@ -107,6 +108,22 @@ fn push_accepted(
     push_end(out, style.format)
 }
 
+/// Writes the last text of a report, and flushes the writer.
+fn write_last<W: Write>(out: &[u8], writer: &mut W) -> Result<(), ReportFault>
+    ensures ok { OnOk result (Appends (W.contents writer.old) (W.contents writer.new) out.now) }
+    ensures cut { OnErr result ((count : ℕ) × Appends (W.contents writer.old) (W.contents writer.new) (take count out.now)) }
+    ensures faults { IfErr result IsOfWriting }
+{
+    match write_out(writer, out) {
+        Ok(()) => {}
+        Err(_) => return Err(ReportFault::WriteFailed),
+    }
+    match writer.flush() {
+        Ok(()) => Ok(()),
+        Err(_) => Err(ReportFault::WriteFailed),
+    }
+}
+
 /// Writes the report on an accepted source.
 fn tell_accepted<W: Write>(
     alloc: Global,
@@ -126,10 +143,7 @@ fn tell_accepted<W: Write>(
         Ok(()) => {}
         Err(_) => return Err(ReportFault::OutOfMemory),
     }
-    match write_out(writer, &out) {
-        Ok(()) => Ok(()),
-        Err(_) => Err(ReportFault::WriteFailed),
-    }
+    write_last(&out, writer)
 }
 
 /// Adds the verdict on a refused source. Lack of memory is not a verdict: it is returned as an error.
@@ -283,13 +297,10 @@ fn tell_refused<W: Write>(
         Ok(()) => {}
         Err(_) => return Err(ReportFault::OutOfMemory),
     }
-    match write_out(writer, &out) {
-        Ok(()) => Ok(()),
-        Err(_) => Err(ReportFault::WriteFailed),
-    }
+    write_last(&out, writer)
 }
 
-/// Vets a source, and writes the report on it. Returns whether it is refused.
+/// Vets a source, writes the report on it, and flushes the writer. Returns whether the source is refused.
 pub(crate) fn tell<W: Write>(
     alloc: Global,
     source: Source,

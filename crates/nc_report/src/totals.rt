@@ -38,10 +38,7 @@ pub(crate) const NO_FAULTS: Counts = Counts {
 
 /// The counts with one more for the kind of this fault, if there is one.
 pub(crate) fn counted(counts: Counts, found: Option<VetFault>) -> Counts
-    requires crosses { counts.crosses < 2 ^ 63 }
-    requires not_permitted { counts.not_permitted < 2 ^ 63 }
-    requires bare { counts.bare < 2 ^ 63 }
-    requires bad_target { counts.bad_target < 2 ^ 63 }
+    requires { total counts < 2 ^ 63 }
     ensures { result ≡ counted counts found }
 {
     let mut counts = counts;

@@ -1,9 +1,10 @@
 -- Machinery of the proofs, cited by no public contract: the spots of a bundle by the states of the automaton.
-use Rattle.std.specs.Prelude.{◌≡◌, ℕ, ◌+◌, List, [], ◌∷◌, ◌++◌, length, take, drop, get_or, ◌==◌, nat_lt, slice_index, if◌then◌else◌}
+use Rattle.std.specs.Prelude.{◌≡◌, ℕ, ◌+◌, ◌≤◌, Option, None, List, [], ◌∷◌, ◌++◌, length, take, drop, get_or, ◌==◌, nat_lt, slice_index, if◌then◌else◌}
 use Rattle.nc_decode.specs.declared.automaton.TheConstants.{END, AFTER_PAIR}
 use Rattle.nc_decode.specs.Automaton.{next_state}
 use Rattle.nc_report.specs.declared.spot.Spot.{Spot}
 use Rattle.nc_report.specs.declared.spot.Spot.TheVariants.{Inside, Entry, Second}
+use Rattle.nc_report.specs.machinery.Seen.{HasFilled}
 
 -- the state after each of some bytes, from a state on
 abbrev pub states_after : ℕ → List ℕ → List ℕ
@@ -25,3 +26,10 @@ pub record HasRead (bytes : List ℕ) (i state : ℕ) (states : List ℕ) : Type
   pub so_far : take (i + 1) states ++ states_after state (drop i bytes) ≡ END ∷ states_after END bytes
   pub long : length states ≡ 34
   pub end : get_or states 33 0 ≡ 0
+
+-- the code is read from a place on, up to `end`, and the spots of its bytes are written
+pub record ReadsOn (code : List ℕ) (at : ℕ) (old : List Spot) (end : ℕ) (new : List Spot) : Type 0 where
+  pub read : (masked : Option ℕ) → HasFilled code at masked old → HasFilled code end (if end == at then masked else None) new
+  pub low : at ≤ end
+  pub room : end ≤ length code
+  pub long : length new ≡ length old

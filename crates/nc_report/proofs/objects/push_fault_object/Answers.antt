@@ -1,14 +1,16 @@
-use Rattle.std.proofs.Common.{◌++◌, ℕ, Option, ap, ◌∙◌}
+use Rattle.std.proofs.Common.{◌≡◌, ◌++◌, refl, append_assoc}
+use Rattle.std.specs.Prelude.{codes}
 use Rattle.std.proofs.lemmas.Result.{on_ok_weaker}
-use Rattle.nc_report.specs.Objects.{at_member}
-use Rattle.nc_report.proofs.ObjectTexts.{fault_added}
+use Rattle.nc_report.specs.Objects.{fault_object}
 use Rattle.nc_report.proofs.objects.push_fault_object.Goals as goal
 
 pub returns : goal.returns
 returns c =
+    let a = c.in_ok-push_members.ensures in
     on_ok_weaker c.push_text-2.result
-    (fault_added c.args.out.now.items _ _ _ _ c.push_text-2.new.out.items c.args.before.now _ c.args.fault c.in_ok-push_text.ensures
-    c.in_ok-fault_name.ensures.named.1 c.in_ok-push_between.ensures
-    (c.in_ok-push_at.ensures ∙ ap (λ (p : Option ℕ). c.push_between.new.out.items ++ at_member p) c.place_of.ensures)
-    c.in_ok-push_members.ensures)
+    (λ (e : c.push_text-2.new.out.items ≡ c.push_members.new.out.items ++ codes "}"). record {
+      text = c.args.before.now ++ (fault_object c.args.fault ++ (a.text ++ codes "}"));
+      says = (a.text ++ codes "}", (a.text, a.says, refl), refl);
+      added = simp (e, a.added, c.in_ok-push_at.ensures, c.place_of.ensures, c.in_ok-push_between.ensures, c.in_ok-fault_name.ensures.named.1, c.in_ok-push_text.ensures, append_assoc);
+    })
     c.push_text-2.ensures

@@ -4,12 +4,12 @@ use Rattle.nc_output.specs.declared.detail.Format.{Format}
 use Rattle.nc_report.specs.declared.spot.Spot.{Spot}
 use Rattle.nc_report.specs.declared.totals.Counts.{Counts}
 use Rattle.nc_report.specs.Further.{others_to}
-use Rattle.nc_report.specs.Totals.{counts_to}
+use Rattle.nc_report.specs.Totals.{counts_to, total}
 use Rattle.nc_report.specs.Report.{Shows, Opens, TellsEach, TellsOthers, counts_text}
 use Rattle.nc_report.specs.machinery.Added.{Adds}
 use Rattle.nc_report.specs.machinery.Seen.{HasSpots}
 use Rattle.nc_report.proofs.Additions.{writes_after, writes_more, begun_later, cut_here}
-use Rattle.nc_report.proofs.CountedFaults.{counts_small}
+use Rattle.nc_report.proofs.CountedFaults.{total_small}
 use Rattle.nc_report.proofs.FurtherTexts.{TellsFirst, TellsLast, others_told, others_completed}
 use Rattle.nc_report.proofs.others.write_others.Goals as goal
 
@@ -38,10 +38,13 @@ returns-in-Err-write_places-clause-cut g c =
 pub push_last-requires : goal.push_last-requires
 push_last-requires g c =
     let judged = c.args.judged.now in
-    let code = judged.code.now in
-    let (a, b, d, e) = counts_small judged.base judged.limit code c.deref-2.result.now (length code) c.in-Ok-write_places.counts
-    c.in-Ok-write_places.ensures.counts in
-    omega (arith, a, b, d, e, c.requires.span.high, c.requires.span.lawful)
+    omega (
+      arith,
+      c.requires.span.high,
+      c.requires.span.lawful,
+      ap total c.in-Ok-write_places.ensures.counts,
+      total_small judged.base judged.limit judged.code.now c.deref-2.result.now (length judged.code.now),
+    )
 
 pub returns-in-Ok-push_last-clause-ok : goal.returns-in-Ok-push_last-clause-ok
 returns-in-Ok-push_last-clause-ok g c =

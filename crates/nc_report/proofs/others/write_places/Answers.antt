@@ -1,13 +1,13 @@
-use Rattle.std.proofs.Common.{◌≡◌, ◌+◌, ◌++◌, List, [], ℕ, length, inl, refl, sym, ap, ◌∙◌, subst, arith}
+use Rattle.std.proofs.Common.{◌≡◌, ◌+◌, ◌++◌, List, [], ℕ, length, refl, sym, ap, ◌∙◌, subst, arith}
 use Rattle.nc_vet.specs.declared.fault.VetFault.{VetFault}
 use Rattle.nc_report.specs.Further.{others_at, others_to}
-use Rattle.nc_report.specs.Totals.{counts_to}
+use Rattle.nc_report.specs.Totals.{counts_to, total}
 use Rattle.nc_report.specs.Report.{TellsEach}
 use Rattle.nc_report.specs.declared.totals.Counts.{Counts}
 use Rattle.nc_report.specs.machinery.Added.{WritesOn}
 use Rattle.nc_report.specs.machinery.Seen.{counted}
 use Rattle.nc_report.proofs.Additions.{writes_none, writes_more, cut_here, cut_in}
-use Rattle.nc_report.proofs.CountedFaults.{counts_more, counts_small}
+use Rattle.nc_report.proofs.CountedFaults.{counts_more, total_small}
 use Rattle.nc_report.proofs.FurtherTexts.{completed, told_more, told_there}
 use Rattle.nc_report.proofs.QuietPlaces.{AreFaultless, quiet_none, others_over, counts_over}
 use Rattle.nc_report.proofs.others.write_places.Goals as goal
@@ -79,21 +79,7 @@ returns-clause-counts g c =
     let all : c.loop-k.k ≡ length judged.code.now = omega arith in
     c.loop-k.invariant.counts ∙ ap (counts_to judged.base judged.limit judged.code.now c.args.spots.now) all
 
-pub returns-in-Err-clause-faults : goal.returns-in-Err-clause-faults
-returns-in-Err-clause-faults g c = inl refl
-
-pub returns-in-Err-write_much-clause-faults : goal.returns-in-Err-write_much-clause-faults
-returns-in-Err-write_much-clause-faults g c = c.in-Err-write_much.ensures.faults
-
-pub counted-counts-requires-clause-crosses : goal.counted-counts-requires-clause-crosses
-counted-counts-requires-clause-crosses g c = omega (arith, (counts_small c.args.judged.now.base c.args.judged.now.limit c.args.judged.now.code.now c.args.spots.now c.loop-k.k c.loop-k.counts c.loop-k.invariant.counts).0, c.requires.span)
-
-pub counted-counts-requires-clause-not_permitted :
-    goal.counted-counts-requires-clause-not_permitted
-counted-counts-requires-clause-not_permitted g c = omega (arith, (counts_small c.args.judged.now.base c.args.judged.now.limit c.args.judged.now.code.now c.args.spots.now c.loop-k.k c.loop-k.counts c.loop-k.invariant.counts).1, c.requires.span)
-
-pub counted-counts-requires-clause-bare : goal.counted-counts-requires-clause-bare
-counted-counts-requires-clause-bare g c = omega (arith, (counts_small c.args.judged.now.base c.args.judged.now.limit c.args.judged.now.code.now c.args.spots.now c.loop-k.k c.loop-k.counts c.loop-k.invariant.counts).2, c.requires.span)
-
-pub counted-counts-requires-clause-bad_target : goal.counted-counts-requires-clause-bad_target
-counted-counts-requires-clause-bad_target g c = omega (arith, (counts_small c.args.judged.now.base c.args.judged.now.limit c.args.judged.now.code.now c.args.spots.now c.loop-k.k c.loop-k.counts c.loop-k.invariant.counts).3, c.requires.span)
+pub counted-counts-requires : goal.counted-counts-requires
+counted-counts-requires g c =
+    let judged = c.args.judged.now in
+    omega (arith, c.requires.span, ap total c.loop-k.invariant.counts, total_small judged.base judged.limit judged.code.now c.args.spots.now c.loop-k.k)

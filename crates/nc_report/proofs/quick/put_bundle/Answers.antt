@@ -5,7 +5,8 @@ use Rattle.nc_decode.specs.declared.automaton.TheConstants.{END}
 use Rattle.nc_report.specs.declared.spot.Spot.{Spot}
 use Rattle.nc_report.specs.declared.spot.Spot.TheVariants.{Inside}
 use Rattle.nc_report.specs.machinery.Quick.{states_after, spots_by}
-use Rattle.nc_report.proofs.QuickReading.{spot_more, one_put, length-spots}
+use Rattle.nc_report.proofs.QuickReading.{spot_more, length-spots}
+use Rattle.nc_report.proofs.ReadSteps.{one_put}
 use Rattle.nc_report.proofs.quick.put_bundle.Goals as goal
 
 pub loop-k-preserved : goal.loop-k-preserved
@@ -16,7 +17,7 @@ loop-k-preserved c =
       put = λ bytes state front after size h n e.
           (let all = spots_by END (states_after END bytes) in
           let long : length (take k all) ≡ k = length-take-le k all (omega (arith, length-spots bytes, size, c.loop-k-test.true)) in
-          one_put front (take k all) after c.loop-k.spots c.args.at k c.spot_by.result n long c.loop-k-test.true
+          one_put front (take k all) after c.loop-k.spots c.args.at k 32 c.spot_by.result n long c.loop-k-test.true
           (c.loop-k.invariant.put bytes state front after size h n e)
           ∙ ap (λ (z : List Spot). front ++ (z ++ (replicate (32 - (k + 1)) Inside ++ after)))
           (ap (λ (s : Spot). take k all ++ s ∷ []) c.spot_by.ensures

@@ -1,31 +1,28 @@
-use Rattle.std.proofs.Common.{◌≡◌, ◌++◌, ℕ, List, length, take, arith, refl, sym, ap, ◌∙◌, subst, append-nil}
+use Rattle.std.proofs.Common.{◌≡◌, ◌≤◌, ◌+◌, ◌++◌, Option, ℕ, List, length, take, arith, refl, sym, ap, ◌∙◌, subst, append-nil}
 use Rattle.std.proofs.lemmas.List.{length-append, length-take-le}
 use Rattle.std.specs.Io.KnownBytes.{Consumes}
 use Rattle.std.proofs.KnownBytes.{Consumes-nil, Consumes-trans, Consumes-kept, Consumes-whole}
 use Rattle.nc_report.proofs.source.read_pieces.Goals as goal
 
+-- with the next piece more was read
+more_read : (before mid after : Option (List ℕ)) (code buf : List ℕ) (n : ℕ) → Consumes before mid code → Consumes mid after (take n buf)
+    → n ≤ length buf → (front : List ℕ) × Consumes before after front × (length front ≡ length code + n)
+more_read before mid after code buf n a b le = (
+  code ++ take n buf,
+  Consumes-trans before mid after code (take n buf) a b,
+  omega (arith, length-append code (take n buf), length-take-le n buf le),
+)
+
 pub returns-then-len-count-clause-too_long : goal.returns-then-len-count-clause-too_long
 returns-then-len-count-clause-too_long g c = λ _.
-    let (consumed, counted, small) = c.loop.invariant in
-    let n = c.in-Ok.count in
-    let buf = c.read.new.buf in
-    let code = c.loop.code.items in (
-      code ++ take n buf,
-      Consumes-trans _ _ _ code (take n buf) consumed c.in-Ok.ensures.bytes.0,
-      omega (arith, length-append code (take n buf), length-take-le n buf c.in-Ok.ensures.bound.0, c.if-len-count.true, c.in-Ok.ensures.bound.0),
-    )
+    let (front, all, long) = more_read _ _ _ _ _ _ c.loop.invariant.0 c.in-Ok.ensures.bytes.0 c.in-Ok.ensures.bound.0 in
+    (front, all, omega (arith, long, c.if-len-count.true))
 
 pub returns-in-Err-extend_from_slice-clause-out_of_memory :
     goal.returns-in-Err-extend_from_slice-clause-out_of_memory
 returns-in-Err-extend_from_slice-clause-out_of_memory g c = λ _.
-    let (consumed, counted, small) = c.loop.invariant in
-    let n = c.in-Ok.count in
-    let buf = c.read.new.buf in
-    let code = c.loop.code.items in (
-      code ++ take n buf,
-      Consumes-trans _ _ _ code (take n buf) consumed c.in-Ok.ensures.bytes.0,
-      omega (arith, length-append code (take n buf), length-take-le n buf c.in-Ok.ensures.bound.0, c.if-len-count.false, c.in-Ok.ensures.bound.0),
-    )
+    let (front, all, long) = more_read _ _ _ _ _ _ c.loop.invariant.0 c.in-Ok.ensures.bytes.0 c.in-Ok.ensures.bound.0 in
+    (front, all, omega (arith, long, c.if-len-count.false))
 
 pub loop-init : goal.loop-init
 loop-init g c = (subst (Consumes _ _) (sym c.requires) (Consumes-nil _), omega arith, omega (arith, ap length c.requires))

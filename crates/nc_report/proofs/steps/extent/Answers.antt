@@ -1,17 +1,15 @@
-use Rattle.std.proofs.Common.{◌≡◌, ◌≤◌, ℕ, length, Option, Some, None, sym, ap, ◌∙◌, arith}
+use Rattle.std.proofs.Common.{◌≡◌, ◌≤◌, length, Option, None, refl, sym, ap, ◌∙◌, arith}
 use Rattle.std.specs.Result.{result_ok}
 use Rattle.std.proofs.lemmas.Option.{IfSome_then}
 use Rattle.nc_decode.specs.declared.instruction.Instr.{Instr}
 use Rattle.nc_decode.specs.Front.{first_instruction}
 use Rattle.nc_report.specs.Lengths.{known_length}
 use Rattle.nc_report.specs.Reading.{extent_by}
+use Rattle.nc_report.proofs.ReadSteps.{extent_of}
 use Rattle.nc_report.proofs.steps.extent.Goals as goal
 
 pub returns-in-Ok-clause-value : goal.returns-in-Ok-clause-value
-returns-in-Ok-clause-value c =
-    let rest = c.args.rest.now in
-    let first : first_instruction rest ≡ Some c.in-Ok.instr = sym c.decode.ensures.first ∙ ap result_ok c.in-Ok.is in
-    ap (λ (n : ℕ). Some n) c.from.ensures ∙ ap (λ (o : Option Instr). extent_by o (known_length rest)) (sym first)
+returns-in-Ok-clause-value c = sym (extent_of c.args.rest.now c.in-Ok.instr _ ((c.in-Ok.ensures.found c.in-Ok.instr).0 refl) c.from.ensures)
 
 pub returns-in-Err-clause-value : goal.returns-in-Err-clause-value
 returns-in-Err-clause-value c =

@@ -1,7 +1,9 @@
-use Rattle.std.proofs.Common.{◌-◌, ◌++◌, ℕ, ap, ◌∙◌, arith}
+use Rattle.std.proofs.Common.{◌+◌, ◌-◌, ◌++◌, List, ℕ, ap, ◌∙◌, arith}
 use Rattle.std.specs.Prelude.{replicate}
+use Rattle.std.proofs.lemmas.List.{length-replicate, replicate_more}
+use Rattle.nc_report.specs.declared.spot.Spot.{Spot}
 use Rattle.nc_report.specs.declared.spot.Spot.TheVariants.{Inside, Skipped}
-use Rattle.nc_report.proofs.ReadSteps.{one_skipped}
+use Rattle.nc_report.proofs.ReadSteps.{one_put}
 use Rattle.nc_report.proofs.steps.put_skipped.Goals as goal
 
 pub loop-k-init : goal.loop-k-init
@@ -9,7 +11,9 @@ loop-k-init c = λ before after n e. e ∙ ap (λ (m : ℕ). before ++ (replicat
 
 pub loop-k-preserved : goal.loop-k-preserved
 loop-k-preserved c = λ before after n e.
-    one_skipped before after _ c.args.from c.loop-k.k c.args.count n (omega arith) (c.loop-k.invariant before after n e)
+    let k = c.loop-k.k in
+    one_put before (replicate k Skipped) after _ c.args.from k c.args.count Skipped n (length-replicate k Skipped) (omega arith) (c.loop-k.invariant before after n e)
+    ∙ ap (λ (z : List Spot). before ++ (z ++ (replicate (c.args.count - (k + 1)) Inside ++ after))) (replicate_more k Skipped)
 
 pub returns : goal.returns
 returns c = λ before after n e. c.loop-k.invariant before after n e

@@ -1,20 +1,12 @@
-use Rattle.std.proofs.Common.{◌≡◌, ◌+◌, ◌-◌, ◌++◌, ◌∷◌, [], Bool, true, false, length, refl, sym, ap, ◌∙◌, append_assoc, arith}
-use Rattle.std.specs.Prelude.{replicate, not}
+use Rattle.std.proofs.Common.{◌≡◌, ◌+◌, ◌-◌, ◌++◌, ◌∷◌, [], Bool, length, sym, ap, ◌∙◌, append_assoc, arith}
+use Rattle.std.specs.Prelude.{replicate}
+use Rattle.std.proofs.lemmas.Bool.{not-true, not-false}
 use Rattle.std.proofs.lemmas.List.{length_push}
 use Rattle.nc_report.specs.declared.spot.Spot.{Spot}
 use Rattle.nc_report.specs.declared.spot.Spot.TheVariants.{Inside, Skipped}
 use Rattle.nc_report.specs.Reading.{spot_of, later_spot}
 use Rattle.nc_report.proofs.ReadSteps.{first_put}
 use Rattle.nc_report.proofs.steps.put_spots.Goals as goal
-
--- a test by what its negation says
-fails : (b : Bool) → not b ≡ true → b ≡ false
-fails true e = absurd cc
-fails false e = refl
-
-holds : (b : Bool) → not b ≡ false → b ≡ true
-holds true e = refl
-holds false e = absurd cc
 
 pub returns-then-not-step : goal.returns-then-not-step
 returns-then-not-step c = λ before more len e.
@@ -27,11 +19,11 @@ returns-then-not-step c = λ before more len e.
     (first_put c.args.spots.now before c.args.at n more first len c.requires.some e ∙ sym (append_assoc before (first ∷ []) later))
     ∙ append_assoc before (first ∷ []) skipped
     ∙ ap (λ (s : Spot). before ++ s ∷ skipped) c.spot_of.ensures
-    ∙ ap (λ (b : Bool). before ++ spot_of c.args.step.found ∷ (replicate (n - 1) (later_spot b) ++ replicate more Inside)) (sym (fails c.args.step.whole c.if-not-step.true))
+    ∙ ap (λ (b : Bool). before ++ spot_of c.args.step.found ∷ (replicate (n - 1) (later_spot b) ++ replicate more Inside)) (sym (not-true c.args.step.whole c.if-not-step.true))
 
 pub returns-else-not-step : goal.returns-else-not-step
 returns-else-not-step c = λ before more len e.
     let n = c.args.step.len in
     first_put c.args.spots.now before c.args.at n more c.spot_of.result len c.requires.some e
     ∙ ap (λ (s : Spot). before ++ s ∷ (replicate (n - 1) Inside ++ replicate more Inside)) c.spot_of.ensures
-    ∙ ap (λ (b : Bool). before ++ spot_of c.args.step.found ∷ (replicate (n - 1) (later_spot b) ++ replicate more Inside)) (sym (holds c.args.step.whole c.if-not-step.false))
+    ∙ ap (λ (b : Bool). before ++ spot_of c.args.step.found ∷ (replicate (n - 1) (later_spot b) ++ replicate more Inside)) (sym (not-false c.args.step.whole c.if-not-step.false))

@@ -1,9 +1,8 @@
-use Rattle.std.proofs.lemmas.Result.{on_ok_weaker}
-use Rattle.nc_report.proofs.Appended.{three_added}
+use Rattle.std.proofs.Common.{append_assoc}
+use Rattle.std.proofs.lemmas.Result.{IfOk-equal}
 use Rattle.nc_report.proofs.strings.push_between.Goals as goal
 
 pub returns : goal.returns
 returns c =
-    on_ok_weaker c.push_text-2.result
-    (λ e. three_added c.args.out.now.items _ _ _ _ _ c.push_text-2.new.out.items c.in_ok-push_text.ensures c.in_ok-push_inner.ensures e)
-    c.push_text-2.ensures
+    IfOk-equal c.push_text-2.result _ _ _ c.push_text-2.ensures
+    (simp (c.in_ok-push_text.ensures, c.in_ok-push_inner.ensures, append_assoc))

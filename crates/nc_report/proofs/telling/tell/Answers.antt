@@ -1,16 +1,19 @@
-use Rattle.std.proofs.Common.{ℕ, ap, ◌∙◌}
+use Rattle.std.proofs.Common.{ℕ, true, false, inl, inr, refl, ap, ◌∙◌}
 use Rattle.std.specs.Global.{Vec}
-use Rattle.nc_report.proofs.RefusedTexts.{any_refused}
-use Rattle.nc_report.proofs.AcceptedTexts.{any_accepted}
+use Rattle.nc_report.specs.Report.{Tells}
+use Rattle.nc_report.proofs.Additions.{begun_any}
 use Rattle.nc_report.proofs.telling.tell.Goals as goal
 
 pub returns-in-Ok-clause-cut : goal.returns-in-Ok-clause-cut
 returns-in-Ok-clause-cut g c =
+    let source = c.args.source in
     let (b, l, k, v) = c.in-Ok.ensures.vetted in
-    any_accepted c.args.limit c.args.base c.args.style c.args.source.name.items c.args.source.code.items _ _ l b c.deref.ensures.value
-    k c.in-Err-tell_accepted.ensures.cut
+    begun_any (Tells c.args.limit c.args.base c.args.style source.name.items source.code.items) _ false _ _
+    (λ text t. inl (refl, rw (l, b, c.deref.ensures.value, k) at t)) c.in-Err-tell_accepted.ensures.cut
 
 pub returns-clause-cut : goal.returns-clause-cut
 returns-clause-cut g c =
-    any_refused c.args.limit c.args.base c.args.style c.args.source.name.items c.args.source.code.items _ _
-    c.deref-in-Err-2.ensures.value (c.deref-in-Err.ensures.value ∙ ap (λ (v : Vec ℕ). v.items) c.in-Err.ensures.given_back) c.in-Err-tell_refused.ensures.cut
+    let source = c.args.source in
+    let code = c.deref-in-Err.ensures.value ∙ ap (λ (v : Vec ℕ). v.items) c.in-Err.ensures.given_back in
+    begun_any (Tells c.args.limit c.args.base c.args.style source.name.items source.code.items) _ true _ _
+    (λ text t. inr (refl, rw (c.deref-in-Err-2.ensures.value, code) at t)) c.in-Err-tell_refused.ensures.cut

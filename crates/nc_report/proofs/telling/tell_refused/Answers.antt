@@ -1,33 +1,55 @@
-use Rattle.std.proofs.Common.{List, ℕ, take, subst}
+use Rattle.std.proofs.Common.{◌++◌, [], List, ℕ, take, sym, subst, append-nil}
+use Rattle.std.proofs.lemmas.Result.{on_ok_weaker, on_err_weaker}
 use Rattle.std.specs.Io.KnownBytes.{Appends}
-use Rattle.nc_report.proofs.RefusedTexts.{more_begun, refused_written, refused_begun, refused_cut}
+use Rattle.nc_report.specs.Report.{end_of, TellsRefused}
+use Rattle.nc_report.proofs.Additions.{begun_alone, begun_later, cut_here, cut_in, written_alone, writes_more}
+use Rattle.nc_report.proofs.RefusedTexts.{TellsOpen, open_text, told_open, end_added, whole}
 use Rattle.nc_report.proofs.telling.tell_refused.Goals as goal
 
 pub returns-in-Err-write_more-clause-cut : goal.returns-in-Err-write_more-clause-cut
 returns-in-Err-write_more-clause-cut g c =
     let judged = c.args.judged.now in
-    more_begun judged.limit judged.base c.args.style c.args.name.now judged.code.now _ _ c.args.fault c.requires c.new-out.ensures.items
-    c.in-Ok.ensures _ _ c.in-Err-write_more.ensures.cut
+    let style = c.args.style in
+    begun_alone (TellsRefused judged.limit judged.base style c.args.name.now judged.code.now) _ _ _ c.new-out.ensures.items
+    (begun_later _ _ _ _ _ _ _
+    (λ a b f m. (end_of style.format, open_text judged.limit judged.base style c.args.name.now judged.code.now c.args.fault c.requires c.in-Ok.ensures.0 a b f m))
+    c.in-Ok.ensures.1 c.in-Err-write_more.ensures.cut)
 
 pub returns-in-Err-push_end-clause-cut : goal.returns-in-Err-push_end-clause-cut
 returns-in-Err-push_end-clause-cut g c =
     let judged = c.args.judged.now in
-    refused_begun judged.limit judged.base c.args.style c.args.name.now judged.code.now _ _ _ c.args.fault c.requires c.new-out.ensures.items
-    c.in-Ok.ensures _ _ c.in-Ok-write_more.ensures.ok
+    let style = c.args.style in
+    begun_alone (TellsRefused judged.limit judged.base style c.args.name.now judged.code.now) _ _ _ c.new-out.ensures.items
+    (cut_here _ _ _ _ (TellsOpen judged.limit judged.base style c.args.name.now judged.code.now) _ (λ text t. (end_of style.format, t))
+    (told_open judged.limit judged.base style c.args.name.now judged.code.now _ _ _ c.args.fault _ _ c.requires c.in-Ok.ensures c.in-Ok-write_more.ensures.ok))
 
-pub returns-in-Ok-write_out-clause-ok : goal.returns-in-Ok-write_out-clause-ok
-returns-in-Ok-write_out-clause-ok g c =
+pub returns-clause-ok : goal.returns-clause-ok
+returns-clause-ok g c =
     let judged = c.args.judged.now in
-    refused_written judged.limit judged.base c.args.style c.args.name.now judged.code.now _ _ _ _ c.args.fault c.requires
-    c.new-out.ensures.items c.in-Ok.ensures _ _ _ c.in-Ok-write_more.ensures.ok c.in-Ok-push_end.ensures
-    (subst (λ (xs : List ℕ). Appends (g.W.Write.contents c.write_more.new.writer) (g.W.Write.contents c.write_out.new.writer) xs)
-    c.deref.ensures.value c.in-Ok-write_out.ensures.all)
+    let style = c.args.style in
+    on_ok_weaker c.write_last.result
+    (λ all. written_alone (TellsRefused judged.limit judged.base style c.args.name.now judged.code.now) _ _ _ c.new-out.ensures.items
+    (writes_more _ _ _ _ _ _ [] _ _ _ _ (whole judged.limit judged.base style c.args.name.now judged.code.now)
+    (told_open judged.limit judged.base style c.args.name.now judged.code.now _ _ _ c.args.fault _ _ c.requires c.in-Ok.ensures c.in-Ok-write_more.ensures.ok)
+    (end_added style _ _ c.in-Ok-push_end.ensures)
+    (subst (λ (xs : List ℕ). Appends (g.W.Write.contents c.write_more.new.writer) (g.W.Write.contents c.write_last.new.writer) xs)
+    c.deref.ensures.value all) (append-nil _)))
+    c.write_last.ensures.ok
 
 pub returns-clause-cut : goal.returns-clause-cut
 returns-clause-cut g c =
     let judged = c.args.judged.now in
-    let (n, front) = c.in-Err-write_out.ensures.front in
-    refused_cut judged.limit judged.base c.args.style c.args.name.now judged.code.now _ _ _ _ c.args.fault c.requires
-    c.new-out.ensures.items c.in-Ok.ensures _ _ _ n c.in-Ok-write_more.ensures.ok c.in-Ok-push_end.ensures
-    (subst (λ (xs : List ℕ). Appends (g.W.Write.contents c.write_more.new.writer) (g.W.Write.contents c.write_out.new.writer) (take n xs))
-    c.deref.ensures.value front)
+    let style = c.args.style in
+    on_err_weaker c.write_last.result
+    (λ w. begun_alone (TellsRefused judged.limit judged.base style c.args.name.now judged.code.now) _ _ _ c.new-out.ensures.items
+    (cut_in _ _ _ _ _ _ w.0 _ _ _
+    (λ a b t e. (
+      [],
+      subst (TellsRefused judged.limit judged.base style c.args.name.now judged.code.now) (sym (append-nil (a ++ b)))
+          (whole judged.limit judged.base style c.args.name.now judged.code.now a b t e),
+    ))
+    (told_open judged.limit judged.base style c.args.name.now judged.code.now _ _ _ c.args.fault _ _ c.requires c.in-Ok.ensures c.in-Ok-write_more.ensures.ok)
+    (end_added style _ _ c.in-Ok-push_end.ensures)
+    (subst (λ (xs : List ℕ). Appends (g.W.Write.contents c.write_more.new.writer) (g.W.Write.contents c.write_last.new.writer) (take w.0 xs))
+    c.deref.ensures.value w.1)))
+    c.write_last.ensures.cut

@@ -1,11 +1,20 @@
-use Rattle.std.proofs.Common.{◌-◌, [], sym, subst, ◌∙◌, append-nil}
-use Rattle.std.proofs.lemmas.Result.{on_ok_weaker, on_err_weaker}
+use Rattle.std.proofs.Common.{◌≡◌, ◌-◌, ℕ, List, [], Option, Some, refl, sym, ap, ◌∙◌}
+use Rattle.std.specs.Prelude.{MatchOption}
+use Rattle.nc_vet.specs.declared.fault.VetFault.{VetFault}
 use Rattle.nc_output.specs.Verdicts.{place_of}
+use Rattle.nc_output.specs.declared.detail.Detail.TheVariants.{All}
+use Rattle.nc_output.specs.declared.detail.Format.{Format}
 use Rattle.nc_report.specs.Report.{TellsOthers, TellsMore}
-use Rattle.nc_report.proofs.Placed.{placed_fault, placed_at, good_span}
-use Rattle.nc_report.proofs.Additions.{writes_none, writes_so, begun_after}
-use Rattle.nc_report.proofs.RefusedTexts.{none_asked, none_placed, others_told}
+use Rattle.nc_report.proofs.Placed.{placed}
+use Rattle.nc_report.proofs.Additions.{writes_none}
+use Rattle.nc_report.proofs.RefusedTexts.{none_asked}
 use Rattle.nc_report.proofs.telling.write_more.Goals as goal
+
+-- what is told further about a fault with an address is the text about the other faults
+told_at : (f : Format) (limit base at : ℕ) (code : List ℕ) (fault : VetFault) → place_of fault ≡ Some at
+    → TellsMore All f limit base code fault ≡ TellsOthers f limit base code fault (at - base)
+told_at f limit base at code fault e =
+    ap (λ (o : Option ℕ). λ (text : List ℕ). MatchOption o (text ≡ []) (λ at. TellsOthers f limit base code fault (at - base) text)) e
 
 pub returns-in_default-clause-ok : goal.returns-in_default-clause-ok
 returns-in_default-clause-ok g c =
@@ -17,41 +26,26 @@ pub returns-in_default-place_of-clause-ok : goal.returns-in_default-place_of-cla
 returns-in_default-place_of-clause-ok g c =
     let judged = c.args.judged.now in
     writes_none _ _ (TellsMore c.args.style.detail c.args.style.format judged.limit judged.base judged.code.now c.args.fault)
-    (none_placed c.args.style judged.limit judged.base judged.code.now c.args.fault c.in-All.is
-    (sym c.place_of.ensures ∙ c.in_default-place_of.is))
+    (rw (c.in-All.is, sym c.place_of.ensures ∙ c.in_default-place_of.is) refl)
 
 pub write_others-requires-clause-span : goal.write_others-requires-clause-span
 write_others-requires-clause-span g c =
     let judged = c.args.judged.now in
-    good_span judged.base judged.limit c.in-Some.at judged.code.now c.args.fault (sym c.place_of.ensures ∙ c.in-Some.is) c.requires
+    (placed judged.base judged.limit c.in-Some.at judged.code.now c.args.fault (sym c.place_of.ensures ∙ c.in-Some.is) c.requires).0
 
 pub write_others-requires-clause-within : goal.write_others-requires-clause-within
 write_others-requires-clause-within g c =
     let judged = c.args.judged.now in
-    (placed_at judged.base c.in-Some.at judged.code.now (place_of c.args.fault) (sym c.place_of.ensures ∙ c.in-Some.is)
-    (placed_fault judged.base judged.limit judged.code.now c.args.fault c.requires)).within
+    (placed judged.base judged.limit c.in-Some.at judged.code.now c.args.fault (sym c.place_of.ensures ∙ c.in-Some.is) c.requires).1.within
 
 pub returns-clause-ok : goal.returns-clause-ok
 returns-clause-ok g c =
     let judged = c.args.judged.now in
-    let code = judged.code.now in
-    on_ok_weaker c.write_others.result
-    (writes_so _ _ _ _ (TellsOthers c.args.style.format judged.limit judged.base code c.args.fault (c.in-Some.at - judged.base))
-    (TellsMore c.args.style.detail c.args.style.format judged.limit judged.base code c.args.fault)
-    (λ text h. others_told c.args.style judged.limit judged.base c.in-Some.at code c.args.fault text c.in-All.is
-    (sym c.place_of.ensures ∙ c.in-Some.is) h))
+    rw (c.in-All.is, told_at c.args.style.format judged.limit judged.base c.in-Some.at judged.code.now c.args.fault (sym c.place_of.ensures ∙ c.in-Some.is))
     c.write_others.ensures.ok
 
 pub returns-clause-cut : goal.returns-clause-cut
 returns-clause-cut g c =
     let judged = c.args.judged.now in
-    let code = judged.code.now in
-    on_err_weaker c.write_others.result
-    (begun_after _ _ c.args.out.now.items (TellsOthers c.args.style.format judged.limit judged.base code c.args.fault (c.in-Some.at - judged.base))
-    (TellsMore c.args.style.detail c.args.style.format judged.limit judged.base code c.args.fault)
-    (λ text h. (
-      [],
-      subst (TellsMore c.args.style.detail c.args.style.format judged.limit judged.base code c.args.fault) (sym (append-nil text))
-          (others_told c.args.style judged.limit judged.base c.in-Some.at code c.args.fault text c.in-All.is (sym c.place_of.ensures ∙ c.in-Some.is) h),
-    )))
+    rw (c.in-All.is, told_at c.args.style.format judged.limit judged.base c.in-Some.at judged.code.now c.args.fault (sym c.place_of.ensures ∙ c.in-Some.is))
     c.write_others.ensures.cut
