@@ -60,6 +60,23 @@ threads_none w (event ∷ events) all = (
   threads_none (after w event) events (All-tail IsWriters event events all),
 )
 
+-- an event of a thread changes only seats
+pub thread_seats : (w : World) (event : Event) → is_writers event ≡ false → after w event ≡ record w { seats = (after w event).seats }
+thread_seats w (Steps k next) is = refl
+thread_seats w (Enters k at) is = refl
+thread_seats w (Exits k) is = refl
+thread_seats w (Takes k) is = refl
+thread_seats w (Sees k) is = refl
+thread_seats w (Stores k) is = refl
+thread_seats w (Leaves k) is = refl
+thread_seats w (Puts at byte) is = absurd (let bad : true ≡ false = is in cc)
+thread_seats w Settles is = absurd (let bad : true ≡ false = is in cc)
+thread_seats w (Marks at marks) is = absurd (let bad : true ≡ false = is in cc)
+thread_seats w Bumps is = absurd (let bad : true ≡ false = is in cc)
+thread_seats w (Retires base len) is = absurd (let bad : true ≡ false = is in cc)
+thread_seats w (Frees span) is = absurd (let bad : true ≡ false = is in cc)
+thread_seats w (Looks k) is = absurd (let bad : true ≡ false = is in cc)
+
 -- ---- the events of a call
 
 -- all looks are the writer's

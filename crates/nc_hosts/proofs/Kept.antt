@@ -14,6 +14,7 @@ use Rattle.nc_calls.specs.Calls.{Details, no_details, delete_events}
 use Rattle.nc_calls.proofs.Offered.{IsPart, OfMarked, OfOthers, is_part, events_of}
 use Rattle.nc_hosts.specs.Hosts.{IsNoLook}
 use Rattle.nc_hosts.proofs.Looked.{all_back}
+use Rattle.nc_hosts.proofs.Interleaving.{thread_seats}
 
 -- the event is a store or a settling
 abbrev pub IsStore : Event → Type 0
@@ -92,20 +93,7 @@ stores_look_not events all = All-weaker IsStore IsNoLook no_look events all
 
 -- an event of a thread changes no keeper's number
 pub thread_keeps_keeper : (w : World) (event : Event) → is_writers event ≡ false → (after w event).keeper ≡ w.keeper
-thread_keeps_keeper w (Steps k next) thread = refl
-thread_keeps_keeper w (Enters k at) thread = refl
-thread_keeps_keeper w (Exits k) thread = refl
-thread_keeps_keeper w (Takes k) thread = refl
-thread_keeps_keeper w (Sees k) thread = refl
-thread_keeps_keeper w (Stores k) thread = refl
-thread_keeps_keeper w (Leaves k) thread = refl
-thread_keeps_keeper w (Puts at byte) thread = absurd (let bad : true ≡ false = thread in cc)
-thread_keeps_keeper w Settles thread = absurd (let bad : true ≡ false = thread in cc)
-thread_keeps_keeper w (Marks at marks) thread = absurd (let bad : true ≡ false = thread in cc)
-thread_keeps_keeper w Bumps thread = absurd (let bad : true ≡ false = thread in cc)
-thread_keeps_keeper w (Retires base len) thread = absurd (let bad : true ≡ false = thread in cc)
-thread_keeps_keeper w (Frees span) thread = absurd (let bad : true ≡ false = thread in cc)
-thread_keeps_keeper w (Looks k) thread = absurd (let bad : true ≡ false = thread in cc)
+thread_keeps_keeper w event thread = ap (λ (x : World). x.keeper) (thread_seats w event thread)
 
 -- an event that is no look changes the keeper's numbers by these alone
 event_keeper : (event : Event) (w v : World) → IsNoLook event → w.keeper ≡ v.keeper → (after w event).keeper ≡ (after v event).keeper

@@ -5,23 +5,11 @@ use Rattle.nc_region.specs.schedules.Events.{Event, Steps, Enters, Exits, Takes,
 use Rattle.nc_region.specs.schedules.Events.{Looks, after}
 use Rattle.nc_calls.specs.Interleaving.{is_writers}
 use Rattle.nc_hosts.specs.Hosts.{Host, IsStep, Runs, Makes, Restarts, Calls, Asks}
+use Rattle.nc_hosts.proofs.Interleaving.{thread_seats}
 
 -- a thread's event changes no byte
 thread_keeps : (w : World) (event : Event) → is_writers event ≡ false → (after w event).marked.bytes ≡ w.marked.bytes
-thread_keeps w (Steps k next) is = refl
-thread_keeps w (Enters k at) is = refl
-thread_keeps w (Exits k) is = refl
-thread_keeps w (Takes k) is = refl
-thread_keeps w (Sees k) is = refl
-thread_keeps w (Stores k) is = refl
-thread_keeps w (Leaves k) is = refl
-thread_keeps w (Puts at byte) is = absurd (let bad : true ≡ false = is in cc)
-thread_keeps w Settles is = refl
-thread_keeps w (Marks at marks) is = refl
-thread_keeps w Bumps is = refl
-thread_keeps w (Retires base len) is = refl
-thread_keeps w (Frees span) is = refl
-thread_keeps w (Looks k) is = refl
+thread_keeps w event is = ap (λ (x : World). x.marked.bytes) (thread_seats w event is)
 
 -- the memory is as it was, or the next event that was pending was a store, which was made in it
 abbrev pub Changed : List Event → List Event → World → World → Type 0

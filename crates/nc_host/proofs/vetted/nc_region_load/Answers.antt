@@ -1,6 +1,7 @@
 use Rattle.std.proofs.Common.{Some, ap, sym, inl, inr, ⊎_elim, ◌∙◌}
 use Rattle.nc_handle.specs.RegionHandle.{RegionHandleState}
 use Rattle.nc_handle.specs.declared.vetted_handle.VettedHandle.{VettedHandle}
+use Rattle.nc_host.proofs.PutBack.{had_before, is_done}
 use Rattle.nc_host.proofs.vetted.nc_region_load.Goals as goal
 
 pub returns-else-change-gt0-clause-created : goal.returns-else-change-gt0-clause-created
@@ -9,17 +10,11 @@ returns-else-change-gt0-clause-created c = λ e.
       c.take.ensures.left,
       (
         c.deref_mut-2.result.now,
-        c.in-Some.ensures.some ∙ ap (λ (k : VettedHandle). Some k) (sym c.deref_mut-2.ensures.value),
+        had_before c.in-Some.ensures.some c.deref_mut-2.ensures.value,
         (
           made.0,
           made.1,
-          record {
-            before = c.deref_mut.result.now;
-            after = c.load_kept-change.new.handle;
-            had = c.in-Some-take.ensures.some ∙ ap (λ (h : RegionHandleState). Some h) (sym c.deref_mut.ensures.value);
-            has = c.of-2.ensures;
-            did = made.2;
-          },
+          is_done _ c.in-Some-take.ensures.some c.deref_mut.ensures.value c.of-2.ensures made.2,
           made.3,
         ),
       ),
@@ -40,17 +35,11 @@ returns-then-change-gt0-clause-unchanged c = λ lt.
       p.0,
       (
         c.deref_mut-2.result.now,
-        c.in-Some.ensures.some ∙ ap (λ (k : VettedHandle). Some k) (sym c.deref_mut-2.ensures.value),
+        had_before c.in-Some.ensures.some c.deref_mut-2.ensures.value,
         (
           p.1.0,
           p.1.1,
-          record {
-            before = c.deref_mut.result.now;
-            after = c.load_kept-change.new.handle;
-            had = c.in-Some-take.ensures.some ∙ ap (λ (h : RegionHandleState). Some h) (sym c.deref_mut.ensures.value);
-            has = c.of-2.ensures;
-            did = p.1.2;
-          },
+          is_done _ c.in-Some-take.ensures.some c.deref_mut.ensures.value c.of-2.ensures p.1.2,
         ),
       ),
     ))
@@ -58,8 +47,8 @@ returns-then-change-gt0-clause-unchanged c = λ lt.
 
 pub returns-then-change-gt0-clause-refused : goal.returns-then-change-gt0-clause-refused
 returns-then-change-gt0-clause-refused c = λ lt.
-    let had = c.in-Some-take.ensures.some ∙ ap (λ (h : RegionHandleState). Some h) (sym c.deref_mut.ensures.value) in
-    let kept = c.in-Some.ensures.some ∙ ap (λ (k : VettedHandle). Some k) (sym c.deref_mut-2.ensures.value) in
+    let had = had_before c.in-Some-take.ensures.some c.deref_mut.ensures.value in
+    let kept = had_before c.in-Some.ensures.some c.deref_mut-2.ensures.value in
     ⊎_elim (λ n. inl (n.0, n.1, inr (inr (c.deref_mut-2.result.now, kept, n.2))))
     (λ r. inr (c.deref_mut.result.now, c.deref_mut-2.result.now, r.0, had, kept, r.1, r.2))
     (c.load_kept-change.ensures.refused lt)
