@@ -21,7 +21,7 @@
       Results     A refused call changes nothing, but a creation that ran out of memory may have allocated some for its span's text. Its
                   results except the fault are 0, unless a comment says otherwise. No call writes more of a buffer than it says.
       Memory      malloc, realloc and free belong to one allocator, which aligns a block to each power of two up to 16 that divides its
-                  size. NC_OUT_OF_MEMORY is returned exactly where memory runs out [tested]. Calls that can't return it allocate none
+                  size. NC_OUT_OF_MEMORY is returned exactly if memory runs out [tested]. Calls that can't return it allocate none
                   [tested]. 64 KiB of stack suffice [tested]. */
 #ifndef NC_HOST_H
 #define NC_HOST_H
@@ -158,7 +158,7 @@ extern "C" {
 #define NC_FLOW_INDIRECT_CALL 6u
 #define NC_FLOW_STOP 7u
 
-/* How a walk ends: at a stop; below NC_START; by an indirect transfer to the limit or above; or where no choice was left. */
+/* How a walk ends: at a stop; below NC_START; by an indirect transfer to the limit or above; or with no choice left. */
 #define NC_END_STOP 1u
 #define NC_END_TRAMPOLINE 2u
 #define NC_END_BEYOND 3u
@@ -170,7 +170,7 @@ extern "C" {
 #define NC_PLAIN 1u
 #define NC_MASKED(reg) (16u + (reg))
 
-/* What an NcAct can be. Fields that aren't named are 0. */
+/* What an NcAct can be. Fields that aren't named are 0. No call writes 4 or 5. */
 #define NC_PUT 1u    /* put the byte `value` at the address `at` */
 #define NC_MARK 2u   /* the `value` addresses from `at` on get the chunk's marks; for a host that keeps marks */
 #define NC_BUMP 3u   /* draw a stamp */
@@ -354,7 +354,8 @@ void nc_vetted_free(NcVetted *vetted);
    Refused: NC_UNDER_WAY, NC_NO_ROOM, NC_WRONG_LIMIT, NC_OCCUPIED, NC_OUT_OF_MEMORY [refused, unchanged, untouched]. */
 NcChange nc_region_load(NcRegion *region, NcVetted *vetted, NcAct *acts, size_t acts_len);
 
-/* Replaces whole instructions of a chunk by others of the same lengths, with at most 3 * `len` acts, and none if no instruction differs.
+/* Replaces whole instructions of a chunk with others of the same lengths, by at most 3 * `len` acts, and by none if no instruction differs.
+   It has no runs.
    Promised: the patch was lawful (IsPatch), and the region has its bytes (IsModified) [modified]. The acts are the patch's (log_of_modify)
    [reported, pending, at].
    Refused: NC_UNDER_WAY; NC_NO_ROOM, if `len` is at most 32 and a lent buffer shorter than 3 * `len`; 16 to 21 [refused, allowed,

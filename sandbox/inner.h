@@ -71,7 +71,7 @@ extern uint32_t ncs_landing_at; /* a page below 4 GiB that leads to ncs_switch_l
 
 int ncs_prepare(NcsRefusal *why); /* whether this process can have a module or a box now */
 void *ncs_refuse(NcsRefusal *why, uint32_t kind, const char *sentence); /* NULL */
-int ncs_refuse_fault(NcsRefusal *why, uint32_t kind, uint32_t fault, uint32_t at); /* 0; NCS_NO_MEMORY where the fault says so */
+int ncs_refuse_fault(NcsRefusal *why, uint32_t kind, uint32_t fault, uint32_t at); /* 0; NCS_NO_MEMORY if the fault says so */
 Thread *ncs_thread_get(void); /* the calling thread, prepared; NULL if it can't be */
 int ncs_thread_watch(Thread *thread); /* starts the ticks, once depth is above 0; whether they run */
 int ncs_threads_begin(void);
@@ -135,7 +135,7 @@ int ncs_live_meet(Live *live, Thread *thread, uint32_t place);
 
 /* ---- livecode.c */
 
-uint32_t ncs_live_begin(Live *live); /* NCS_RETURNED where one more call is under way now, or why it isn't */
+uint32_t ncs_live_begin(Live *live); /* NCS_RETURNED if one more call is under way now, or why it isn't */
 void ncs_live_end(Live *live);
 void ncs_seat_take(Live *live, Thread *thread); /* and checks in: directly before the way in, in a call that was begun [16, 17, 18] */
 void ncs_seat_leave(Live *live, Thread *thread);
@@ -148,7 +148,7 @@ struct NcsModule {
     Image image;
     int users; /* itself and its boxes; under ncs_lock */
     uint32_t text_at, limit, selector; /* the linear address of place 0, and the limit of the code */
-    Live *live; /* NULL where the text never changes */
+    Live *live; /* NULL if the text never changes */
 };
 
 struct NcsBox {

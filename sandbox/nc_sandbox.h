@@ -3,7 +3,7 @@
  *
  * A module is code that nc_host has accepted, with its data. A box is an instance of a module. The boxes of a module share its code, and
  * each has data, heap and stack of its own. A box reads and writes its own memory and nothing else. It calls nothing but the call-backs
- * that the host gives it. For Linux on x86-64. docs/SANDBOX.md has an example, and says which duty of a host is done where.
+ * that the host gives it. For Linux on x86-64. docs/SANDBOX.md has an example, and says where each duty of a host is done.
  *
  * What the library can't see to, and the host must:
  *   Handlers    Each signal handler of the process has SA_ONSTACK. A new module or box is refused while one hasn't. A handler that is

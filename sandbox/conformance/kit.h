@@ -88,7 +88,7 @@ int kit_other_begin(void);
 
 extern unsigned kit_wrong;
 const char *kit_how(uint32_t how);
-/* Ends a line; where something is wrong, it says so. */
+/* Ends a line; if something is wrong, it says so. */
 void kit_end_line(const char *wrong);
 /* Copies code to so many bytes, and fills them with nops. */
 void kit_lay(uint8_t *to, uint32_t len, const uint8_t *code, size_t code_len);

@@ -20,7 +20,7 @@ typedef struct Line {
     const char *file;
     char **words; /* those that follow the file's name */
     unsigned count;
-    uint32_t numbers[NCS_ARGS_MAX]; /* the words, where a function is called */
+    uint32_t numbers[NCS_ARGS_MAX]; /* the words, if a function is called */
 } Line;
 
 /* Reads the command line. What the program ends with at once: after a help or a version 0, after a mistake STATUS_USAGE; or -1. */

@@ -5,7 +5,7 @@
 #include <stddef.h>
 
 /* What is refused: memory; what a process needs before its first module; what a thread needs. modify_ldt, rt_sigaction and membarrier are
-   system calls that the library makes by `syscall`; of the last, the registration. What gives something back is refused only where that is
+   system calls that the library makes by `syscall`; of the last, the registration. What gives something back is refused only if that is
    asked for. */
 #define REFUSABLE(X) X(malloc) X(calloc) X(realloc) X(aligned_alloc) X(mmap) X(mprotect) X(madvise) X(memfd_create) X(fallocate) \
     X(pthread_mutex_init) X(modify_ldt) X(rt_sigaction) X(membarrier) X(sigaction) X(sigaltstack) X(pthread_sigmask) \
@@ -13,7 +13,7 @@
 #define AS_NUMBER(name) REFUSES_##name,
 enum { REFUSABLE(AS_NUMBER) REFUSABLES };
 
-/* Refuses this thread's nth call from now on, counted from 1, and each later one where `later` says so. */
+/* Refuses this thread's nth call from now on, counted from 1, and each later one if `later` says so. */
 void refusing_begin(unsigned nth, int later);
 /* Which call was refused first since then, or -1. No more are refused. */
 int refusing_end(void);
