@@ -28,10 +28,6 @@ adds_both P Q R old mid new f a b = record {
 pub adds_none : (P : List ℕ → Type 0) (old : List ℕ) → P [] → Adds old old P
 adds_none P old p = record { text = []; says = p; added = sym (append-nil old) }
 
--- shown text was added twice
-pub shown_both : (old mid new : List ℕ) → Adds old mid IsShown → Adds mid new IsShown → Adds old new IsShown
-shown_both old mid new = adds_both IsShown IsShown IsShown old mid new (all_both is_shown)
-
 -- no details
 pub no_details : AreDetails []
 no_details = record { lines = []; shown = refl; is = refl }

@@ -53,7 +53,7 @@ json_shown part text (Bracketed {text = elements} inside) =
     simp (list_all-append, rest_shown elements (json_shown InArray elements inside))
 json_shown part text NoMembers = refl
 json_shown part text (Member {text = members} {value = value} before name is) =
-    simp (list_all-append, json_shown InObject members before, string_shown name, inner_shown name, json_shown Whole value is)
+    simp (list_all-append, json_shown InObject members before, string_shown name, json_shown Whole value is)
 json_shown part text NoElements = refl
 json_shown part text (Element {text = elements} {value = value} before is) =
     simp (list_all-append, json_shown InArray elements before, json_shown Whole value is)
