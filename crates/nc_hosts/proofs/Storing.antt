@@ -1,5 +1,5 @@
 -- What changes a host's memory.
-use Rattle.std.proofs.Common.{◌≡◌, ℕ, ◌-◌, ◌⊎◌, inl, inr, true, false, List, ◌∷◌, set, refl, ap}
+use Rattle.std.proofs.Common.{◌≡◌, ℕ, ◌-◌, ◌⊎◌, inl, inr, false, List, ◌∷◌, set, refl, ap}
 use Rattle.nc_region.specs.schedules.World.{World}
 use Rattle.nc_region.specs.schedules.Events.{Event, Steps, Enters, Exits, Takes, Sees, Stores, Leaves, Puts, Settles, Marks, Bumps, Retires, Frees}
 use Rattle.nc_region.specs.schedules.Events.{Looks, after}
