@@ -6,10 +6,10 @@ use Rattle.std.proofs.lemmas.List.Sums.{sum_by_push, count_by-le-length}
 use Rattle.std.proofs.lemmas.List.FromFn.{length-range_with_len}
 use Rattle.nc_vet.specs.declared.fault.VetFault.{VetFault}
 use Rattle.nc_vet.specs.declared.fault.VetFault.TheVariants.{BadBase, BadLength, OutOfRange, NotPermitted, Crosses, Bare, BadTarget, OutOfMemory}
-use Rattle.nc_report.specs.declared.spot.Spot.{Spot}
+use Rattle.nc_report.specs.declared.class.Class.{Class}
 use Rattle.nc_report.specs.declared.totals.Counts.{Counts}
 use Rattle.nc_report.specs.Further.{fault_at}
-use Rattle.nc_report.specs.Totals.{is_crosses, is_not_permitted, is_bare, is_mistargeted, counts_to, total}
+use Rattle.nc_report.specs.Totals.{is_crosses, is_not_permitted, is_bare, is_bad_target, counts_to, total}
 use Rattle.nc_report.specs.machinery.Seen.{counted}
 
 -- a range parts
@@ -44,7 +44,7 @@ same_four a b c d e f g h p q r s =
 abbrev counted_by : Counts → Option VetFault → Counts
 counted_by counts x =
     four (counts.crosses + cond (is_crosses x) 1 0) (counts.not_permitted + cond (is_not_permitted x) 1 0)
-    (counts.bare + cond (is_bare x) 1 0) (counts.bad_target + cond (is_mistargeted x) 1 0)
+    (counts.bare + cond (is_bare x) 1 0) (counts.bad_target + cond (is_bad_target x) 1 0)
 
 counted_is : (counts : Counts) (x : Option VetFault) → counted counts x ≡ counted_by counts x
 counted_is counts None = simp add-zero
@@ -58,15 +58,15 @@ counted_is counts (Some (Bare at)) = simp add-zero
 counted_is counts (Some (BadTarget at)) = simp add-zero
 
 -- the counts up to a place, with what is found there, are those up to the next place
-pub counts_more : (base limit : ℕ) (code : List ℕ) (spots : List Spot) (k : ℕ)
-    → counted (counts_to base limit code spots k) (fault_at base limit code spots k) ≡ counts_to base limit code spots (k + 1)
-counts_more base limit code spots k =
-    let more = λ (test : Option VetFault → Bool). sym (count_more (λ (n : ℕ). test (fault_at base limit code spots n)) k) in
-    counted_is (counts_to base limit code spots k) (fault_at base limit code spots k)
-    ∙ same_four _ _ _ _ _ _ _ _ (more is_crosses) (more is_not_permitted) (more is_bare) (more is_mistargeted)
+pub counts_more : (base limit : ℕ) (code : List ℕ) (classes : List Class) (k : ℕ)
+    → counted (counts_to base limit code classes k) (fault_at base limit code classes k) ≡ counts_to base limit code classes (k + 1)
+counts_more base limit code classes k =
+    let more = λ (test : Option VetFault → Bool). sym (count_more (λ (n : ℕ). test (fault_at base limit code classes n)) k) in
+    counted_is (counts_to base limit code classes k) (fault_at base limit code classes k)
+    ∙ same_four _ _ _ _ _ _ _ _ (more is_crosses) (more is_not_permitted) (more is_bare) (more is_bad_target)
 
 -- at the first places no more faults of each kind are counted than there are places
-pub total_small : (base limit : ℕ) (code : List ℕ) (spots : List Spot) (k : ℕ) → total (counts_to base limit code spots k) ≤ 4 * k
-total_small base limit code spots k =
-    let few = λ (test : Option VetFault → Bool). count_small (λ (n : ℕ). test (fault_at base limit code spots n)) k in
-    omega (arith, few is_crosses, few is_not_permitted, few is_bare, few is_mistargeted)
+pub total_small : (base limit : ℕ) (code : List ℕ) (classes : List Class) (k : ℕ) → total (counts_to base limit code classes k) ≤ 4 * k
+total_small base limit code classes k =
+    let few = λ (test : Option VetFault → Bool). count_small (λ (n : ℕ). test (fault_at base limit code classes n)) k in
+    omega (arith, few is_crosses, few is_not_permitted, few is_bare, few is_bad_target)

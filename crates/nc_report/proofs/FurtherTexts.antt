@@ -6,13 +6,13 @@ use Rattle.nc_vet.proofs.Offered.{flat_map-append}
 use Rattle.nc_vet.specs.declared.fault.VetFault.{VetFault}
 use Rattle.nc_output.specs.declared.detail.Format.{Format}
 use Rattle.nc_output.specs.declared.detail.Format.TheVariants.{Text, Json}
-use Rattle.nc_report.specs.declared.spot.Spot.{Spot}
+use Rattle.nc_report.specs.declared.class.Class.{Class}
 use Rattle.nc_report.specs.Objects.{NoMembers}
 use Rattle.nc_report.specs.Further.{fault_at, listed, others_at, others_to}
 use Rattle.nc_report.specs.Totals.{counts_to}
 use Rattle.nc_report.specs.Report.{heading, Shows, ShowsOne, Opens, TellsEach, TellsOthers, counts_text}
 use Rattle.nc_report.specs.machinery.Added.{Adds}
-use Rattle.nc_report.specs.machinery.Seen.{HasSpots}
+use Rattle.nc_report.specs.machinery.Seen.{HasClasses}
 use Rattle.nc_report.proofs.ObjectTexts.{TellsObject}
 use Rattle.nc_report.proofs.Additions.{no_details}
 use Rattle.nc_report.proofs.CountedFaults.{range_append, range_to}
@@ -46,39 +46,39 @@ each_some f (fault ∷ fs) =
     let (rest, t) = each_some f fs in (heading f fault ++ (words ++ rest), (words, rest, shown, t, refl))
 
 -- the further faults up to the next place are those up to this one, and those here
-pub others_more : (base limit : ℕ) (code : List ℕ) (spots : List Spot) (own k : ℕ)
-    → others_to base limit code spots own (k + 1) ≡ others_to base limit code spots own k ++ others_at base limit code spots own k
-others_more base limit code spots own k =
-    let f = others_at base limit code spots own in
+pub others_more : (base limit : ℕ) (code : List ℕ) (classes : List Class) (own k : ℕ)
+    → others_to base limit code classes own (k + 1) ≡ others_to base limit code classes own k ++ others_at base limit code classes own k
+others_more base limit code classes own k =
+    let f = others_at base limit code classes own in
     ap (λ (z : List ℕ). flat_map f z) (range_to k) ∙ flat_map-append f _ (k ∷ [])
-    ∙ ap (λ (z : List VetFault). others_to base limit code spots own k ++ z) (append-nil (f k))
+    ∙ ap (λ (z : List VetFault). others_to base limit code classes own k ++ z) (append-nil (f k))
 
 -- text about the first places can be completed
-pub completed : (f : Format) (base limit : ℕ) (code : List ℕ) (spots : List Spot) (own k n : ℕ) → k ≤ n → (text : List ℕ)
-    → TellsEach f (others_to base limit code spots own k) text
-    → (more : List ℕ) × TellsEach f (others_to base limit code spots own n) (text ++ more)
-completed f base limit code spots own k n le text h =
-    let at = others_at base limit code spots own in
+pub completed : (f : Format) (base limit : ℕ) (code : List ℕ) (classes : List Class) (own k n : ℕ) → k ≤ n → (text : List ℕ)
+    → TellsEach f (others_to base limit code classes own k) text
+    → (more : List ℕ) × TellsEach f (others_to base limit code classes own n) (text ++ more)
+completed f base limit code classes own k n le text h =
+    let at = others_at base limit code classes own in
     let gs = flat_map at (range_with_len (0 + k) (n - k)) in
     let (more, t) = each_some f gs in
-    let parts : others_to base limit code spots own n ≡ others_to base limit code spots own k ++ gs =
-    ap (others_to base limit code spots own) {x = n} {y = k + (n - k)} (omega (arith, le))
+    let parts : others_to base limit code classes own n ≡ others_to base limit code classes own k ++ gs =
+    ap (others_to base limit code classes own) {x = n} {y = k + (n - k)} (omega (arith, le))
     ∙ ap (flat_map at) (range_append 0 k (n - k)) ∙ flat_map-append at (range_with_len 0 k) _ in
     (more, subst (λ (fs : List VetFault). TellsEach f fs (text ++ more)) (sym parts) (each_both f _ gs text more h t))
 
 -- the text about the first places and that about the next one are the text about all of these
-pub told_more : (f : Format) (base limit : ℕ) (code : List ℕ) (spots : List Spot) (own k : ℕ) (a b : List ℕ)
-    → TellsEach f (others_to base limit code spots own k) a → TellsEach f (others_at base limit code spots own k) b
-    → TellsEach f (others_to base limit code spots own (k + 1)) (a ++ b)
-told_more f base limit code spots own k a b t u =
-    subst (λ (fs : List VetFault). TellsEach f fs (a ++ b)) (sym (others_more base limit code spots own k))
-    (each_both f (others_to base limit code spots own k) (others_at base limit code spots own k) a b t u)
+pub told_more : (f : Format) (base limit : ℕ) (code : List ℕ) (classes : List Class) (own k : ℕ) (a b : List ℕ)
+    → TellsEach f (others_to base limit code classes own k) a → TellsEach f (others_at base limit code classes own k) b
+    → TellsEach f (others_to base limit code classes own (k + 1)) (a ++ b)
+told_more f base limit code classes own k a b t u =
+    subst (λ (fs : List VetFault). TellsEach f fs (a ++ b)) (sym (others_more base limit code classes own k))
+    (each_both f (others_to base limit code classes own k) (others_at base limit code classes own k) a b t u)
 
 -- the text about a place is that about the fault there, if it isn't the chunk's own
-pub told_there : (f : Format) (base limit : ℕ) (code : List ℕ) (spots : List Spot) (own k : ℕ) (found other : Option VetFault) (out new : List ℕ)
-    → found ≡ fault_at base limit code spots k → listed other ≡ cond (k == own) [] (listed found) → Adds out new (TellsEach f (listed other))
-    → Adds out new (TellsEach f (others_at base limit code spots own k))
-told_there f base limit code spots own k found other out new is only a =
+pub told_there : (f : Format) (base limit : ℕ) (code : List ℕ) (classes : List Class) (own k : ℕ) (found other : Option VetFault) (out new : List ℕ)
+    → found ≡ fault_at base limit code classes k → listed other ≡ cond (k == own) [] (listed found) → Adds out new (TellsEach f (listed other))
+    → Adds out new (TellsEach f (others_at base limit code classes own k))
+told_there f base limit code classes own k found other out new is only a =
     subst (λ (fs : List VetFault). Adds out new (TellsEach f fs)) (only ∙ ap (λ (x : Option VetFault). cond (k == own) [] (listed x)) is) a
 
 -- a further fault as an object
@@ -88,31 +88,31 @@ also_object old new fault a =
     record { text = a.text; says = subst (TellsEach Json (fault ∷ [])) (sym e) (each_one Json fault words shown); added = a.added }
 
 -- the numbers, and what is shown after them
-abbrev pub TellsLast : Format → ℕ → ℕ → List ℕ → List Spot → List ℕ → Type 0
-TellsLast f base limit code spots text =
-    (last : List ℕ) × Shows f last × (text ≡ counts_text f (counts_to base limit code spots (length code)) ++ last)
+abbrev pub TellsLast : Format → ℕ → ℕ → List ℕ → List Class → List ℕ → Type 0
+TellsLast f base limit code classes text =
+    (last : List ℕ) × Shows f last × (text ≡ counts_text f (counts_to base limit code classes (length code)) ++ last)
 
 -- the beginning, and the text about each fault
-abbrev pub TellsFirst : Format → ℕ → ℕ → List ℕ → List Spot → VetFault → ℕ → List ℕ → Type 0
-TellsFirst f base limit code spots fault own text =
-    (first each : List ℕ) × Opens f fault first × TellsEach f (others_to base limit code spots own (length code)) each × (text ≡ first ++ each)
+abbrev pub TellsFirst : Format → ℕ → ℕ → List ℕ → List Class → VetFault → ℕ → List ℕ → Type 0
+TellsFirst f base limit code classes fault own text =
+    (first each : List ℕ) × Opens f fault first × TellsEach f (others_to base limit code classes own (length code)) each × (text ≡ first ++ each)
 
 -- the beginning with the text about each fault, and the numbers, are the whole text about other faults
-pub others_told : (f : Format) (limit base : ℕ) (code : List ℕ) (spots : List Spot) (fault : VetFault) (own : ℕ) → HasSpots code spots
-    → (a b : List ℕ) → TellsFirst f base limit code spots fault own a → TellsLast f base limit code spots b
+pub others_told : (f : Format) (limit base : ℕ) (code : List ℕ) (classes : List Class) (fault : VetFault) (own : ℕ) → HasClasses code classes
+    → (a b : List ℕ) → TellsFirst f base limit code classes fault own a → TellsLast f base limit code classes b
     → TellsOthers f limit base code fault own (a ++ b)
-others_told f limit base code spots fault own h a b (first, each, o, t, is) (last, d, e) = record {
+others_told f limit base code classes fault own h a b (first, each, o, t, is) (last, d, e) = record {
   steps = h.steps;
   reading = h.reading;
   first = first;
   opens = o;
   each = each;
-  tells = subst (λ (z : List Spot). TellsEach f (others_to base limit code z own (length code)) each) h.is t;
+  tells = subst (λ (z : List Class). TellsEach f (others_to base limit code z own (length code)) each) h.is t;
   last = last;
   shown = d;
   is = ap (λ (z : List ℕ). z ++ b) is ∙ append_assoc first each b
       ∙ ap (λ (z : List ℕ). first ++ (each ++ z)) (e
-      ∙ ap (λ (z : List Spot). counts_text f (counts_to base limit code z (length code)) ++ last) h.is);
+      ∙ ap (λ (z : List Class). counts_text f (counts_to base limit code z (length code)) ++ last) h.is);
 }
 
 -- something is shown after the numbers, if only nothing
@@ -121,8 +121,8 @@ none_shown Text = no_details
 none_shown Json = NoMembers
 
 -- the text about each fault can be completed to the whole text about other faults
-pub others_completed : (f : Format) (limit base : ℕ) (code : List ℕ) (spots : List Spot) (fault : VetFault) (own : ℕ) → HasSpots code spots
-    → (a : List ℕ) → TellsFirst f base limit code spots fault own a → (more : List ℕ) × TellsOthers f limit base code fault own (a ++ more)
-others_completed f limit base code spots fault own h a t =
-    let last = counts_text f (counts_to base limit code spots (length code)) ++ [] in
-    (last, others_told f limit base code spots fault own h a last t ([], none_shown f, refl))
+pub others_completed : (f : Format) (limit base : ℕ) (code : List ℕ) (classes : List Class) (fault : VetFault) (own : ℕ) → HasClasses code classes
+    → (a : List ℕ) → TellsFirst f base limit code classes fault own a → (more : List ℕ) × TellsOthers f limit base code fault own (a ++ more)
+others_completed f limit base code classes fault own h a t =
+    let last = counts_text f (counts_to base limit code classes (length code)) ++ [] in
+    (last, others_told f limit base code classes fault own h a last t ([], none_shown f, refl))

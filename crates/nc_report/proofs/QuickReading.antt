@@ -12,13 +12,13 @@ use Rattle.nc_decode.specs.Automaton.{next_state, masked_at, LeadsToEnd, Ends}
 use Rattle.nc_decode.specs.Spelling.{IsAtFront}
 use Rattle.nc_decode.specs.Transfers.{is_indirect}
 use Rattle.nc_decode.proofs.Offered.{spells_some, reads_by_states, none_is_paired, next_small, cond_is_true, cond_is_false}
-use Rattle.nc_report.specs.declared.spot.Spot.{Spot}
-use Rattle.nc_report.specs.declared.spot.Spot.TheVariants.{Inside, Entry, Second}
+use Rattle.nc_report.specs.declared.class.Class.{Class}
+use Rattle.nc_report.specs.declared.class.Class.TheVariants.{Inside, Entry, Second}
 use Rattle.nc_report.specs.declared.steps.Found.TheVariants.{Sound}
 use Rattle.nc_report.specs.declared.steps.Step.{Step}
-use Rattle.nc_report.specs.Reading.{IsStep, spot_of, step_spots, masked_by}
+use Rattle.nc_report.specs.Reading.{IsStep, class_of, step_classes, masked_by}
 use Rattle.nc_report.specs.machinery.Seen.{HasSeenTo, HasFilled}
-use Rattle.nc_report.specs.machinery.Quick.{states_after, spot_by, spots_by, HasRead}
+use Rattle.nc_report.specs.machinery.Quick.{states_after, class_by, classes_by, HasRead}
 use Rattle.nc_report.proofs.ReadSteps.{extent_of, front_cut, one_step, some_after}
 
 -- the state after all of some bytes
@@ -86,22 +86,22 @@ first_end m (b ∷ c ∷ bs) some e = elim (cases_lt (next_state m b) END) [
   | inr ended ↦ ends_here m b (c ∷ bs) ended
 ]
 
--- the spot of a byte inside an instruction
-inside_by : (s n : ℕ) → s < END → spot_by s n ≡ Inside
+-- the class of a byte inside an instruction
+inside_by : (s n : ℕ) → s < END → class_by s n ≡ Inside
 inside_by s n lt = cond_is_true (nat_lt s END) Inside (cond (n == AFTER_PAIR) Second Entry) (lt-ltb s END lt)
 
--- the spots of an instruction's later bytes
-inside_spots : (s e : ℕ) (front back : List ℕ) → s < END → LeadsToEnd s front e
-    → spots_by s (states_after s (front ++ back)) ≡ replicate (length front) Inside ++ spots_by e (states_after e back)
-inside_spots s e [] back lt l = absurd l
-inside_spots s e (b ∷ []) back lt l =
-    ap (λ (x : Spot). x ∷ spots_by (next_state s b) (states_after (next_state s b) back))
+-- the classes of an instruction's later bytes
+inside_classes : (s e : ℕ) (front back : List ℕ) → s < END → LeadsToEnd s front e
+    → classes_by s (states_after s (front ++ back)) ≡ replicate (length front) Inside ++ classes_by e (states_after e back)
+inside_classes s e [] back lt l = absurd l
+inside_classes s e (b ∷ []) back lt l =
+    ap (λ (x : Class). x ∷ classes_by (next_state s b) (states_after (next_state s b) back))
     (inside_by s (slice_index (states_after (next_state s b) back) 0) lt)
-    ∙ ap (λ (n : ℕ). Inside ∷ spots_by n (states_after n back)) (sym l.0)
-inside_spots s e (b ∷ c ∷ bs) back lt l =
-    ap (λ (x : Spot). x ∷ spots_by (next_state s b) (states_after (next_state s b) (c ∷ (bs ++ back))))
+    ∙ ap (λ (n : ℕ). Inside ∷ classes_by n (states_after n back)) (sym l.0)
+inside_classes s e (b ∷ c ∷ bs) back lt l =
+    ap (λ (x : Class). x ∷ classes_by (next_state s b) (states_after (next_state s b) (c ∷ (bs ++ back))))
     (inside_by s (slice_index (states_after (next_state s b) (c ∷ (bs ++ back))) 0) lt)
-    ∙ ap (λ (z : List Spot). Inside ∷ z) (inside_spots (next_state s b) e (c ∷ bs) back l.0 l.1)
+    ∙ ap (λ (z : List Class). Inside ∷ z) (inside_classes (next_state s b) e (c ∷ bs) back l.0 l.1)
 
 -- no indirect transfer ends with the byte after an instruction
 never_paired : (s : ℕ) (bs : List ℕ) → END ≤ s → s < STATES → AreBytes bs → (slice_index (states_after s bs) 0 == AFTER_PAIR) ≡ false
@@ -120,23 +120,23 @@ pair_test m e b (c ∷ d ∷ front) back i low small bytes l ends =
     ne_eqb (next_state (next_state m b) c) AFTER_PAIR (λ h. omega (arith, h, l.1.0))
     ∙ sym (ends.indirect ∙ ne_eqb e AFTER_PAIR (λ h. omega (arith, (ends.paired h).1)))
 
--- the spots of an instruction
-first_spots : (m e b : ℕ) (front back : List ℕ) (i : Instr) → END ≤ m → m < STATES → AreBytes (b ∷ (front ++ back))
+-- the classes of an instruction
+first_classes : (m e b : ℕ) (front back : List ℕ) (i : Instr) → END ≤ m → m < STATES → AreBytes (b ∷ (front ++ back))
     → LeadsToEnd m (b ∷ front) e → Ends m e (b ∷ front) i
-    → spots_by m (states_after m (b ∷ (front ++ back)))
-    ≡ spot_of (Sound i) ∷ (replicate (length front) Inside ++ spots_by e (states_after e back))
-first_spots m e b front back i low small bytes l ends =
+    → classes_by m (states_after m (b ∷ (front ++ back)))
+    ≡ class_of (Sound i) ∷ (replicate (length front) Inside ++ classes_by e (states_after e back))
+first_classes m e b front back i low small bytes l ends =
     let s = next_state m b in
     let n = slice_index (states_after s (front ++ back)) 0 in
-    ap (λ (x : Spot). x ∷ spots_by s (states_after s (front ++ back)))
+    ap (λ (x : Class). x ∷ classes_by s (states_after s (front ++ back)))
     (cond_is_false (nat_lt m END) Inside (cond (n == AFTER_PAIR) Second Entry) (le-ltb m END low)
     ∙ ap (λ (t : Bool). cond t Second Entry) (pair_test m e b front back i low small bytes l ends))
-    ∙ ap (λ (z : List Spot). spot_of (Sound i) ∷ z) (later front l)
+    ∙ ap (λ (z : List Class). class_of (Sound i) ∷ z) (later front l)
   where
     later : (xs : List ℕ) → LeadsToEnd m (b ∷ xs) e
-        → spots_by (next_state m b) (states_after (next_state m b) (xs ++ back)) ≡ replicate (length xs) Inside ++ spots_by e (states_after e back)
-    later [] h = ap (λ (k : ℕ). spots_by k (states_after k back)) (sym h.0)
-    later (c ∷ xs) h = inside_spots (next_state m b) e (c ∷ xs) back h.0 h.1
+        → classes_by (next_state m b) (states_after (next_state m b) (xs ++ back)) ≡ replicate (length xs) Inside ++ classes_by e (states_after e back)
+    later [] h = ap (λ (k : ℕ). classes_by k (states_after k back)) (sym h.0)
+    later (c ∷ xs) h = inside_classes (next_state m b) e (c ∷ xs) back h.0 h.1
 
 -- ---- all instructions of a bundle
 
@@ -152,10 +152,10 @@ masked_there : (i : Instr) (n at : ℕ) → at / 32 ≢ (at + n) / 32 → masked
 masked_there i n at e = cond_is_false (at / 32 == (at + n) / 32) i.masks None (ne_eqb (at / 32) ((at + n) / 32) e)
 
 -- the rest of a bundle is read, from an instruction's first byte on
-reads : (fuel : ℕ) (code : List ℕ) (at m : ℕ) (masked : Option ℕ) (done : List Spot) (bs rest : List ℕ) → length bs ≤ fuel → 0 < length bs
+reads : (fuel : ℕ) (code : List ℕ) (at m : ℕ) (masked : Option ℕ) (done : List Class) (bs rest : List ℕ) → length bs ≤ fuel → 0 < length bs
     → drop at code ≡ bs ++ rest → at % 32 + length bs ≡ 32 → END ≤ m → m < STATES → END ≤ last_state m bs
     → ((r : ℕ) → masked_at m ≡ Some r → masked ≡ Some r) → AreBytes bs → drop at code ≢ [] → HasSeenTo code at masked done
-    → HasSeenTo code (at + length bs) None (done ++ spots_by m (states_after m bs))
+    → HasSeenTo code (at + length bs) None (done ++ classes_by m (states_after m bs))
 reads zero code at m masked done bs rest few some here whole low small last masks bytes left seen = absurd (omega (arith, few, some))
 reads (suc fuel) code at m masked done bs rest few some here whole low small last masks bytes left seen =
     let w = first_end m bs some last in
@@ -183,49 +183,49 @@ reads (suc fuel) code at m masked done bs rest few some here whole low small las
       );
       goes = rw (extent_of (drop at code) i n f (sym len)) (refl, refl);
     } in
-    let now : HasSeenTo code (at + n) (masked_by at (over i n)) (done ++ step_spots (over i n))
-    = one_step code at (at + n) (32 - at % 32) masked (masked_by at (over i n)) done (done ++ step_spots (over i n)) (over i n) seen left step refl
+    let now : HasSeenTo code (at + n) (masked_by at (over i n)) (done ++ step_classes (over i n))
+    = one_step code at (at + n) (32 - at % 32) masked (masked_by at (over i n)) done (done ++ step_classes (over i n)) (over i n) seen left step refl
     (omega arith) refl refl refl in
-    let spots : spots_by m (states_after m bs) ≡ step_spots (over i n) ++ spots_by w.end (states_after w.end w.back)
-    = ap (λ (z : List ℕ). spots_by m (states_after m z)) w.parts
-    ∙ first_spots m w.end w.byte w.more w.back i low small are w.leads r.1
-    ∙ ap (λ (k : ℕ). spot_of (Sound i) ∷ (replicate k Inside ++ spots_by w.end (states_after w.end w.back))) {x = length w.more} {y = n - 1}
+    let classes : classes_by m (states_after m bs) ≡ step_classes (over i n) ++ classes_by w.end (states_after w.end w.back)
+    = ap (λ (z : List ℕ). classes_by m (states_after m z)) w.parts
+    ∙ first_classes m w.end w.byte w.more w.back i low small are w.leads r.1
+    ∙ ap (λ (k : ℕ). class_of (Sound i) ∷ (replicate k Inside ++ classes_by w.end (states_after w.end w.back))) {x = length w.more} {y = n - 1}
     (omega arith) in
     let there : drop (at + n) code ≡ w.back ++ rest
     = sym (drop-drop n at code) ∙ ap (λ (z : List ℕ). drop n z) f.parts ∙ drop_at front (w.back ++ rest) n refl in
-    let joined : done ++ (step_spots (over i n) ++ spots_by w.end (states_after w.end w.back)) ≡ done ++ spots_by m (states_after m bs)
-    = ap (λ (z : List Spot). done ++ z) (sym spots) in
+    let joined : done ++ (step_classes (over i n) ++ classes_by w.end (states_after w.end w.back)) ≡ done ++ classes_by m (states_after m bs)
+    = ap (λ (z : List Class). done ++ z) (sym classes) in
     elim (cases_lt 0 (length w.back)) [
       | inl more ↦
-          (let next = reads fuel code (at + n) w.end (masked_by at (over i n)) (done ++ step_spots (over i n)) w.back rest
+          (let next = reads fuel code (at + n) w.end (masked_by at (over i n)) (done ++ step_classes (over i n)) w.back rest
           (omega (arith, few, size)) more there (omega (arith, whole, size, more)) w.ended w.small
           (subst (λ (k : ℕ). END ≤ k) (sym w.last) last)
           (λ reg h. masked_here i n at (omega (arith, whole, size, more)) ∙ r.1.masks reg h)
           (λ k lt. omega (arith, get_or-append-add front w.back k 0, are (n + k) (omega (arith, lt, length-append front w.back))))
           (λ e. omega (arith, more, length-append w.back rest, ap (λ (z : List ℕ). length z) (sym there ∙ e)))
           now in
-          subst (λ (k : ℕ). HasSeenTo code k None (done ++ spots_by m (states_after m bs))) {x = (at + n) + length w.back} (omega (arith, size))
+          subst (λ (k : ℕ). HasSeenTo code k None (done ++ classes_by m (states_after m bs))) {x = (at + n) + length w.back} (omega (arith, size))
           (subst (HasSeenTo code ((at + n) + length w.back) None)
-          (append_assoc done (step_spots (over i n)) (spots_by w.end (states_after w.end w.back)) ∙ joined) next))
+          (append_assoc done (step_classes (over i n)) (classes_by w.end (states_after w.end w.back)) ∙ joined) next))
       | inr none ↦
-          (let nothing : spots_by w.end (states_after w.end w.back) ≡ []
-          = ap (λ (z : List ℕ). spots_by w.end (states_after w.end z)) (nil_from_length w.back (omega (arith, none))) in
-          subst (λ (k : ℕ). HasSeenTo code k None (done ++ spots_by m (states_after m bs))) {x = at + n} (omega (arith, size, none))
-          (subst (λ (o : Option ℕ). HasSeenTo code (at + n) o (done ++ spots_by m (states_after m bs)))
+          (let nothing : classes_by w.end (states_after w.end w.back) ≡ []
+          = ap (λ (z : List ℕ). classes_by w.end (states_after w.end z)) (nil_from_length w.back (omega (arith, none))) in
+          subst (λ (k : ℕ). HasSeenTo code k None (done ++ classes_by m (states_after m bs))) {x = at + n} (omega (arith, size, none))
+          (subst (λ (o : Option ℕ). HasSeenTo code (at + n) o (done ++ classes_by m (states_after m bs)))
           (masked_there i n at (λ e. omega (arith, e, whole, size, none)))
           (subst (HasSeenTo code (at + n) (masked_by at (over i n)))
-          (ap (λ (z : List Spot). done ++ z) (sym (append-nil (step_spots (over i n))) ∙ ap (λ (z : List Spot). step_spots (over i n) ++ z) (sym nothing))
+          (ap (λ (z : List Class). done ++ z) (sym (append-nil (step_classes (over i n))) ∙ ap (λ (z : List Class). step_classes (over i n) ++ z) (sym nothing))
           ∙ joined) now)))
     ]
 
 -- a bundle is read by the automaton to its end
-pub bundle_read : (code : List ℕ) (at : ℕ) (masked : Option ℕ) (done : List Spot) → at % 32 ≡ 0 → at + 32 ≤ length code
+pub bundle_read : (code : List ℕ) (at : ℕ) (masked : Option ℕ) (done : List Class) → at % 32 ≡ 0 → at + 32 ≤ length code
     → ((k : ℕ) → get_or code k 0 < 256) → END ≤ last_state END (take 32 (drop at code)) → HasSeenTo code at masked done
-    → HasSeenTo code (at + 32) None (done ++ spots_by END (states_after END (take 32 (drop at code))))
+    → HasSeenTo code (at + 32) None (done ++ classes_by END (states_after END (take 32 (drop at code))))
 bundle_read code at masked done start room fits last seen =
     let bs = take 32 (drop at code) in
     let long : length bs ≡ 32 = length-take-le 32 (drop at code) (omega (arith, room, length-drop at code)) in
-    subst (λ (k : ℕ). HasSeenTo code k None (done ++ spots_by END (states_after END bs))) {x = at + length bs} (omega (arith, long))
+    subst (λ (k : ℕ). HasSeenTo code k None (done ++ classes_by END (states_after END bs))) {x = at + length bs} (omega (arith, long))
     (reads 32 code at END masked done bs (drop 32 (drop at code)) (omega (arith, long)) (omega (arith, long)) (sym (take-append-drop 32 (drop at code)))
     (omega (arith, long, start)) (omega arith) (omega arith) last (λ r h. absurd cc)
     (λ k lt. omega (arith, get_or-take 32 (drop at code) k 0 (omega (arith, lt, long)), get_or-drop at code k 0, fits (at + k)))
@@ -239,16 +239,16 @@ bundle_size code at room = length-take-le 32 (drop at code) (omega (arith, room,
 pub bundle_byte : (code : List ℕ) (at i : ℕ) → i < 32 → get_or (take 32 (drop at code)) i 0 ≡ get_or code (at + i) 0
 bundle_byte code at i lt = get_or-take 32 (drop at code) i 0 lt ∙ get_or-drop at code i 0
 
--- the spots of a bundle that is read to its end are written
-pub bundle_filled : (code : List ℕ) (at : ℕ) (masked : Option ℕ) (spots new : List Spot) → at % 32 ≡ 0 → at + 32 ≤ length code
+-- the classes of a bundle that is read to its end are written
+pub bundle_filled : (code : List ℕ) (at : ℕ) (masked : Option ℕ) (classes new : List Class) → at % 32 ≡ 0 → at + 32 ≤ length code
     → ((k : ℕ) → get_or code k 0 < 256) → END ≤ get_or (states_after END (take 32 (drop at code))) 31 0
-    → ((front after : List Spot) → length front ≡ at → spots ≡ front ++ (replicate 32 Inside ++ after)
-    → new ≡ front ++ (spots_by END (states_after END (take 32 (drop at code))) ++ after))
-    → HasFilled code at masked spots → HasFilled code (at + 32) None new
-bundle_filled code at masked spots new start room fits last put h =
+    → ((front after : List Class) → length front ≡ at → classes ≡ front ++ (replicate 32 Inside ++ after)
+    → new ≡ front ++ (classes_by END (states_after END (take 32 (drop at code))) ++ after))
+    → HasFilled code at masked classes → HasFilled code (at + 32) None new
+bundle_filled code at masked classes new start room fits last put h =
     let more = length code - (at + 32) in
     let bs = take 32 (drop at code) in
-    let own = spots_by END (states_after END bs) in
+    let own = classes_by END (states_after END bs) in
     let ended : END ≤ last_state END bs
     = subst (λ (s : ℕ). END ≤ s) (last_of END bs 31 (omega (arith, bundle_size code at room))) last in
     record {
@@ -256,7 +256,7 @@ bundle_filled code at masked spots new start room fits last put h =
       seen = bundle_read code at masked h.done start room fits ended h.seen;
       is = put h.done (replicate more Inside) h.seen.each
           (h.is ∙ ap (λ (k : ℕ). h.done ++ replicate k Inside) {x = length code - at} {y = 32 + more} (omega (arith, room))
-          ∙ ap (λ (z : List Spot). h.done ++ z) (sym (replicate-append-replicate 32 more Inside)))
+          ∙ ap (λ (z : List Class). h.done ++ z) (sym (replicate-append-replicate 32 more Inside)))
           ∙ sym (append_assoc h.done own (replicate more Inside));
     }
 
@@ -267,14 +267,14 @@ length-states_after : (s : ℕ) (bs : List ℕ) → length (states_after s bs) �
 length-states_after s [] = refl
 length-states_after s (b ∷ bs) = ap (λ (n : ℕ). suc n) (length-states_after (next_state s b) bs)
 
--- there are as many spots as states
-length-spots_by : (s : ℕ) (states : List ℕ) → length (spots_by s states) ≡ length states
-length-spots_by s [] = refl
-length-spots_by s (t ∷ states) = ap (λ (n : ℕ). suc n) (length-spots_by t states)
+-- there are as many classes as states
+length-classes_by : (s : ℕ) (states : List ℕ) → length (classes_by s states) ≡ length states
+length-classes_by s [] = refl
+length-classes_by s (t ∷ states) = ap (λ (n : ℕ). suc n) (length-classes_by t states)
 
--- there are as many spots as bytes
-pub length-spots : (bs : List ℕ) → length (spots_by END (states_after END bs)) ≡ length bs
-length-spots bs = length-spots_by END (states_after END bs) ∙ length-states_after END bs
+-- there are as many classes as bytes
+pub length-classes : (bs : List ℕ) → length (classes_by END (states_after END bs)) ≡ length bs
+length-classes bs = length-classes_by END (states_after END bs) ∙ length-states_after END bs
 
 -- what a lane has at the end of a bundle
 pub lane_at : (bytes states : List ℕ) (state k : ℕ) → length bytes ≡ 32 → HasRead bytes 32 state states
@@ -298,25 +298,25 @@ lane_at bytes states state k size h = elim (cases_lt k 33) [
       | inr le ↦ ap (λ (n : ℕ). get_or states n 0) {x = k} {y = 33} (omega (arith, le, from)) ∙ h.end
     ]
 
--- the spot of a byte, by what stands beside it
-spot_at : (s : ℕ) (states : List ℕ) (k : ℕ) → k < length states
-    → get_or (spots_by s states) k Inside ≡ spot_by (get_or (s ∷ states) k 0) (get_or (s ∷ states) (k + 2) 0)
-spot_at s [] k lt = absurd (omega (arith, lt))
-spot_at s (t ∷ states) zero lt = refl
-spot_at s (t ∷ states) (suc k) lt =
-    spot_at t states k (omega (arith, lt))
-    ∙ ap (λ (n : ℕ). spot_by (get_or (t ∷ states) k 0) (get_or (s ∷ t ∷ states) n 0)) {x = suc (k + 2)} {y = suc k + 2} (omega arith)
+-- the class of a byte, by what stands beside it
+class_at : (s : ℕ) (states : List ℕ) (k : ℕ) → k < length states
+    → get_or (classes_by s states) k Inside ≡ class_by (get_or (s ∷ states) k 0) (get_or (s ∷ states) (k + 2) 0)
+class_at s [] k lt = absurd (omega (arith, lt))
+class_at s (t ∷ states) zero lt = refl
+class_at s (t ∷ states) (suc k) lt =
+    class_at t states k (omega (arith, lt))
+    ∙ ap (λ (n : ℕ). class_by (get_or (t ∷ states) k 0) (get_or (s ∷ t ∷ states) n 0)) {x = suc (k + 2)} {y = suc k + 2} (omega arith)
 
--- one spot more
-pub spot_more : (bytes states : List ℕ) (state k before next : ℕ) → length bytes ≡ 32 → HasRead bytes 32 state states → k < 32
+-- one class more
+pub class_more : (bytes states : List ℕ) (state k before next : ℕ) → length bytes ≡ 32 → HasRead bytes 32 state states → k < 32
     → before ≡ get_or states k 0 → next ≡ get_or states (k + 2) 0
-    → take k (spots_by END (states_after END bytes)) ++ spot_by before next ∷ [] ≡ take (k + 1) (spots_by END (states_after END bytes))
-spot_more bytes states state k before next size h lt b n =
-    let all = spots_by END (states_after END bytes) in
-    ap (λ (p : ℕ). take k all ++ spot_by p next ∷ []) (b ∙ lane_at bytes states state k size h)
-    ∙ ap (λ (q : ℕ). take k all ++ spot_by (get_or (END ∷ states_after END bytes) k 0) q ∷ []) (n ∙ lane_at bytes states state (k + 2) size h)
-    ∙ ap (λ (v : Spot). take k all ++ v ∷ []) (sym (spot_at END (states_after END bytes) k (omega (arith, lt, size, length-states_after END bytes))))
-    ∙ sym (take_more all k Inside (omega (arith, lt, size, length-spots bytes)))
+    → take k (classes_by END (states_after END bytes)) ++ class_by before next ∷ [] ≡ take (k + 1) (classes_by END (states_after END bytes))
+class_more bytes states state k before next size h lt b n =
+    let all = classes_by END (states_after END bytes) in
+    ap (λ (p : ℕ). take k all ++ class_by p next ∷ []) (b ∙ lane_at bytes states state k size h)
+    ∙ ap (λ (q : ℕ). take k all ++ class_by (get_or (END ∷ states_after END bytes) k 0) q ∷ []) (n ∙ lane_at bytes states state (k + 2) size h)
+    ∙ ap (λ (v : Class). take k all ++ v ∷ []) (sym (class_at END (states_after END bytes) k (omega (arith, lt, size, length-states_after END bytes))))
+    ∙ sym (take_more all k Inside (omega (arith, lt, size, length-classes bytes)))
 
 -- what is masked at the place where the reading begins, and after it
 pub masked_at_start : (at : ℕ) (masked : Option ℕ) → masked ≡ cond (at == at) masked None

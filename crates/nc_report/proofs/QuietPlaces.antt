@@ -1,4 +1,4 @@
--- Places that have no fault, by their spot and their byte alone.
+-- Places that have no fault, by their class and their byte alone.
 use Rattle.std.proofs.Common.{◌≡◌, ℕ, zero, suc, ◌+◌, ◌-◌, ◌<◌, ◌≤◌, Bool, true, false, List, [], ◌∷◌, ◌++◌, length, drop, get_or, cond, refl, sym, subst, ◌∙◌, ap}
 use Rattle.std.proofs.Common.{append-nil, Option, Some, None, arith, inl, inr}
 use Rattle.std.specs.Prelude.{slice_index, not, ◌==◌}
@@ -11,8 +11,8 @@ use Rattle.nc_decode.specs.Transfers.{is_direct, may_transfer, target}
 use Rattle.nc_decode.proofs.Offered.{exact, direct_begins, spells_some, true_or_false}
 use Rattle.nc_vet.specs.declared.fault.VetFault.{VetFault}
 use Rattle.nc_vet.specs.declared.fault.VetFault.TheVariants as vet
-use Rattle.nc_report.specs.declared.spot.Spot.{Spot}
-use Rattle.nc_report.specs.declared.spot.Spot.TheVariants.{Inside, Skipped, Entry, Second, NotPermitted, Crosses, Bare}
+use Rattle.nc_report.specs.declared.class.Class.{Class}
+use Rattle.nc_report.specs.declared.class.Class.TheVariants.{Inside, Skipped, Entry, Second, NotPermitted, Crosses, Bare}
 use Rattle.nc_report.specs.Further.{may_go, has_bad_target, fault_by, fault_at, listed, others_at, others_to}
 use Rattle.nc_report.specs.Totals.{counts_to}
 use Rattle.nc_report.specs.machinery.Seen.{is_quiet, counted}
@@ -30,18 +30,18 @@ first_byte bytes i f direct = go f.front refl
         (direct_begins b more i (subst (λ (z : List ℕ). Spells z i) e f.spells) direct)
 
 -- where no direct transfer begins with the byte, none has a bad target
-no_bad_target : (base limit : ℕ) (spots : List Spot) (at : ℕ) (bytes : List ℕ) (found : Option Instr) → first_instruction bytes ≡ found
-    → may_transfer (get_or bytes 0 0) ≡ false → has_bad_target base limit spots at found ≡ false
-no_bad_target base limit spots at bytes None is other = refl
-no_bad_target base limit spots at bytes (Some i) is other =
+no_bad_target : (base limit : ℕ) (classes : List Class) (at : ℕ) (bytes : List ℕ) (found : Option Instr) → first_instruction bytes ≡ found
+    → may_transfer (get_or bytes 0 0) ≡ false → has_bad_target base limit classes at found ≡ false
+no_bad_target base limit classes at bytes None is other = refl
+no_bad_target base limit classes at bytes (Some i) is other =
     elim (true_or_false (is_direct i.flow)) [
       | inl direct ↦ absurd (let f : true ≡ false = sym (first_byte bytes i ((exact bytes i).0 is) direct) ∙ other in cc)
-      | inr indirect ↦ and_left (is_direct i.flow) (not (may_go base limit spots (target i at))) indirect
+      | inr indirect ↦ and_left (is_direct i.flow) (not (may_go base limit classes (target i at))) indirect
     ]
 
--- no fault by a quiet spot and byte
-quiet_by : (spot : Spot) (byte : ℕ) (bad_target : Bool) (at : ℕ) → is_quiet spot byte ≡ true → (may_transfer byte ≡ false → bad_target ≡ false)
-    → fault_by spot bad_target at ≡ None
+-- no fault by a quiet class and byte
+quiet_by : (class : Class) (byte : ℕ) (bad_target : Bool) (at : ℕ) → is_quiet class byte ≡ true → (may_transfer byte ≡ false → bad_target ≡ false)
+    → fault_by class bad_target at ≡ None
 quiet_by Inside byte bad_target at q f = refl
 quiet_by Skipped byte bad_target at q f = refl
 quiet_by Second byte bad_target at q f = refl
@@ -51,22 +51,22 @@ quiet_by Crosses byte bad_target at q f = absurd cc
 quiet_by Bare byte bad_target at q f = absurd cc
 
 -- a quiet place has no fault
-pub quiet_none : (base limit : ℕ) (code : List ℕ) (spots : List Spot) (k : ℕ)
-    → is_quiet (get_or spots k Inside) (slice_index code k) ≡ true → fault_at base limit code spots k ≡ None
-quiet_none base limit code spots k q =
-    quiet_by (get_or spots k Inside) (slice_index code k)
-    (has_bad_target base limit spots (base + k) (first_instruction (drop k code))) (base + k) q
-    (λ other. no_bad_target base limit spots (base + k) (drop k code) (first_instruction (drop k code)) refl
+pub quiet_none : (base limit : ℕ) (code : List ℕ) (classes : List Class) (k : ℕ)
+    → is_quiet (get_or classes k Inside) (slice_index code k) ≡ true → fault_at base limit code classes k ≡ None
+quiet_none base limit code classes k q =
+    quiet_by (get_or classes k Inside) (slice_index code k)
+    (has_bad_target base limit classes (base + k) (first_instruction (drop k code))) (base + k) q
+    (λ other. no_bad_target base limit classes (base + k) (drop k code) (first_instruction (drop k code)) refl
     (ap may_transfer (get_or-drop k code 0 0 ∙ ap (λ (n : ℕ). get_or code n 0) (let e : k + 0 ≡ k = omega arith in e)) ∙ other))
 
 -- no place from `k` on and before `next` has a fault
-abbrev pub AreFaultless : ℕ → ℕ → List ℕ → List Spot → ℕ → ℕ → Type 0
-AreFaultless base limit code spots k next = (j : ℕ) → k ≤ j → j < next → fault_at base limit code spots j ≡ None
+abbrev pub AreFaultless : ℕ → ℕ → List ℕ → List Class → ℕ → ℕ → Type 0
+AreFaultless base limit code classes k next = (j : ℕ) → k ≤ j → j < next → fault_at base limit code classes j ≡ None
 
 -- a place without a fault has no further fault
-none_at : (base limit : ℕ) (code : List ℕ) (spots : List Spot) (own k : ℕ) → fault_at base limit code spots k ≡ None
-    → others_at base limit code spots own k ≡ []
-none_at base limit code spots own k e = cond_both (k == own) _ _ (λ (z : List VetFault). z ≡ []) (λ _. refl) (λ _. ap listed e)
+none_at : (base limit : ℕ) (code : List ℕ) (classes : List Class) (own k : ℕ) → fault_at base limit code classes k ≡ None
+    → others_at base limit code classes own k ≡ []
+none_at base limit code classes own k e = cond_both (k == own) _ _ (λ (z : List VetFault). z ≡ []) (λ _. refl) (λ _. ap listed e)
 
 -- what each of some places keeps, all of them keep
 kept_on : {X : Type 0} (f : ℕ → X) (k n : ℕ) → ((j : ℕ) → k ≤ j → j < k + n → f (j + 1) ≡ f j) → f (k + n) ≡ f k
@@ -80,17 +80,17 @@ kept_over f k next low each =
     ap f {x = next} {y = k + (next - k)} (omega arith) ∙ kept_on f k (next - k) (λ j a b. each j a (omega (arith, b, low)))
 
 -- places without a fault add none
-pub others_over : (base limit : ℕ) (code : List ℕ) (spots : List Spot) (own k next : ℕ) → k ≤ next
-    → AreFaultless base limit code spots k next
-    → others_to base limit code spots own next ≡ others_to base limit code spots own k
-others_over base limit code spots own k next low none =
-    kept_over (others_to base limit code spots own) k next low
-    (λ j a b. others_more base limit code spots own j
-    ∙ ap (λ (z : List VetFault). others_to base limit code spots own j ++ z) (none_at base limit code spots own j (none j a b)) ∙ append-nil _)
+pub others_over : (base limit : ℕ) (code : List ℕ) (classes : List Class) (own k next : ℕ) → k ≤ next
+    → AreFaultless base limit code classes k next
+    → others_to base limit code classes own next ≡ others_to base limit code classes own k
+others_over base limit code classes own k next low none =
+    kept_over (others_to base limit code classes own) k next low
+    (λ j a b. others_more base limit code classes own j
+    ∙ ap (λ (z : List VetFault). others_to base limit code classes own j ++ z) (none_at base limit code classes own j (none j a b)) ∙ append-nil _)
 
 -- places without a fault aren't counted
-pub counts_over : (base limit : ℕ) (code : List ℕ) (spots : List Spot) (k next : ℕ) → k ≤ next → AreFaultless base limit code spots k next
-    → counts_to base limit code spots next ≡ counts_to base limit code spots k
-counts_over base limit code spots k next low none =
-    kept_over (counts_to base limit code spots) k next low
-    (λ j a b. sym (counts_more base limit code spots j) ∙ ap (counted (counts_to base limit code spots j)) (none j a b))
+pub counts_over : (base limit : ℕ) (code : List ℕ) (classes : List Class) (k next : ℕ) → k ≤ next → AreFaultless base limit code classes k next
+    → counts_to base limit code classes next ≡ counts_to base limit code classes k
+counts_over base limit code classes k next low none =
+    kept_over (counts_to base limit code classes) k next low
+    (λ j a b. sym (counts_more base limit code classes j) ∙ ap (counted (counts_to base limit code classes j)) (none j a b))

@@ -7,29 +7,29 @@ use Rattle.nc_decode.specs.Front.{first_instruction}
 use Rattle.nc_decode.specs.Transfers.{is_direct, target}
 use Rattle.nc_vet.specs.declared.fault.VetFault.{VetFault}
 use Rattle.nc_vet.specs.declared.fault.VetFault.TheVariants as vet
-use Rattle.nc_report.specs.declared.spot.Spot.{Spot}
-use Rattle.nc_report.specs.declared.spot.Spot.TheVariants.{Inside, Skipped, Entry, Second, NotPermitted, Crosses, Bare}
+use Rattle.nc_report.specs.declared.class.Class.{Class}
+use Rattle.nc_report.specs.declared.class.Class.TheVariants.{Inside, Skipped, Entry, Second, NotPermitted, Crosses, Bare}
 
--- a direct transfer may target this spot: not the inside of an instruction, and not the second half of a pair; skipped
+-- a direct transfer may target this class: not the inside of an instruction, and not the second half of a pair; skipped
 -- bytes pass, because nothing is known about them
-abbrev pub is_open : Spot → Bool
+abbrev pub is_open : Class → Bool
 is_open Inside = false
 is_open Second = false
 is_open _ = true
 
--- a direct transfer may target this address: an open spot of the code (`is_open`), or a bundle start outside it below the limit
-abbrev pub may_go : ℕ → ℕ → List Spot → ℕ → Bool
-may_go base limit spots to =
-    if nat_le base to && nat_lt to (base + length spots) then is_open (get_or spots (to - base) Inside)
+-- a direct transfer may target this address: an open class of the code (`is_open`), or a bundle start outside it below the limit
+abbrev pub may_go : ℕ → ℕ → List Class → ℕ → Bool
+may_go base limit classes to =
+    if nat_le base to && nat_lt to (base + length classes) then is_open (get_or classes (to - base) Inside)
     else (to % 32 == 0 && nat_lt to limit)
 
 -- the instruction at this address, if there is one, is a direct transfer to an address that it may not target
-abbrev pub has_bad_target : ℕ → ℕ → List Spot → ℕ → Option Instr → Bool
-has_bad_target base limit spots at None = false
-has_bad_target base limit spots at (Some i) = is_direct i.flow && not (may_go base limit spots (target i at))
+abbrev pub has_bad_target : ℕ → ℕ → List Class → ℕ → Option Instr → Bool
+has_bad_target base limit classes at None = false
+has_bad_target base limit classes at (Some i) = is_direct i.flow && not (may_go base limit classes (target i at))
 
--- the fault at an address, by the spot there; an instruction that is otherwise allowed may still have a bad target
-abbrev pub fault_by : Spot → Bool → ℕ → Option VetFault
+-- the fault at an address, by the class there; an instruction that is otherwise allowed may still have a bad target
+abbrev pub fault_by : Class → Bool → ℕ → Option VetFault
 fault_by Inside bad_target at = None
 fault_by Skipped bad_target at = None
 fault_by Second bad_target at = None
@@ -39,12 +39,12 @@ fault_by Crosses bad_target at = Some (vet.Crosses at)
 fault_by Bare bad_target at = Some (vet.Bare at)
 
 -- the fault at a place of the code, if there is one
-abbrev pub fault_at : ℕ → ℕ → List ℕ → List Spot → ℕ → Option VetFault
-fault_at base limit code spots k =
-    fault_by (get_or spots k Inside) (has_bad_target base limit spots (base + k) (first_instruction (drop k code))) (base + k)
+abbrev pub fault_at : ℕ → ℕ → List ℕ → List Class → ℕ → Option VetFault
+fault_at base limit code classes k =
+    fault_by (get_or classes k Inside) (has_bad_target base limit classes (base + k) (first_instruction (drop k code))) (base + k)
 
 -- a step of the reading begins at this byte: an instruction, or the bytes that are skipped after one, end before it
-abbrev pub is_begun : Spot → Bool
+abbrev pub is_begun : Class → Bool
 is_begun Inside = false
 is_begun Skipped = false
 is_begun _ = true
@@ -55,9 +55,9 @@ listed None = []
 listed (Some fault) = fault ∷ []
 
 -- the faults at a place of the code, at most one; none at `own`, the place of the chunk's own fault
-abbrev pub others_at : ℕ → ℕ → List ℕ → List Spot → ℕ → ℕ → List VetFault
-others_at base limit code spots own k = if k == own then [] else listed (fault_at base limit code spots k)
+abbrev pub others_at : ℕ → ℕ → List ℕ → List Class → ℕ → ℕ → List VetFault
+others_at base limit code classes own k = if k == own then [] else listed (fault_at base limit code classes k)
 
 -- the faults at the first `count` places, except that at `own`
-abbrev pub others_to : ℕ → ℕ → List ℕ → List Spot → ℕ → ℕ → List VetFault
-others_to base limit code spots own count = flat_map (others_at base limit code spots own) (range_with_len 0 count)
+abbrev pub others_to : ℕ → ℕ → List ℕ → List Class → ℕ → ℕ → List VetFault
+others_to base limit code classes own count = flat_map (others_at base limit code classes own) (range_with_len 0 count)

@@ -6,9 +6,9 @@ use Rattle.nc_decode.specs.declared.instruction.Instr.{Instr}
 use Rattle.nc_decode.specs.Front.{first_instruction}
 use Rattle.nc_decode.specs.Spelling.{IsAtFront, IsProperFront}
 use Rattle.nc_decode.specs.Transfers.{is_indirect}
-use Rattle.nc_report.specs.declared.spot.Spot.{Spot}
-use Rattle.nc_report.specs.declared.spot.Spot.TheVariants.{Inside, Skipped, Entry, Second}
-use Rattle.nc_report.specs.declared.spot.Spot.TheVariants as spot
+use Rattle.nc_report.specs.declared.class.Class.{Class}
+use Rattle.nc_report.specs.declared.class.Class.TheVariants.{Inside, Skipped, Entry, Second}
+use Rattle.nc_report.specs.declared.class.Class.TheVariants as class
 use Rattle.nc_report.specs.declared.steps.Found.{Found}
 use Rattle.nc_report.specs.declared.steps.Found.TheVariants.{Sound, Bare, Crosses, NotPermitted}
 use Rattle.nc_report.specs.declared.steps.Step.{Step}
@@ -60,21 +60,21 @@ IsReading code steps = ReadsFrom 0 None code steps
 abbrev pub IsReadOneWay : Type 0
 IsReadOneWay = (code : List ℕ) (steps others : List Step) → IsReading code steps → IsReading code others → steps ≡ others
 
--- the spot of the first byte of a step
-abbrev pub spot_of : Found → Spot
-spot_of (Sound i) = if is_indirect i.flow then Second else Entry
-spot_of Bare = spot.Bare
-spot_of Crosses = spot.Crosses
-spot_of NotPermitted = spot.NotPermitted
+-- the class of the first byte of a step
+abbrev pub class_of : Found → Class
+class_of (Sound i) = if is_indirect i.flow then Second else Entry
+class_of Bare = class.Bare
+class_of Crosses = class.Crosses
+class_of NotPermitted = class.NotPermitted
 
--- the spot of each other byte of a step
-abbrev pub later_spot : Bool → Spot
-later_spot whole = if whole then Inside else Skipped
+-- the class of each other byte of a step
+abbrev pub later_class : Bool → Class
+later_class whole = if whole then Inside else Skipped
 
--- the spots of the bytes of a step
-abbrev pub step_spots : Step → List Spot
-step_spots s = spot_of s.found ∷ replicate (s.len - 1) (later_spot s.whole)
+-- the classes of the bytes of a step
+abbrev pub step_classes : Step → List Class
+step_classes s = class_of s.found ∷ replicate (s.len - 1) (later_class s.whole)
 
--- the spots of all bytes that these steps read
-abbrev pub spots_of : List Step → List Spot
-spots_of steps = flat_map step_spots steps
+-- the classes of all bytes that these steps read
+abbrev pub classes_of : List Step → List Class
+classes_of steps = flat_map step_classes steps

@@ -19,7 +19,7 @@ use Rattle.nc_report.specs.declared.totals.Counts.{Counts}
 use Rattle.nc_report.specs.Shown.{AreDetails, detail_line}
 use Rattle.nc_report.specs.Outside.{OutsideRow, AreCalls, rows_text}
 use Rattle.nc_report.specs.Objects.{InObject, IsJson, accepted_members, refused_members, fault_object}
-use Rattle.nc_report.specs.Reading.{IsReading, spots_of}
+use Rattle.nc_report.specs.Reading.{IsReading, classes_of}
 use Rattle.nc_report.specs.Further.{others_to}
 use Rattle.nc_report.specs.Totals.{counts_to, totals_line, counts_member}
 
@@ -112,10 +112,10 @@ pub record TellsOthers (format : Format) (limit base : ℕ) (code : List ℕ) (f
   pub first : List ℕ
   pub opens : Opens format fault first
   pub each : List ℕ
-  pub tells : TellsEach format (others_to base limit code (spots_of steps) own (length code)) each
+  pub tells : TellsEach format (others_to base limit code (classes_of steps) own (length code)) each
   pub last : List ℕ
   pub shown : Shows format last
-  pub is : text ≡ first ++ (each ++ (counts_text format (counts_to base limit code (spots_of steps) (length code)) ++ last))
+  pub is : text ≡ first ++ (each ++ (counts_text format (counts_to base limit code (classes_of steps) (length code)) ++ last))
 
 -- the text about the other faults of a source that has this one, if they are asked for; none if the fault has no address
 abbrev pub TellsMore : Detail → Format → ℕ → ℕ → List ℕ → VetFault → List ℕ → Type 0

@@ -5,7 +5,7 @@ use Rattle.std.specs.List.{count_by, range_with_len}
 use Rattle.std.specs.Fmt.{decimal}
 use Rattle.nc_vet.specs.declared.fault.VetFault.{VetFault}
 use Rattle.nc_vet.specs.declared.fault.VetFault.TheVariants.{NotPermitted, Crosses, Bare, BadTarget}
-use Rattle.nc_report.specs.declared.spot.Spot.{Spot}
+use Rattle.nc_report.specs.declared.class.Class.{Class}
 use Rattle.nc_report.specs.declared.totals.Counts.{Counts}
 use Rattle.nc_report.specs.Further.{fault_at}
 
@@ -22,21 +22,21 @@ abbrev pub is_bare : Option VetFault → Bool
 is_bare (Some (Bare at)) = true
 is_bare _ = false
 
-abbrev pub is_mistargeted : Option VetFault → Bool
-is_mistargeted (Some (BadTarget at)) = true
-is_mistargeted _ = false
+abbrev pub is_bad_target : Option VetFault → Bool
+is_bad_target (Some (BadTarget at)) = true
+is_bad_target _ = false
 
 -- the number of places among the first `count` whose fault passes a test
-abbrev pub count_of : (Option VetFault → Bool) → ℕ → ℕ → List ℕ → List Spot → ℕ → ℕ
-count_of test base limit code spots count = count_by (λ k. test (fault_at base limit code spots k)) (range_with_len 0 count)
+abbrev pub count_of : (Option VetFault → Bool) → ℕ → ℕ → List ℕ → List Class → ℕ → ℕ
+count_of test base limit code classes count = count_by (λ k. test (fault_at base limit code classes k)) (range_with_len 0 count)
 
 -- the numbers of faults of each kind at the first `count` places
-abbrev pub counts_to : ℕ → ℕ → List ℕ → List Spot → ℕ → Counts
-counts_to base limit code spots count = record {
-  crosses = count_of is_crosses base limit code spots count;
-  not_permitted = count_of is_not_permitted base limit code spots count;
-  bare = count_of is_bare base limit code spots count;
-  bad_target = count_of is_mistargeted base limit code spots count;
+abbrev pub counts_to : ℕ → ℕ → List ℕ → List Class → ℕ → Counts
+counts_to base limit code classes count = record {
+  crosses = count_of is_crosses base limit code classes count;
+  not_permitted = count_of is_not_permitted base limit code classes count;
+  bare = count_of is_bare base limit code classes count;
+  bad_target = count_of is_bad_target base limit code classes count;
 }
 
 -- the kinds whose number isn't 0, each with its number and name, and a comma before each but the first

@@ -9,7 +9,7 @@ use crate::labels::Labels;
 use crate::listing::push_listing;
 use crate::numbers::address_digits;
 use crate::shown::push_detail;
-use crate::targets::Aim;
+use crate::targets::Target;
 use std::alloc::{AllocError, Global};
 
 /// The offset of an address from its label, as text.
@@ -41,16 +41,19 @@ fn push_label(out: &mut Vec<u8>, labels: &Labels, at: u32) -> Result<(), AllocEr
 }
 
 /// Adds the line about the target of a refused direct transfer.
-fn push_aim(out: &mut Vec<u8>, aim: Option<Aim>) -> Result<(), AllocError>
+fn push_target(out: &mut Vec<u8>, target: Option<Target>) -> Result<(), AllocError>
     ensures { OnOk result (Adds out.old.items out.new.items AreDetails) }
 {
-    let Some(aim) = aim else {
+    let Some(target) = target else {
         return Ok(());
     };
-    let to = address_digits(aim.to);
-    match aim.named {
-        None => push_detail(out, &[b"-> ", &to, b": ", aim.words]),
-        Some(at) => push_detail(out, &[b"-> ", &to, b": ", aim.words, &address_digits(at)]),
+    let to = address_digits(target.to);
+    match target.named {
+        None => push_detail(out, &[b"-> ", &to, b": ", target.words]),
+        Some(at) => push_detail(
+            out,
+            &[b"-> ", &to, b": ", target.words, &address_digits(at)],
+        ),
     }
 }
 
@@ -64,6 +67,6 @@ pub(crate) fn push_finding(
 {
     push_label(out, labels, finding.at)?;
     push_listing(out, finding)?;
-    push_aim(out, finding.aim)?;
+    push_target(out, finding.target)?;
     push_detail(out, &[finding.meaning])
 }

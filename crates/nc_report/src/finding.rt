@@ -3,11 +3,11 @@
 ghost use Rattle.std.specs.Prelude.{◌≡◌, ◌≤◌, ◌<◌, ◌+◌, ◌%◌, ◌^◌, length};
 
 use crate::advice::words_about;
+use crate::class::{Class, class_at};
 use crate::further::is_begun;
 use crate::judged::Judged;
-use crate::spot::{Spot, spot_at};
-use crate::steps::read_spots;
-use crate::targets::{Aim, aim_inside, aim_outside, target_of};
+use crate::steps::read_classes;
+use crate::targets::{Target, target_inside, target_of, target_outside};
 use nc_decode::BUNDLE;
 use nc_vet::VetFault;
 use std::alloc::{AllocError, Global};
@@ -27,7 +27,7 @@ pub(crate) struct Finding<'a> {
     /// Bit k says whether an instruction begins at byte k of the bundle.
     pub starts: u32,
     /// The target of a refused direct transfer.
-    pub aim: Option<Aim>,
+    pub target: Option<Target>,
     /// What the fault means.
     pub meaning: &'static [u8],
 }
@@ -41,41 +41,41 @@ fn bundle_at(code: &[u8], start: usize) -> [u8; 32]
     bundle
 }
 
-/// Bit k says whether an instruction begins at the spot k after this one.
-fn starts_at(spots: &[Spot], start: usize) -> u32
-    requires { start + 32 ≤ length spots.now }
+/// Bit k says whether an instruction begins at the place k after this one.
+fn starts_at(classes: &[Class], start: usize) -> u32
+    requires { start + 32 ≤ length classes.now }
 {
     let mut starts = 0;
     for k in 0..32u32 {
-        if is_begun(spot_at(spots, start + k as usize)) {
+        if is_begun(class_at(classes, start + k as usize)) {
             starts |= 1 << k;
         }
     }
     starts
 }
 
-/// The target of a refused direct transfer at a place of the code, by the spots of all its bytes.
-fn aim_by(judged: &Judged<'_>, spots: &[Spot], fault: VetFault, k: usize) -> Option<Aim>
+/// The target of a refused direct transfer at a place of the code, by the classes of all its bytes.
+fn target_by(judged: &Judged<'_>, classes: &[Class], fault: VetFault, k: usize) -> Option<Target>
     requires span { judged.now.base + length judged.now.code.now < 2 ^ 32 }
     requires within { k < length judged.now.code.now }
 {
     let to = target_of(judged, fault, k)?;
     if to < judged.base || (to - judged.base) as usize >= judged.code.len() {
-        return Some(aim_outside(judged.limit, to));
+        return Some(target_outside(judged.limit, to));
     }
-    Some(aim_inside(judged.base, spots, to))
+    Some(target_inside(judged.base, classes, to))
 }
 
-/// What is shown about a fault at a place of the code, by the spots of all its bytes.
+/// What is shown about a fault at a place of the code, by the classes of all its bytes.
 pub(crate) fn finding_at<'a>(
     judged: &Judged<'a>,
-    spots: &[Spot],
+    classes: &[Class],
     fault: VetFault,
     k: usize,
 ) -> Finding<'a>
     requires span { judged.now.base + length judged.now.code.now < 2 ^ 32 }
     requires whole { length judged.now.code.now % 32 ≡ 0 }
-    requires each { length spots.now ≡ length judged.now.code.now }
+    requires each { length classes.now ≡ length judged.now.code.now }
     requires within { k < length judged.now.code.now }
 {
     let start = k - k % SIZE;
@@ -83,20 +83,20 @@ pub(crate) fn finding_at<'a>(
         at: judged.base + k as u32,
         bundle: bundle_at(judged.code, start),
         rest: &judged.code[start..],
-        starts: starts_at(spots, start),
-        aim: aim_by(judged, spots, fault, k),
+        starts: starts_at(classes, start),
+        target: target_by(judged, classes, fault, k),
         meaning: words_about(judged.code, fault, k),
     }
 }
 
 /// The target of a refused direct transfer at a place of the code, which has no other fault. Of such code each bundle can be read
 /// by itself, and only that of the target is.
-fn own_aim(
+fn own_target(
     alloc: Global,
     judged: &Judged<'_>,
     fault: VetFault,
     k: usize,
-) -> Result<Option<Aim>, AllocError>
+) -> Result<Option<Target>, AllocError>
     requires span { judged.now.base + length judged.now.code.now < 2 ^ 32 }
     requires whole { length judged.now.code.now % 32 ≡ 0 }
     requires within { k < length judged.now.code.now }
@@ -105,12 +105,12 @@ fn own_aim(
         return Ok(None);
     };
     if to < judged.base || (to - judged.base) as usize >= judged.code.len() {
-        return Ok(Some(aim_outside(judged.limit, to)));
+        return Ok(Some(target_outside(judged.limit, to)));
     }
     let place = (to - judged.base) as usize;
     let start = place - place % SIZE;
-    let spots = read_spots(alloc, &judged.code[start..start + SIZE])?;
-    Ok(Some(aim_inside(judged.base + start as u32, &spots, to)))
+    let classes = read_classes(alloc, &judged.code[start..start + SIZE])?;
+    Ok(Some(target_inside(judged.base + start as u32, &classes, to)))
 }
 
 /// What is shown about a chunk's own fault, at a place of the code. The instructions before it have no fault, so its bundle is read
@@ -126,14 +126,14 @@ pub(crate) fn own_finding<'a>(
     requires within { k < length judged.now.code.now }
 {
     let start = k - k % SIZE;
-    let spots = read_spots(alloc, &judged.code[start..start + SIZE])?;
-    let aim = own_aim(alloc, judged, fault, k)?;
+    let classes = read_classes(alloc, &judged.code[start..start + SIZE])?;
+    let target = own_target(alloc, judged, fault, k)?;
     Ok(Finding {
         at: judged.base + k as u32,
         bundle: bundle_at(judged.code, start),
         rest: &judged.code[start..],
-        starts: starts_at(&spots, 0),
-        aim,
+        starts: starts_at(&classes, 0),
+        target,
         meaning: words_about(judged.code, fault, k),
     })
 }

@@ -11,14 +11,16 @@
 //! no control byte in it.
 //!
 //! All faults of a refused chunk are found by one reading of it: `steps` reads it past its faults, with the lengths from
-//! `lengths`, and gives a `spot` for each byte; `quick` reads bundles without a fault, four at a time. `suspects` finds the places
-//! that may have a fault, `further` the faults by the spots, `others` writes the lines about each fault, and `totals` those about
+//! `lengths`, and gives a `class` for each byte; `quick` reads bundles without a fault, four at a time. `candidates` finds the places
+//! that may have a fault, `further` the faults by the classes, `others` writes the lines about each fault, and `totals` those about
 //! their numbers.
 //!
 //! A source may have [`Labels`], names for addresses of its code: `labels` finds the nearest one at or below an address.
 #![tactic(auto)]
 
 mod advice;
+mod candidates;
+mod class;
 mod counting;
 mod explaining;
 mod fault;
@@ -40,10 +42,8 @@ mod quick;
 mod reporting;
 mod shown;
 mod source;
-mod spot;
 mod steps;
 mod strings;
-mod suspects;
 mod targets;
 mod telling;
 mod totals;

@@ -14,7 +14,7 @@ use crate::labels::Labels;
 use crate::listing::{address_of, is_start, push_named};
 use crate::numbers::{address_digits, push_all, push_text};
 use crate::strings::push_between;
-use crate::targets::Aim;
+use crate::targets::Target;
 use nc_output::{Format, fault_name, place_of};
 use nc_vet::VetFault;
 use std::alloc::{AllocError, Global};
@@ -95,25 +95,29 @@ fn with_symbol(
 }
 
 /// Why the target of a refused direct transfer is not allowed, in words.
-fn reason(alloc: Global, aim: Aim) -> Result<Vec<u8>, AllocError> {
-    let mut why = Vec::from_slice(alloc, aim.words)?;
-    if let Some(at) = aim.named {
+fn reason(alloc: Global, target: Target) -> Result<Vec<u8>, AllocError> {
+    let mut why = Vec::from_slice(alloc, target.words)?;
+    if let Some(at) = target.named {
         why.extend_from_slice(&address_digits(at))?;
     }
     Ok(why)
 }
 
 /// The members with two more about the target of a refused direct transfer: where it goes, and why that is not allowed.
-fn with_aim(alloc: Global, members: Vec<u8>, aim: Option<Aim>) -> Result<Vec<u8>, AllocError>
+fn with_target(
+    alloc: Global,
+    members: Vec<u8>,
+    target: Option<Target>,
+) -> Result<Vec<u8>, AllocError>
     requires { IsJson InObject members.items }
     ensures { IfOk result (λ all. IsJson InObject all.items) }
 {
-    let Some(aim) = aim else {
+    let Some(target) = target else {
         return Ok(members);
     };
-    let why = reason(alloc, aim)?;
-    let aimed = with_string(members, b"target", &address_digits(aim.to))?;
-    with_string(aimed, b"why", &why)
+    let why = reason(alloc, target)?;
+    let targeted = with_string(members, b"target", &address_digits(target.to))?;
+    with_string(targeted, b"why", &why)
 }
 
 /// The members of the object for the instruction that begins at a place of the bundle: its address, and its name if it is permitted.
@@ -177,8 +181,8 @@ pub(crate) fn finding_members(
     hex::encode_to_slice(finding.bundle, &mut bundle).unwrap();
     let named = with_symbol(alloc, no_members(alloc), labels, finding.at)?;
     let told = with_string(named, b"meaning", finding.meaning)?;
-    let aimed = with_aim(alloc, told, finding.aim)?;
-    let shown = with_string(aimed, b"bundle", &bundle)?;
+    let targeted = with_target(alloc, told, finding.target)?;
+    let shown = with_string(targeted, b"bundle", &bundle)?;
     with_array(shown, b"starts", starts)
 }
 

@@ -8,6 +8,8 @@ ghost use Rattle.nc_report.specs.Totals.{counts_to};
 ghost use Rattle.nc_report.specs.Report.{heading, Opens, TellsEach, TellsOthers, HasBegun};
 ghost use Rattle.nc_report.specs.machinery.Added.{Adds, After, WritesOn, IsOfWriting};
 
+use crate::candidates::next_candidate;
+use crate::class::Class;
 use crate::explaining::push_finding;
 use crate::fault::ReportFault;
 use crate::finding::{Finding, finding_at};
@@ -16,9 +18,7 @@ use crate::judged::Judged;
 use crate::labels::Labels;
 use crate::numbers::push_text;
 use crate::objects::push_fault_object;
-use crate::spot::Spot;
-use crate::steps::read_spots;
-use crate::suspects::next_suspect;
+use crate::steps::read_classes;
 use crate::totals::{Counts, NO_FAULTS, counted, push_last};
 use nc_output::{Format, push_name, write_out};
 use nc_vet::VetFault;
@@ -78,20 +78,20 @@ fn other_than(own: usize, k: usize, found: Option<VetFault>) -> Option<VetFault>
 fn push_place(
     out: &mut Vec<u8>,
     judged: &Judged<'_>,
-    spots: &[Spot],
+    classes: &[Class],
     k: usize,
     other: Option<VetFault>,
     format: Format,
 ) -> Result<(), AllocError>
     requires span { judged.now.base + length judged.now.code.now < 2 ^ 32 }
     requires whole { length judged.now.code.now % 32 ≡ 0 }
-    requires each { length spots.now ≡ length judged.now.code.now }
+    requires each { length classes.now ≡ length judged.now.code.now }
     requires within { k < length judged.now.code.now }
     ensures { OnOk result (Adds out.old.items out.new.items (TellsEach format (listed other))) }
 {
     match other {
         Some(fault) => {
-            let finding = finding_at(judged, spots, fault, k);
+            let finding = finding_at(judged, classes, fault, k);
             push_also(out, judged.labels, fault, &finding, format)
         }
         None => Ok(()),
@@ -122,27 +122,27 @@ fn write_much<W: Write>(out: &mut Vec<u8>, writer: &mut W) -> Result<(), ReportF
 fn write_places<W: Write>(
     out: &mut Vec<u8>,
     judged: &Judged<'_>,
-    spots: &[Spot],
+    classes: &[Class],
     own: usize,
     format: Format,
     writer: &mut W,
 ) -> Result<Counts, ReportFault>
     requires span { judged.now.base + length judged.now.code.now < 2 ^ 32 }
     requires whole { length judged.now.code.now % 32 ≡ 0 }
-    requires each { length spots.now ≡ length judged.now.code.now }
+    requires each { length classes.now ≡ length judged.now.code.now }
     ensures ok { OnOk result (WritesOn (W.contents writer.old) (W.contents writer.new) out.old.items out.new.items
-        (TellsEach format (others_to judged.now.base judged.now.limit judged.now.code.now spots.now own (length judged.now.code.now)))) }
+        (TellsEach format (others_to judged.now.base judged.now.limit judged.now.code.now classes.now own (length judged.now.code.now)))) }
     ensures counts { IfOk result (λ counts. counts
-        ≡ counts_to judged.now.base judged.now.limit judged.now.code.now spots.now (length judged.now.code.now)) }
+        ≡ counts_to judged.now.base judged.now.limit judged.now.code.now classes.now (length judged.now.code.now)) }
     ensures cut { OnErr result (HasBegun (After out.old.items (TellsEach format (others_to judged.now.base judged.now.limit judged.now.code.now
-        spots.now own (length judged.now.code.now)))) (W.contents writer.old) (W.contents writer.new)) }
+        classes.now own (length judged.now.code.now)))) (W.contents writer.old) (W.contents writer.new)) }
     ensures faults { IfErr result IsOfWriting }
 {
     let mut counts = NO_FAULTS;
     let mut k = 0;
     while k < judged.code.len() {
-        let found = fault_at(judged.base, judged.limit, judged.code, spots, k);
-        match push_place(out, judged, spots, k, other_than(own, k, found), format) {
+        let found = fault_at(judged.base, judged.limit, judged.code, classes, k);
+        match push_place(out, judged, classes, k, other_than(own, k, found), format) {
             Ok(()) => {}
             Err(_) => return Err(ReportFault::OutOfMemory),
         }
@@ -151,7 +151,7 @@ fn write_places<W: Write>(
             Err(fault) => return Err(fault),
         }
         counts = counted(counts, found);
-        k = next_suspect(judged.code, spots, k + 1);
+        k = next_candidate(judged.code, classes, k + 1);
     }
     Ok(counts)
 }
@@ -191,19 +191,19 @@ pub(crate) fn write_others<W: Write>(
         (W.contents writer.old) (W.contents writer.new)) }
     ensures faults { IfErr result IsOfWriting }
 {
-    let Ok(spots) = read_spots(*out.allocator(), judged.code) else {
+    let Ok(classes) = read_classes(*out.allocator(), judged.code) else {
         return Err(ReportFault::OutOfMemory);
     };
-    let finding = finding_at(judged, &spots, fault, own);
+    let finding = finding_at(judged, &classes, fault, own);
     match push_opening(out, judged.labels, fault, &finding, format) {
         Ok(()) => {}
         Err(_) => return Err(ReportFault::OutOfMemory),
     }
-    let counts = match write_places(out, judged, &spots, own, format, writer) {
+    let counts = match write_places(out, judged, &classes, own, format, writer) {
         Ok(counts) => counts,
         Err(fault) => return Err(fault),
     };
-    match push_last(out, counts, &spots, format) {
+    match push_last(out, counts, &classes, format) {
         Ok(()) => Ok(()),
         Err(_) => Err(ReportFault::OutOfMemory),
     }

@@ -2,11 +2,11 @@
 
 ghost use Rattle.std.specs.Prelude.{◌≡◌, ◌≤◌, ◌<◌, ◌+◌, ◌%◌, ◌++◌, ℕ, List, Option, None, length, replicate, take, drop, get_or, slice_index};
 ghost use Rattle.nc_decode.specs.declared.automaton.TheConstants.{END};
-ghost use Rattle.nc_report.specs.declared.spot.Spot.{Spot};
-ghost use Rattle.nc_report.specs.machinery.Quick.{states_after, spot_by, spots_by, HasRead, ReadsOn};
+ghost use Rattle.nc_report.specs.declared.class.Class.{Class};
+ghost use Rattle.nc_report.specs.machinery.Quick.{states_after, class_by, classes_by, HasRead, ReadsOn};
 ghost use Rattle.nc_report.specs.machinery.Seen.{HasFilled};
 
-use crate::spot::Spot;
+use crate::class::Class;
 use nc_decode::{AFTER_PAIR, BUNDLE, END, Row};
 
 /// The number of bytes of four bundles.
@@ -17,8 +17,8 @@ const FOUR: usize = 128;
 struct Lane {
     /// The state after the last byte that is read.
     state: Row,
-    /// The state before the first byte, the state after each byte that is read, and 0 at the end. The spot of byte `k` follows
-    /// from the elements `k` and `k + 2`, that of the last byte too, so LLVM computes spots by vectors.
+    /// The state before the first byte, the state after each byte that is read, and 0 at the end. The class of byte `k` follows
+    /// from the elements `k` and `k + 2`, that of the last byte too, so LLVM computes classes by vectors.
     states: [u8; 34],
 }
 
@@ -58,20 +58,20 @@ impl Lane {
         self.read(i, code[at + i]);
     }
 
-    /// Writes the spots of the bytes of the bundle at this place over as many that are `Inside`, if those of all bytes before it
-    /// are written, and an instruction ends at its end: its instructions are then all allowed. Spots are written up to `end`
+    /// Writes the classes of the bytes of the bundle at this place over as many that are `Inside`, if those of all bytes before it
+    /// are written, and an instruction ends at its end: its instructions are then all allowed. Classes are written up to `end`
     /// before, and afterwards up to the place that is returned.
     #[inline(always)]
-    fn put(&self, spots: &mut [Spot], at: usize, end: usize) -> usize
+    fn put(&self, classes: &mut [Class], at: usize, end: usize) -> usize
         requires start { at % 32 ≡ 0 }
-        requires within { at + 32 ≤ length spots.old }
+        requires within { at + 32 ≤ length classes.old }
         requires before { end ≤ at }
         ensures read { (code : List ℕ) (mask : ℕ → Option ℕ) (i : ℕ) → at + 32 ≤ length code → ((k : ℕ) → slice_index code k < 256) → i ≡ 32
             → HasRead (take 32 (drop at code)) i self.now.state self.now.states → mask (at + 32) ≡ None
-            → HasFilled code end (mask end) spots.old → HasFilled code result (mask result) spots.new }
+            → HasFilled code end (mask end) classes.old → HasFilled code result (mask result) classes.new }
         ensures low { end ≤ result }
         ensures high { result ≤ at + 32 }
-        ensures long { length spots.new ≡ length spots.old }
+        ensures long { length classes.new ≡ length classes.old }
     {
         if end != at {
             return end;
@@ -79,64 +79,64 @@ impl Lane {
         if self.states[32] < END {
             return end;
         }
-        put_bundle(spots, at, &self.states);
+        put_bundle(classes, at, &self.states);
         at + 32
     }
 }
 
-/// The spot of a byte, by the state before it and the state after the byte that follows it.
+/// The class of a byte, by the state before it and the state after the byte that follows it.
 #[inline(always)]
-fn spot_by(before: u8, next: u8) -> Spot
-    ensures { result ≡ spot_by before next }
+fn class_by(before: u8, next: u8) -> Class
+    ensures { result ≡ class_by before next }
 {
     if before < END {
-        Spot::Inside
+        Class::Inside
     } else if next == AFTER_PAIR {
-        Spot::Second
+        Class::Second
     } else {
-        Spot::Entry
+        Class::Entry
     }
 }
 
-/// Writes the spots of the bytes of a bundle, by the states that a lane has at its end.
+/// Writes the classes of the bytes of a bundle, by the states that a lane has at its end.
 #[inline(always)]
-fn put_bundle(spots: &mut [Spot], at: usize, states: &[u8; 34])
-    requires within { at + 32 ≤ length spots.old }
-    ensures put { (bytes : List ℕ) (state : ℕ) (front after : List Spot) → length bytes ≡ 32 → HasRead bytes 32 state states.now
-        → length front ≡ at → spots.old ≡ front ++ (replicate 32 Spot.Inside ++ after)
-        → spots.new ≡ front ++ (spots_by END (states_after END bytes) ++ after) }
-    ensures long { length spots.new ≡ length spots.old }
+fn put_bundle(classes: &mut [Class], at: usize, states: &[u8; 34])
+    requires within { at + 32 ≤ length classes.old }
+    ensures put { (bytes : List ℕ) (state : ℕ) (front after : List Class) → length bytes ≡ 32 → HasRead bytes 32 state states.now
+        → length front ≡ at → classes.old ≡ front ++ (replicate 32 Class.Inside ++ after)
+        → classes.new ≡ front ++ (classes_by END (states_after END bytes) ++ after) }
+    ensures long { length classes.new ≡ length classes.old }
 {
     for k in 0..32 {
-        spots[at + k] = spot_by(states[k], states[k + 2]);
+        classes[at + k] = class_by(states[k], states[k + 2]);
     }
 }
 
-/// Reads the bundle at a place, and writes its spots if an instruction ends at its end. Returns the place up to which spots are
+/// Reads the bundle at a place, and writes its classes if an instruction ends at its end. Returns the place up to which classes are
 /// written.
 #[inline(always)]
-fn read_one(spots: &mut [Spot], code: &[u8], at: usize) -> usize
+fn read_one(classes: &mut [Class], code: &[u8], at: usize) -> usize
     requires start { at % 32 ≡ 0 }
     requires room { at + 32 ≤ length code.now }
-    requires each { length spots.old ≡ length code.now }
-    ensures { ReadsOn code.now at spots.old result spots.new }
+    requires each { length classes.old ≡ length code.now }
+    ensures { ReadsOn code.now at classes.old result classes.new }
 {
     let mut a = Lane::new();
     for i in 0..32 {
         a.step(code, at, i);
     }
-    a.put(spots, at, at)
+    a.put(classes, at, at)
 }
 
-/// Reads the four bundles at a place in lock step, and writes the spots of those before the first at whose end no instruction
-/// ends. Returns the place up to which spots are written. Each state of a lane depends on the one before, so a lane mostly
+/// Reads the four bundles at a place in lock step, and writes the classes of those before the first at whose end no instruction
+/// ends. Returns the place up to which classes are written. Each state of a lane depends on the one before, so a lane mostly
 /// waits, and four of them take little longer than one.
 #[inline(never)]
-fn read_four(spots: &mut [Spot], code: &[u8], at: usize) -> usize
+fn read_four(classes: &mut [Class], code: &[u8], at: usize) -> usize
     requires start { at % 32 ≡ 0 }
     requires room { at + 128 ≤ length code.now }
-    requires each { length spots.old ≡ length code.now }
-    ensures { ReadsOn code.now at spots.old result spots.new }
+    requires each { length classes.old ≡ length code.now }
+    ensures { ReadsOn code.now at classes.old result classes.new }
 {
     let mut a = Lane::new();
     let mut b = Lane::new();
@@ -148,27 +148,27 @@ fn read_four(spots: &mut [Spot], code: &[u8], at: usize) -> usize
         c.step(code, at + 64, i);
         d.step(code, at + 96, i);
     }
-    let first = a.put(spots, at, at);
-    let second = b.put(spots, at + 32, first);
-    let third = c.put(spots, at + 64, second);
-    d.put(spots, at + 96, third)
+    let first = a.put(classes, at, at);
+    let second = b.put(classes, at + 32, first);
+    let third = c.put(classes, at + 64, second);
+    d.put(classes, at + 96, third)
 }
 
-/// If a bundle begins at a place, reads four from there, or one where fewer are left. The spots of those before the first at
+/// If a bundle begins at a place, reads four from there, or one where fewer are left. The classes of those before the first at
 /// whose end no instruction ends are written over as many that are `Inside`: their instructions are all allowed. Returns the
-/// place up to which spots are written.
+/// place up to which classes are written.
 #[inline(always)]
-pub(crate) fn read_bundles(spots: &mut [Spot], code: &[u8], at: usize) -> usize
+pub(crate) fn read_bundles(classes: &mut [Class], code: &[u8], at: usize) -> usize
     requires bundles { length code.now % 32 ≡ 0 }
     requires within { at < length code.now }
-    requires each { length spots.old ≡ length code.now }
-    ensures { ReadsOn code.now at spots.old result spots.new }
+    requires each { length classes.old ≡ length code.now }
+    ensures { ReadsOn code.now at classes.old result classes.new }
 {
     if at % BUNDLE as usize != 0 {
         return at;
     }
     if code.len() - at < FOUR {
-        return read_one(spots, code, at);
+        return read_one(classes, code, at);
     }
-    read_four(spots, code, at)
+    read_four(classes, code, at)
 }

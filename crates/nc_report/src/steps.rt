@@ -2,13 +2,13 @@
 
 ghost use Rattle.std.specs.Prelude.{◌≡◌, ◌≤◌, ◌<◌, ◌+◌, ◌-◌, ◌%◌, ◌^◌, ◌++◌, ℕ, List, length, replicate, IfOk, IfSome};
 ghost use Rattle.nc_decode.specs.Spelling.{IsAtFront};
-ghost use Rattle.nc_report.specs.declared.spot.Spot.{Spot};
-ghost use Rattle.nc_report.specs.Reading.{extent, masked_by, spot_of, later_spot, step_spots, Finds, IsStep};
-ghost use Rattle.nc_report.specs.machinery.Seen.{HasSpots};
+ghost use Rattle.nc_report.specs.declared.class.Class.{Class};
+ghost use Rattle.nc_report.specs.Reading.{extent, masked_by, class_of, later_class, step_classes, Finds, IsStep};
+ghost use Rattle.nc_report.specs.machinery.Seen.{HasClasses};
 
+use crate::class::Class;
 use crate::lengths::known_len;
 use crate::quick::read_bundles;
-use crate::spot::Spot;
 use nc_decode::{BUNDLE, DecodeFault, Instr, decode};
 use std::alloc::{AllocError, Global};
 
@@ -128,56 +128,56 @@ fn masked_by(step: Step, at: usize) -> Option<u8>
     }
 }
 
-/// The spot of the first byte of a step.
+/// The class of the first byte of a step.
 #[inline(always)]
-fn spot_of(found: Found) -> Spot
-    ensures { result ≡ spot_of found }
+fn class_of(found: Found) -> Class
+    ensures { result ≡ class_of found }
 {
     match found {
-        Found::Sound(instr) if instr.flow.is_indirect() => Spot::Second,
-        Found::Sound(_) => Spot::Entry,
-        Found::Bare => Spot::Bare,
-        Found::Crosses => Spot::Crosses,
-        Found::NotPermitted => Spot::NotPermitted,
+        Found::Sound(instr) if instr.flow.is_indirect() => Class::Second,
+        Found::Sound(_) => Class::Entry,
+        Found::Bare => Class::Bare,
+        Found::Crosses => Class::Crosses,
+        Found::NotPermitted => Class::NotPermitted,
     }
 }
 
-/// Writes the spots of the later bytes of a step that isn't whole.
+/// Writes the classes of the later bytes of a step that isn't whole.
 #[inline(never)]
-fn put_skipped(spots: &mut [Spot], from: usize, count: usize)
-    requires { from + count ≤ length spots.old }
-    ensures { (before after : List Spot) → length before ≡ from → spots.old ≡ before ++ (replicate count Spot.Inside ++ after)
-        → spots.new ≡ before ++ (replicate count Spot.Skipped ++ after) }
+fn put_skipped(classes: &mut [Class], from: usize, count: usize)
+    requires { from + count ≤ length classes.old }
+    ensures { (before after : List Class) → length before ≡ from → classes.old ≡ before ++ (replicate count Class.Inside ++ after)
+        → classes.new ≡ before ++ (replicate count Class.Skipped ++ after) }
 {
     for k in 0..count {
-        spots[from + k] = Spot::Skipped;
+        classes[from + k] = Class::Skipped;
     }
 }
 
-/// Writes the spots of the bytes of a step at a place. All spots from there on are `Inside` before.
+/// Writes the classes of the bytes of a step at a place. All classes from there on are `Inside` before.
 #[inline(always)]
-fn put_spots(spots: &mut [Spot], at: usize, step: Step)
+fn put_classes(classes: &mut [Class], at: usize, step: Step)
     requires some { 1 ≤ step.len }
-    requires within { at + step.len ≤ length spots.old }
-    ensures { (before : List Spot) (more : ℕ) → length before ≡ at → spots.old ≡ before ++ replicate (step.len + more) Spot.Inside
-        → spots.new ≡ before ++ (step_spots step ++ replicate more Spot.Inside) }
+    requires within { at + step.len ≤ length classes.old }
+    ensures { (before : List Class) (more : ℕ) → length before ≡ at → classes.old ≡ before ++ replicate (step.len + more) Class.Inside
+        → classes.new ≡ before ++ (step_classes step ++ replicate more Class.Inside) }
 {
-    spots[at] = spot_of(step.found);
+    classes[at] = class_of(step.found);
     if !step.whole {
-        put_skipped(spots, at + 1, step.len - 1);
+        put_skipped(classes, at + 1, step.len - 1);
     }
 }
 
-/// Reads the code, and writes the spots of all its bytes over as many that are `Inside`.
-fn fill_spots(spots: &mut [Spot], code: &[u8])
+/// Reads the code, and writes the classes of all its bytes over as many that are `Inside`.
+fn fill_classes(classes: &mut [Class], code: &[u8])
     requires bundles { length code.now % 32 ≡ 0 }
-    requires clear { spots.old ≡ replicate (length code.now) Spot.Inside }
-    ensures { HasSpots code.now spots.new }
+    requires clear { classes.old ≡ replicate (length code.now) Class.Inside }
+    ensures { HasClasses code.now classes.new }
 {
     let mut at = 0usize;
     let mut masked = None;
     while at < code.len() {
-        let end = read_bundles(spots, code, at);
+        let end = read_bundles(classes, code, at);
         if end > at {
             masked = None;
             at = end;
@@ -185,19 +185,19 @@ fn fill_spots(spots: &mut [Spot], code: &[u8])
         }
         let room = BUNDLE as usize - at % BUNDLE as usize;
         let step = step_at(&code[at..], room, masked);
-        put_spots(spots, at, step);
+        put_classes(classes, at, step);
         masked = masked_by(step, at);
         at += step.len;
     }
 }
 
-/// The spots of all bytes of the code.
-pub(crate) fn read_spots(alloc: Global, code: &[u8]) -> Result<Vec<Spot>, AllocError>
+/// The classes of all bytes of the code.
+pub(crate) fn read_classes(alloc: Global, code: &[u8]) -> Result<Vec<Class>, AllocError>
     requires { length code.now % 32 ≡ 0 }
-    ensures { IfOk result (λ spots. HasSpots code.now spots.items) }
+    ensures { IfOk result (λ classes. HasClasses code.now classes.items) }
 {
-    let mut spots = Vec::with_capacity(alloc, code.len())?;
-    spots.resize(code.len(), Spot::Inside)?;
-    fill_spots(spots.as_mut_slice(), code);
-    Ok(spots)
+    let mut classes = Vec::with_capacity(alloc, code.len())?;
+    classes.resize(code.len(), Class::Inside)?;
+    fill_classes(classes.as_mut_slice(), code);
+    Ok(classes)
 }

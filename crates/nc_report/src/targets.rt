@@ -2,9 +2,9 @@
 
 ghost use Rattle.std.specs.Prelude.{◌≤◌, ◌<◌, ◌+◌, ◌^◌, length};
 
+use crate::class::{Class, class_at};
 use crate::further::is_begun;
 use crate::judged::Judged;
-use crate::spot::{Spot, spot_at};
 use crate::words::{BEYOND_REGION, IN_ZONE, INSIDE, OUTSIDE_CODE, SECOND_HALF};
 use nc_decode::{START, decode};
 use nc_vet::VetFault;
@@ -14,7 +14,7 @@ const MASK: u32 = 3;
 
 /// The target of a refused direct transfer, and why it is not allowed.
 #[derive(Clone, Copy)]
-pub(crate) struct Aim {
+pub(crate) struct Target {
     pub to: u32,
     pub words: &'static [u8],
     /// The address of an instruction that the words name, if they name one.
@@ -33,7 +33,7 @@ pub(crate) fn target_of(judged: &Judged<'_>, fault: VetFault, k: usize) -> Optio
 }
 
 /// Why a direct transfer may not target an address outside the code.
-pub(crate) fn aim_outside(limit: u32, to: u32) -> Aim {
+pub(crate) fn target_outside(limit: u32, to: u32) -> Target {
     let words = if limit <= to {
         BEYOND_REGION
     } else if to < START {
@@ -41,7 +41,7 @@ pub(crate) fn aim_outside(limit: u32, to: u32) -> Aim {
     } else {
         OUTSIDE_CODE
     };
-    Aim {
+    Target {
         to,
         words,
         named: None,
@@ -49,30 +49,30 @@ pub(crate) fn aim_outside(limit: u32, to: u32) -> Aim {
 }
 
 /// The last place, at or before this one, where an instruction begins.
-fn begun_before(spots: &[Spot], k: usize) -> usize
+fn begun_before(classes: &[Class], k: usize) -> usize
     ensures { result ≤ k }
 {
     let mut at = k;
-    while at > 0 && !is_begun(spot_at(spots, at)) {
+    while at > 0 && !is_begun(class_at(classes, at)) {
         at -= 1;
     }
     at
 }
 
-/// Why a direct transfer may not target an address inside the code. The first of these spots is that of the byte at `first`.
-pub(crate) fn aim_inside(first: u32, spots: &[Spot], to: u32) -> Aim
+/// Why a direct transfer may not target an address inside the code. The first of these classes is that of the byte at `first`.
+pub(crate) fn target_inside(first: u32, classes: &[Class], to: u32) -> Target
     requires { first ≤ to }
 {
     let place = (to - first) as usize;
-    if is_begun(spot_at(spots, place)) {
-        return Aim {
+    if is_begun(class_at(classes, place)) {
+        return Target {
             to,
             words: SECOND_HALF,
             named: Some(to.saturating_sub(MASK)),
         };
     }
-    let start = first + begun_before(spots, place) as u32;
-    Aim {
+    let start = first + begun_before(classes, place) as u32;
+    Target {
         to,
         words: INSIDE,
         named: Some(start),

@@ -8,11 +8,11 @@ ghost use Rattle.nc_report.specs.Totals.{total, kinds_from, totals_line};
 ghost use Rattle.nc_report.specs.machinery.Added.{Adds};
 ghost use Rattle.nc_report.specs.machinery.Seen.{counted, kind_words};
 
+use crate::class::{Class, class_at};
 use crate::further::is_begun;
 use crate::json::{no_members, push_members as add_members, with_string};
 use crate::numbers::{choose, push_all, push_text};
 use crate::shown::push_detail;
-use crate::spot::{Spot, spot_at};
 use crate::words::NOT_IN_BUNDLES;
 use nc_decode::BUNDLE;
 use nc_output::Format;
@@ -60,12 +60,12 @@ fn one(holds: bool) -> usize
 }
 
 /// The number of bundles that begin inside an instruction.
-fn count_inside(spots: &[Spot]) -> usize
-    ensures { result ≤ length spots.now / 32 }
+fn count_inside(classes: &[Class]) -> usize
+    ensures { result ≤ length classes.now / 32 }
 {
     let mut inside = 0;
-    for n in 0..spots.len() / BUNDLE as usize {
-        inside += one(!is_begun(spot_at(spots, BUNDLE as usize * n)));
+    for n in 0..classes.len() / BUNDLE as usize {
+        inside += one(!is_begun(class_at(classes, BUNDLE as usize * n)));
     }
     inside
 }
@@ -188,11 +188,11 @@ fn push_adrift(
 }
 
 /// Adds whether the code is in bundles, if more than half of them begin inside an instruction.
-fn push_note(out: &mut Vec<u8>, spots: &[Spot], format: Format) -> Result<(), AllocError>
+fn push_note(out: &mut Vec<u8>, classes: &[Class], format: Format) -> Result<(), AllocError>
     ensures { OnOk result (Adds out.old.items out.new.items (Shows format)) }
 {
-    let bundles = spots.len() / BUNDLE as usize;
-    let inside = count_inside(spots);
+    let bundles = classes.len() / BUNDLE as usize;
+    let inside = count_inside(classes);
     if inside <= bundles / 2 {
         return Ok(());
     }
@@ -203,7 +203,7 @@ fn push_note(out: &mut Vec<u8>, spots: &[Spot], format: Format) -> Result<(), Al
 pub(crate) fn push_last(
     out: &mut Vec<u8>,
     counts: Counts,
-    spots: &[Spot],
+    classes: &[Class],
     format: Format,
 ) -> Result<(), AllocError>
     requires { total counts < 2 ^ 63 }
@@ -211,5 +211,5 @@ pub(crate) fn push_last(
         × (out.new.items ≡ out.old.items ++ (counts_text format counts ++ last))) }
 {
     push_counts(out, counts, format)?;
-    push_note(out, spots, format)
+    push_note(out, classes, format)
 }

@@ -19,24 +19,24 @@ pub returns-in-Err-clause-cut : goal.returns-in-Err-clause-cut
 returns-in-Err-clause-cut g c =
     let judged = c.args.judged.now in
     let code = judged.code.now in
-    let faults = others_to judged.base judged.limit code c.args.spots.now c.args.own in
+    let faults = others_to judged.base judged.limit code c.args.classes.now c.args.own in
     cut_here _ _ _ _ (TellsEach c.args.format (faults c.loop-k.k)) (TellsEach c.args.format (faults (length code)))
-    (completed c.args.format judged.base judged.limit code c.args.spots.now c.args.own c.loop-k.k (length code) c.loop-k.invariant.within)
+    (completed c.args.format judged.base judged.limit code c.args.classes.now c.args.own c.loop-k.k (length code) c.loop-k.invariant.within)
     c.loop-k.invariant.text
 
 pub returns-in-Err-write_much-clause-cut : goal.returns-in-Err-write_much-clause-cut
 returns-in-Err-write_much-clause-cut g c =
     let judged = c.args.judged.now in
     let code = judged.code.now in
-    let spots = c.args.spots.now in
+    let classes = c.args.classes.now in
     let k = c.loop-k.k in
-    let faults = others_to judged.base judged.limit code spots c.args.own in
+    let faults = others_to judged.base judged.limit code classes c.args.own in
     cut_in _ _ _ _ _ _ c.in-Err-write_much.ensures.cut.0 (TellsEach c.args.format (faults k))
-    (TellsEach c.args.format (others_at judged.base judged.limit code spots c.args.own k)) (TellsEach c.args.format (faults (length code)))
-    (λ a b h i. completed c.args.format judged.base judged.limit code spots c.args.own (k + 1) (length code) (omega (arith, c.loop-k-test.true)) (a ++ b)
-    (told_more c.args.format judged.base judged.limit code spots c.args.own k a b h i))
+    (TellsEach c.args.format (others_at judged.base judged.limit code classes c.args.own k)) (TellsEach c.args.format (faults (length code)))
+    (λ a b h i. completed c.args.format judged.base judged.limit code classes c.args.own (k + 1) (length code) (omega (arith, c.loop-k-test.true)) (a ++ b)
+    (told_more c.args.format judged.base judged.limit code classes c.args.own k a b h i))
     c.loop-k.invariant.text
-    (told_there c.args.format judged.base judged.limit code spots c.args.own k c.fault_at-found.result c.other_than.result _ _ c.fault_at-found.ensures c.other_than.ensures c.in-Ok.ensures)
+    (told_there c.args.format judged.base judged.limit code classes c.args.own k c.fault_at-found.result c.other_than.result _ _ c.fault_at-found.ensures c.other_than.ensures c.in-Ok.ensures)
     c.in-Err-write_much.ensures.cut.1
 
 pub loop-k-preserved : goal.loop-k-preserved
@@ -45,41 +45,41 @@ loop-k-preserved g c =
     let base = judged.base in
     let limit = judged.limit in
     let code = judged.code.now in
-    let spots = c.args.spots.now in
+    let classes = c.args.classes.now in
     let own = c.args.own in
     let k = c.loop-k.k in
-    let next = c.next_suspect-k.result in
-    let low = c.next_suspect-k.ensures.low in
-    let faults = others_to base limit code spots own in
-    let quiet : AreFaultless base limit code spots (k + 1) next
-    = λ j a b. quiet_none base limit code spots j (c.next_suspect-k.ensures.quiet j a b) in
+    let next = c.next_candidate-k.result in
+    let low = c.next_candidate-k.ensures.low in
+    let faults = others_to base limit code classes own in
+    let quiet : AreFaultless base limit code classes (k + 1) next
+    = λ j a b. quiet_none base limit code classes j (c.next_candidate-k.ensures.quiet j a b) in
     let (part, appended, kept) = c.in-Ok-write_much.ensures.ok in
     record {
-      within = c.next_suspect-k.ensures.within;
-      text = writes_more _ _ _ _ _ _ _ part (TellsEach c.args.format (faults k)) (TellsEach c.args.format (others_at base limit code spots own k)) (TellsEach c.args.format (faults next))
-          (λ a b h i. subst (λ (fs : List VetFault). TellsEach c.args.format fs (a ++ b)) (sym (others_over base limit code spots own (k + 1) next low quiet))
-          (told_more c.args.format base limit code spots own k a b h i))
+      within = c.next_candidate-k.ensures.within;
+      text = writes_more _ _ _ _ _ _ _ part (TellsEach c.args.format (faults k)) (TellsEach c.args.format (others_at base limit code classes own k)) (TellsEach c.args.format (faults next))
+          (λ a b h i. subst (λ (fs : List VetFault). TellsEach c.args.format fs (a ++ b)) (sym (others_over base limit code classes own (k + 1) next low quiet))
+          (told_more c.args.format base limit code classes own k a b h i))
           c.loop-k.invariant.text
-          (told_there c.args.format base limit code spots own k c.fault_at-found.result c.other_than.result _ _ c.fault_at-found.ensures c.other_than.ensures c.in-Ok.ensures)
+          (told_there c.args.format base limit code classes own k c.fault_at-found.result c.other_than.result _ _ c.fault_at-found.ensures c.other_than.ensures c.in-Ok.ensures)
           appended kept;
       counts = c.counted-counts.ensures ∙ ap (λ (x : Counts). counted x c.fault_at-found.result) c.loop-k.invariant.counts
-          ∙ ap (counted (counts_to base limit code spots k)) c.fault_at-found.ensures ∙ counts_more base limit code spots k
-          ∙ sym (counts_over base limit code spots (k + 1) next low quiet);
+          ∙ ap (counted (counts_to base limit code classes k)) c.fault_at-found.ensures ∙ counts_more base limit code classes k
+          ∙ sym (counts_over base limit code classes (k + 1) next low quiet);
     }
 
 pub returns-clause-ok : goal.returns-clause-ok
 returns-clause-ok g c =
     let judged = c.args.judged.now in
     subst (λ (n : ℕ). WritesOn (g.W.Write.contents c.args.writer.now) (g.W.Write.contents c.loop-k.writer) c.args.out.now.items c.loop-k.out.items
-    (TellsEach c.args.format (others_to judged.base judged.limit judged.code.now c.args.spots.now c.args.own n))) (omega arith) c.loop-k.invariant.text
+    (TellsEach c.args.format (others_to judged.base judged.limit judged.code.now c.args.classes.now c.args.own n))) (omega arith) c.loop-k.invariant.text
 
 pub returns-clause-counts : goal.returns-clause-counts
 returns-clause-counts g c =
     let judged = c.args.judged.now in
     let all : c.loop-k.k ≡ length judged.code.now = omega arith in
-    c.loop-k.invariant.counts ∙ ap (counts_to judged.base judged.limit judged.code.now c.args.spots.now) all
+    c.loop-k.invariant.counts ∙ ap (counts_to judged.base judged.limit judged.code.now c.args.classes.now) all
 
 pub counted-counts-requires : goal.counted-counts-requires
 counted-counts-requires g c =
     let judged = c.args.judged.now in
-    omega (arith, c.requires.span, ap total c.loop-k.invariant.counts, total_small judged.base judged.limit judged.code.now c.args.spots.now c.loop-k.k)
+    omega (arith, c.requires.span, ap total c.loop-k.invariant.counts, total_small judged.base judged.limit judged.code.now c.args.classes.now c.loop-k.k)

@@ -10,8 +10,8 @@ abbrev pub invariant-loop-k : goal.invariant-loop-k
 invariant-loop-k g l = record {
   within : l.k ≤ length l.judged.code.now;
   text : WritesOn (g.W.Write.contents l.initial.writer) (g.W.Write.contents l.writer) l.initial.out.items l.out.items
-      (TellsEach l.format (others_to l.judged.base l.judged.limit l.judged.code.now l.spots l.own l.k));
-  counts : l.counts ≡ counts_to l.judged.base l.judged.limit l.judged.code.now l.spots l.k;
+      (TellsEach l.format (others_to l.judged.base l.judged.limit l.judged.code.now l.classes l.own l.k));
+  counts : l.counts ≡ counts_to l.judged.base l.judged.limit l.judged.code.now l.classes l.k;
 }
 
 abbrev pub decreases-loop-k : goal.decreases-loop-k

@@ -2,10 +2,10 @@ use Rattle.std.proofs.Common.{◌≡◌, ◌+◌, ◌-◌, ◌++◌, ◌∷◌, 
 use Rattle.std.specs.Prelude.{replicate}
 use Rattle.std.proofs.lemmas.List.{take_all, length-set, length-take-le}
 use Rattle.nc_decode.specs.declared.automaton.TheConstants.{END}
-use Rattle.nc_report.specs.declared.spot.Spot.{Spot}
-use Rattle.nc_report.specs.declared.spot.Spot.TheVariants.{Inside}
-use Rattle.nc_report.specs.machinery.Quick.{states_after, spots_by}
-use Rattle.nc_report.proofs.QuickReading.{spot_more, length-spots}
+use Rattle.nc_report.specs.declared.class.Class.{Class}
+use Rattle.nc_report.specs.declared.class.Class.TheVariants.{Inside}
+use Rattle.nc_report.specs.machinery.Quick.{states_after, classes_by}
+use Rattle.nc_report.proofs.QuickReading.{class_more, length-classes}
 use Rattle.nc_report.proofs.ReadSteps.{one_put}
 use Rattle.nc_report.proofs.quick.put_bundle.Goals as goal
 
@@ -15,20 +15,20 @@ loop-k-preserved c =
     let k = c.loop-k.k in
     record {
       put = λ bytes state front after size h n e.
-          (let all = spots_by END (states_after END bytes) in
-          let long : length (take k all) ≡ k = length-take-le k all (omega (arith, length-spots bytes, size, c.loop-k-test.true)) in
-          one_put front (take k all) after c.loop-k.spots c.args.at k 32 c.spot_by.result n long c.loop-k-test.true
+          (let all = classes_by END (states_after END bytes) in
+          let long : length (take k all) ≡ k = length-take-le k all (omega (arith, length-classes bytes, size, c.loop-k-test.true)) in
+          one_put front (take k all) after c.loop-k.classes c.args.at k 32 c.class_by.result n long c.loop-k-test.true
           (c.loop-k.invariant.put bytes state front after size h n e)
-          ∙ ap (λ (z : List Spot). front ++ (z ++ (replicate (32 - (k + 1)) Inside ++ after)))
-          (ap (λ (s : Spot). take k all ++ s ∷ []) c.spot_by.ensures
-          ∙ spot_more bytes states state k _ _ size h c.loop-k-test.true refl refl));
-      long = length-set c.loop-k.spots (c.args.at + k) c.spot_by.result ∙ c.loop-k.invariant.long;
+          ∙ ap (λ (z : List Class). front ++ (z ++ (replicate (32 - (k + 1)) Inside ++ after)))
+          (ap (λ (s : Class). take k all ++ s ∷ []) c.class_by.ensures
+          ∙ class_more bytes states state k _ _ size h c.loop-k-test.true refl refl));
+      long = length-set c.loop-k.classes (c.args.at + k) c.class_by.result ∙ c.loop-k.invariant.long;
     }
 
 pub returns-clause-put : goal.returns-clause-put
 returns-clause-put c = λ bytes state front after size h n e.
-    let all = spots_by END (states_after END bytes) in
+    let all = classes_by END (states_after END bytes) in
     let k = c.loop-k.k in
     c.loop-k.invariant.put bytes state front after size h n e
     ∙ ap (λ (m : ℕ). front ++ (take k all ++ (replicate m Inside ++ after))) {x = 32 - k} {y = 0} (omega (arith, c.loop-k-test.false))
-    ∙ ap (λ (z : List Spot). front ++ (z ++ after)) (take_all k all (omega (arith, length-spots bytes, size, c.loop-k-test.false)))
+    ∙ ap (λ (z : List Class). front ++ (z ++ after)) (take_all k all (omega (arith, length-classes bytes, size, c.loop-k-test.false)))

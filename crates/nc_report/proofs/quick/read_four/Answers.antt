@@ -27,7 +27,7 @@ returns c =
           (c.put-third.ensures.read code mask i (omega (arith, room)) bytes all c.loop-i.invariant.c (past (at + 64 + 32) masked (omega arith))
           (c.put-second.ensures.read code mask i (omega (arith, room)) bytes all c.loop-i.invariant.b (past (at + 32 + 32) masked (omega arith))
           (c.put-first.ensures.read code mask i (omega (arith, room)) bytes all c.loop-i.invariant.a (past (at + 32) masked (omega arith))
-          (subst (λ (o : Option ℕ). HasFilled code at o c.args.spots.now) (masked_at_start at masked) h)))));
+          (subst (λ (o : Option ℕ). HasFilled code at o c.args.classes.now) (masked_at_start at masked) h)))));
       low = omega arith;
       room = omega arith;
       long = omega arith;

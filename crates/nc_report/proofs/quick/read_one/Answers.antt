@@ -15,7 +15,7 @@ returns c =
       read = λ masked h.
           c.put.ensures.read code (λ n. cond (n == at) masked None) _ c.requires.room bytes (omega (arith, c.loop-i-test.false, c.loop-i.auto.i-end))
           c.loop-i.invariant (none_masked_past at (at + 32) masked (omega arith))
-          (subst (λ (o : Option ℕ). HasFilled code at o c.args.spots.now) (masked_at_start at masked) h);
+          (subst (λ (o : Option ℕ). HasFilled code at o c.args.classes.now) (masked_at_start at masked) h);
       low = omega arith;
       room = omega arith;
       long = omega arith;

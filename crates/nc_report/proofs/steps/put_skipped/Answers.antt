@@ -1,8 +1,8 @@
 use Rattle.std.proofs.Common.{◌+◌, ◌-◌, ◌++◌, List, ℕ, ap, ◌∙◌, arith}
 use Rattle.std.specs.Prelude.{replicate}
 use Rattle.std.proofs.lemmas.List.{length-replicate, replicate_more}
-use Rattle.nc_report.specs.declared.spot.Spot.{Spot}
-use Rattle.nc_report.specs.declared.spot.Spot.TheVariants.{Inside, Skipped}
+use Rattle.nc_report.specs.declared.class.Class.{Class}
+use Rattle.nc_report.specs.declared.class.Class.TheVariants.{Inside, Skipped}
 use Rattle.nc_report.proofs.ReadSteps.{one_put}
 use Rattle.nc_report.proofs.steps.put_skipped.Goals as goal
 
@@ -13,7 +13,7 @@ pub loop-k-preserved : goal.loop-k-preserved
 loop-k-preserved c = λ before after n e.
     let k = c.loop-k.k in
     one_put before (replicate k Skipped) after _ c.args.from k c.args.count Skipped n (length-replicate k Skipped) (omega arith) (c.loop-k.invariant before after n e)
-    ∙ ap (λ (z : List Spot). before ++ (z ++ (replicate (c.args.count - (k + 1)) Inside ++ after))) (replicate_more k Skipped)
+    ∙ ap (λ (z : List Class). before ++ (z ++ (replicate (c.args.count - (k + 1)) Inside ++ after))) (replicate_more k Skipped)
 
 pub returns : goal.returns
 returns c = λ before after n e. c.loop-k.invariant before after n e

@@ -11,8 +11,8 @@ returns-clause-read c = λ code mask i room bytes last read none filled.
     let lane = c.args.self.now in
     let size = bundle_size code at room in
     let all = subst (λ (n : ℕ). HasRead (take 32 (drop at code)) n lane.state lane.states) last read in
-    subst (λ (o : Option ℕ). HasFilled code (at + 32) o c.put_bundle.new.spots) (sym none)
-    (bundle_filled code at (mask at) c.args.spots.now _ c.requires.start room bytes
+    subst (λ (o : Option ℕ). HasFilled code (at + 32) o c.put_bundle.new.classes) (sym none)
+    (bundle_filled code at (mask at) c.args.classes.now _ c.requires.start room bytes
     (subst (λ (s : ℕ). END ≤ s) (lane_at _ lane.states lane.state 32 size all) c.if-self-lt-END.false)
     (λ front after n e. c.put_bundle.ensures.put _ lane.state front after size all n e)
-    (subst (λ (n : ℕ). HasFilled code n (mask n) c.args.spots.now) c.if-end-at.false filled))
+    (subst (λ (n : ℕ). HasFilled code n (mask n) c.args.classes.now) c.if-end-at.false filled))

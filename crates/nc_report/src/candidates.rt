@@ -1,11 +1,11 @@
-//! The places of a refused chunk that may have a fault, by their spots and bytes alone.
+//! The places of a refused chunk that may have a fault, by their classes and bytes alone.
 
 ghost use Rattle.std.specs.Prelude.{◌≡◌, ◌≤◌, ◌<◌, ◌+◌, ◌%◌, ◌==◌, ℕ, true, length, get_or, slice_index, if◌then◌else◌};
 ghost use Rattle.std.specs.Int.{bit_at};
 ghost use Rattle.nc_decode.specs.Transfers.{may_transfer};
 ghost use Rattle.nc_report.specs.machinery.Seen.{is_quiet};
 
-use crate::spot::Spot;
+use crate::class::Class;
 use nc_decode::BUNDLE;
 use std::simd::prelude::*;
 
@@ -17,36 +17,36 @@ fn may_transfer(byte: u8) -> bool
     (byte == 0x0F) | ((0x70 <= byte) & (byte <= 0x7F)) | ((0xE0 <= byte) & (byte <= 0xEB))
 }
 
-/// A place with this spot and this byte has no fault, whatever the targets of transfers: either no fault can begin at the spot,
+/// A place with this class and this byte has no fault, whatever the targets of transfers: either no fault can begin at the class,
 /// or it is an entry, and no direct transfer begins with the byte.
 #[inline(always)]
-fn is_quiet(spot: Spot, byte: u8) -> bool
-    ensures { result ≡ is_quiet spot byte }
+fn is_quiet(class: Class, byte: u8) -> bool
+    ensures { result ≡ is_quiet class byte }
 {
-    let may_go = matches!(spot, Spot::Entry) & may_transfer(byte);
-    let is_fault = matches!(spot, Spot::NotPermitted | Spot::Crosses | Spot::Bare);
+    let may_go = matches!(class, Class::Entry) & may_transfer(byte);
+    let is_fault = matches!(class, Class::NotPermitted | Class::Crosses | Class::Bare);
     !(may_go | is_fault)
 }
 
 /// 1 for a quiet place, and 0 for any other.
 #[inline(always)]
-fn quiet_mark(spot: Spot, byte: u8) -> u8
-    ensures { result ≡ (if is_quiet spot byte then 1 else 0) }
+fn quiet_mark(class: Class, byte: u8) -> u8
+    ensures { result ≡ (if is_quiet class byte then 1 else 0) }
 {
-    if is_quiet(spot, byte) { 1 } else { 0 }
+    if is_quiet(class, byte) { 1 } else { 0 }
 }
 
 /// The marks of 32 places.
 #[inline(always)]
-fn quiet_marks(code: &[u8], spots: &[Spot], at: usize) -> [u8; 32]
-    requires each { length spots.now ≡ length code.now }
+fn quiet_marks(code: &[u8], classes: &[Class], at: usize) -> [u8; 32]
+    requires each { length classes.now ≡ length code.now }
     requires within { at + 32 ≤ length code.now }
     ensures { (k : ℕ) → k < 32 → get_or result k 0
-        ≡ (if is_quiet (get_or spots.now (at + k) Spot.Inside) (slice_index code.now (at + k)) then 1 else 0) }
+        ≡ (if is_quiet (get_or classes.now (at + k) Class.Inside) (slice_index code.now (at + k)) then 1 else 0) }
 {
     let mut marks = [0u8; 32];
     for k in 0..32 {
-        marks[k] = quiet_mark(spots[at + k], code[at + k]);
+        marks[k] = quiet_mark(classes[at + k], code[at + k]);
     }
     marks
 }
@@ -70,32 +70,32 @@ fn zeros(marks: u8x32) -> u32
 
 /// 32 places by bits: where bit k is 0, the place `at + k` is quiet.
 #[inline(always)]
-fn suspects(code: &[u8], spots: &[Spot], at: usize) -> u32
-    requires each { length spots.now ≡ length code.now }
+fn candidates(code: &[u8], classes: &[Class], at: usize) -> u32
+    requires each { length classes.now ≡ length code.now }
     requires within { at + 32 ≤ length code.now }
     ensures { (k : ℕ) → k < 32 → bit_at result k ≡ 0
-        → is_quiet (get_or spots.now (at + k) Spot.Inside) (slice_index code.now (at + k)) ≡ true }
+        → is_quiet (get_or classes.now (at + k) Class.Inside) (slice_index code.now (at + k)) ≡ true }
 {
-    let marks = quiet_marks(code, spots, at);
+    let marks = quiet_marks(code, classes, at);
     zeros(u8x32::from_slice(&marks))
 }
 
-/// The first place at or after this one that may have a fault, by its spot and its byte, or the end of the code.
+/// The first place at or after this one that may have a fault, by its class and its byte, or the end of the code.
 #[inline(never)]
-pub(crate) fn next_suspect(code: &[u8], spots: &[Spot], from: usize) -> usize
+pub(crate) fn next_candidate(code: &[u8], classes: &[Class], from: usize) -> usize
     requires bundles { length code.now % 32 ≡ 0 }
-    requires each { length spots.now ≡ length code.now }
+    requires each { length classes.now ≡ length code.now }
     requires within { from ≤ length code.now }
     ensures low { from ≤ result }
     ensures within { result ≤ length code.now }
     ensures quiet { (k : ℕ) → from ≤ k → k < result
-        → is_quiet (get_or spots.now k Spot.Inside) (slice_index code.now k) ≡ true }
+        → is_quiet (get_or classes.now k Class.Inside) (slice_index code.now k) ≡ true }
 {
     let mut at = from;
     while at < code.len() {
         let passed = at % BUNDLE as usize;
         let room = BUNDLE as usize - passed;
-        let left = suspects(code, spots, at - passed) >> passed;
+        let left = candidates(code, classes, at - passed) >> passed;
         if left != 0 {
             return at + room.min(left.trailing_zeros() as usize);
         }

@@ -1,7 +1,7 @@
 use Rattle.std.proofs.Common.{ℕ, ap, ◌∙◌, ◌==◌}
 use Rattle.nc_vet.proofs.Offered.{loaded}
 use Rattle.nc_report.proofs.MarkBits.{not_zero}
-use Rattle.nc_report.proofs.suspects.suspects.Goals as goal
+use Rattle.nc_report.proofs.candidates.candidates.Goals as goal
 
 pub returns : goal.returns
 returns c = λ k lt clear.

@@ -4,7 +4,7 @@ ghost use Rattle.std.specs.Prelude.{◌≡◌, get_or};
 
 /// What the reading of a refused chunk finds at a byte.
 #[derive(Clone, Copy, PartialEq, Eq)]
-pub(crate) enum Spot {
+pub(crate) enum Class {
     /// A later byte of an instruction.
     Inside,
     /// A byte that is skipped, because the length of the instruction before it isn't known.
@@ -21,13 +21,13 @@ pub(crate) enum Spot {
     Bare,
 }
 
-/// The spot of a byte; after the last byte, `Inside`.
-pub(crate) fn spot_at(spots: &[Spot], k: usize) -> Spot
-    ensures { result ≡ get_or spots.now k Spot.Inside }
+/// The class of a byte; after the last byte, `Inside`.
+pub(crate) fn class_at(classes: &[Class], k: usize) -> Class
+    ensures { result ≡ get_or classes.now k Class.Inside }
 {
-    if k < spots.len() {
-        spots[k]
+    if k < classes.len() {
+        classes[k]
     } else {
-        Spot::Inside
+        Class::Inside
     }
 }

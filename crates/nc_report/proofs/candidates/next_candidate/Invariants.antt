@@ -1,15 +1,15 @@
 -- The places so far are quiet.
 use Rattle.std.proofs.Common.{◌≡◌, ℕ, ◌-◌, ◌<◌, ◌≤◌, true, length, get_or}
 use Rattle.std.specs.Prelude.{slice_index}
-use Rattle.nc_report.specs.declared.spot.Spot.TheVariants.{Inside}
+use Rattle.nc_report.specs.declared.class.Class.TheVariants.{Inside}
 use Rattle.nc_report.specs.machinery.Seen.{is_quiet}
-use Rattle.nc_report.proofs.suspects.next_suspect.Given as goal
+use Rattle.nc_report.proofs.candidates.next_candidate.Given as goal
 
 abbrev pub invariant-loop-at : goal.invariant-loop-at
 invariant-loop-at l = record {
   low : l.from ≤ l.at;
   within : l.at ≤ length l.code;
-  quiet : (k : ℕ) → l.from ≤ k → k < l.at → is_quiet (get_or l.spots k Inside) (slice_index l.code k) ≡ true;
+  quiet : (k : ℕ) → l.from ≤ k → k < l.at → is_quiet (get_or l.classes k Inside) (slice_index l.code k) ≡ true;
 }
 
 abbrev pub decreases-loop-at : goal.decreases-loop-at

@@ -1,7 +1,7 @@
 use Rattle.std.proofs.Common.{ap, ◌∙◌, ℕ, ◌==◌}
 use Rattle.std.specs.Int.{bit_at}
 use Rattle.nc_vet.proofs.Offered.{equal_small, equal_bit}
-use Rattle.nc_report.proofs.suspects.zeros.Goals as goal
+use Rattle.nc_report.proofs.candidates.zeros.Goals as goal
 
 pub bits-requires : goal.bits-requires
 bits-requires c = equal_small c.args.marks 0 c.fits-marks.0

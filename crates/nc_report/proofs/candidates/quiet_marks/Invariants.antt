@@ -1,13 +1,13 @@
 -- The first places are marked.
 use Rattle.std.proofs.Common.{◌≡◌, ℕ, ◌+◌, ◌<◌, length, get_or, if◌then◌else◌}
 use Rattle.std.specs.Prelude.{slice_index}
-use Rattle.nc_report.specs.declared.spot.Spot.TheVariants.{Inside}
+use Rattle.nc_report.specs.declared.class.Class.TheVariants.{Inside}
 use Rattle.nc_report.specs.machinery.Seen.{is_quiet}
-use Rattle.nc_report.proofs.suspects.quiet_marks.Given as goal
+use Rattle.nc_report.proofs.candidates.quiet_marks.Given as goal
 
 abbrev pub invariant-loop-k : goal.invariant-loop-k
 invariant-loop-k l = record {
   marked : (j : ℕ) → j < l.k → get_or l.marks j 0
-      ≡ (if is_quiet (get_or l.spots (l.at + j) Inside) (slice_index l.code (l.at + j)) then 1 else 0);
+      ≡ (if is_quiet (get_or l.classes (l.at + j) Inside) (slice_index l.code (l.at + j)) then 1 else 0);
   long : length l.marks ≡ 32;
 }
