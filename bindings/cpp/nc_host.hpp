@@ -13,7 +13,7 @@
  *             before it takes the other handle; for a Region that is a call under the lock, too.
  *   Threads   A value may be passed to another thread, as nc_host.h says about handles.
  *   Buffers   A call that writes acts returns the written part of the buffer. An empty buffer means what a length of 0 does in nc_host.h:
- *             a change is made, and its acts aren't told.
+ *             a change is made, and its acts aren't reported.
  *   Programs  All sources of a program should be compiled in one standard, since spans are std::span only where there is one.
  */
 #ifndef NC_HOST_HPP
