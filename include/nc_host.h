@@ -355,7 +355,7 @@ void nc_vetted_free(NcVetted *vetted);
 NcChange nc_region_load(NcRegion *region, NcVetted *vetted, NcAct *acts, size_t acts_len);
 
 /* Replaces whole instructions of a chunk with others of the same lengths, by at most 3 * `len` acts, and by none if no instruction differs.
-   It has no runs.
+   A patch has no runs.
    Promised: the patch was lawful (IsPatch), and the region has its bytes (IsModified) [modified]. The acts are the patch's (log_of_modify)
    [reported, pending, at].
    Refused: NC_UNDER_WAY; NC_NO_ROOM, if `len` is at most 32 and a lent buffer shorter than 3 * `len`; 16 to 21 [refused, allowed,
