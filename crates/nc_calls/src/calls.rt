@@ -1,7 +1,7 @@
 //! The calls of a region, each with a clause that says it is a call of a history.
 //!
 //! [`law_of_histories`](crate::law_of_histories) is about lists of calls, and `IsCall` says what a call is. Nobody has to trust
-//! that `IsCall` describes a region. Each function here makes one call of a region, and its contract says what that call did,
+//! that `IsCall` describes what a region does. Each function here makes one call of a region, and its contract says what that call did,
 //! and that its log is a call by `IsCall`. A refused call logged nothing, and is a refusal by `IsRefusal`.
 
 ghost use Rattle.std.specs.Prelude.{◌≡◌, ℕ, List, [], ◌∷◌, length, Contains, IfOk, IfErr, OnOk, OnErr};

@@ -27,7 +27,8 @@
 //! - `specs/Interleaving` separates the writer's events from those of the threads.
 //! - `specs/Calls` turns the acts and settlings of each call into events.
 //! - `specs/Views` has the properties of every view between two calls.
-//! - `specs/Histories` defines a history, `specs/Whole` that threads fetch whole instructions, and `specs/Example` a chunk's life.
+//! - `specs/Histories` defines a history. `specs/Whole` says that threads fetch whole instructions. `specs/Example` has a
+//!   chunk's life in a history.
 #![tactic(auto)]
 
 mod calls;

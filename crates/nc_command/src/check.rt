@@ -184,8 +184,8 @@ fn asked<'a>(alloc: Global, found: &ArgMatches<'a>) -> Result<CheckAsk<'a>, Erro
     })
 }
 
-/// The request that the words of a command line of `nc_check` make, given without the program's own name. Otherwise a fault of the
-/// words, a wish for help or the version, or lack of memory.
+/// Reads the words of a command line of `nc_check`, which don't begin with the program's own name. Returns the request that they
+/// make, or else a fault of the words, a wish for help or the version, or lack of memory.
 pub fn ask_check<'a>(alloc: Global, words: &'a [&'a str]) -> Result<CheckAsk<'a>, Error>
     // The numbers are in the ranges of the options, and there is a file.
     ensures { IfOk result IsCheckInRange }

@@ -144,8 +144,8 @@ fn refusal(alloc: Global, words: &[&str], error: Error) -> Error {
     error
 }
 
-/// The request that the words of a command line of `nc_replay` make, given without the program's own name. Otherwise a fault of the
-/// words, a wish for help or the version, or lack of memory.
+/// Reads the words of a command line of `nc_replay`, which don't begin with the program's own name. Returns the request that they
+/// make, or else a fault of the words, a wish for help or the version, or lack of memory.
 pub fn ask<'a>(alloc: Global, words: &'a [&'a str]) -> Result<Ask, Error>
     // The numbers are in the ranges of the options.
     ensures { IfOk result AsksInRange }

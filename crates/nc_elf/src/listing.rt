@@ -31,7 +31,8 @@ fn list_segments(alloc: Global, file: &[u8]) -> Result<Vec<Segment>, AllocError>
 ///
 /// # Errors
 ///
-/// The file's fault, exactly if it has one, before anything is allocated. `OutOfMemory` only if an allocation was refused.
+/// The file's fault is returned exactly if it has one, before anything is allocated. `OutOfMemory` is returned only if an
+/// allocation was refused.
 pub fn code_segments(alloc: Global, file: &[u8]) -> Result<Vec<Segment>, ElfFault>
     // All segments of code that the program headers name, and nothing else.
     ensures segments { IfOk result (λ segments. segments.items ≡ segments_of file.now) }

@@ -6,7 +6,7 @@
 //! region yet. A host calls a `RegionHandle` under a lock of its own, one call at a time. A `SeatHandle` is called by its own
 //! thread, without a lock.
 //!
-//! C holds each of them in a box by a struct with one pointer: [`NcRegion`], [`NcSeat`] and [`NcVetted`].
+//! C holds each of them by a struct with one pointer to a box: [`NcRegion`], [`NcSeat`] and [`NcVetted`].
 //!
 //! An [`NcAct`] is an entry of the log by which `nc_region` changes a text. The calls of a `RegionHandle` write such a log into a
 //! buffer that the host lends.

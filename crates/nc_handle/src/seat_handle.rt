@@ -23,9 +23,9 @@ impl Model for SeatHandle {
 
     ghost Value = { PassState };
 
-    ghost view = { λ g. g.pass };
+    ghost view = { λ h. h.pass };
 
-    ghost invariant = { λ g. g.pass.table ≡ arc_value g.gens };
+    ghost invariant = { λ h. h.pass.table ≡ arc_value h.gens };
 }
 
 impl SeatHandle {

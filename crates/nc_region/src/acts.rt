@@ -283,7 +283,8 @@ pub trait Acts {
         ensures full { OnErr result (((keeper self.old).numbers.generation ≡ 2 ^ 62) × (keeper self.new ≡ keeper self.old)) }
         ensures unlogged { OnErr result (logged self.new ≡ logged self.old) };
 
-    /// Loads each seat's word, and returns the least bound of a seat that hasn't been found to have left, as `Gens::look` does.
+    /// Loads each seat's word. Returns the least bound of the seats that haven't been found to have left, or the generation if
+    /// there are none, as `Gens::look` does.
     fn look(&mut self) -> u64
         ensures looked { HasLooked (keeper self.old) (keeper self.new) }
         ensures least { result ≡ least_number (keeper self.new).numbers }

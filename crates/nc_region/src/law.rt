@@ -32,8 +32,8 @@ pub fn law_of_logs()
 /// view. When a retired span is freed, no thread is in it except possibly at a bundle start. The function does nothing when called.
 ///
 /// A view is a text that a thread may read: each byte as it was at any moment since the last settling, in any mixture. A
-/// safe state is at a permitted instruction wholly inside its bundle, at an indirect transfer only with its register just masked,
-/// or at a bundle start below 00010000. There are at most as many threads as seats.
+/// safe state is at a bundle start below 00010000, or at a permitted instruction wholly inside its bundle. If that instruction
+/// is an indirect transfer, its register has just been masked. There are at most as many threads as seats.
 ///
 /// Each event also does no more than it is meant to: a freed span consists of whole bundles of the region and overlaps no
 /// span that stays retired, so it may be used again; a thread that is inside moves only as the machine does in some view,

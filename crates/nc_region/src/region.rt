@@ -69,7 +69,8 @@ impl<A: Acts + Drop> Model for RegionOf<A> {
 
 impl<'g> RegionOf<Plain<'g>> {
     /// A region of this many bundles over a table of generations, without a chunk. Its last bundle is the guard, which no chunk
-    /// may use. A refusal gives the keeper back: `BadSize` exactly if the size isn't lawful, otherwise `OutOfMemory`.
+    /// may use. A refusal gives the keeper back. It is `BadSize` exactly if the size isn't lawful, and otherwise
+    /// `OutOfMemory`.
     pub fn new(
         alloc: Global,
         bundles: u32,

@@ -10,14 +10,15 @@ use Rattle.nc_vet.specs.declared.fault.VetFault.TheVariants as vet
 use Rattle.nc_report.specs.declared.class.Class.{Class}
 use Rattle.nc_report.specs.declared.class.Class.TheVariants.{Inside, Skipped, Entry, Second, NotPermitted, Crosses, Bare}
 
--- a direct transfer may target this class: not the inside of an instruction, and not the second half of a pair; skipped
--- bytes pass, because nothing is known about them
+-- a direct transfer may target a byte of this class: not the inside of an instruction, and not the second half of a pair;
+-- skipped bytes pass, because nothing is known about them
 abbrev pub is_open : Class → Bool
 is_open Inside = false
 is_open Second = false
 is_open _ = true
 
--- a direct transfer may target this address: an open class of the code (`is_open`), or a bundle start outside it below the limit
+-- a direct transfer may target this address: a byte of the code with an open class (`is_open`), or a bundle start outside
+-- it below the limit
 abbrev pub may_go : ℕ → ℕ → List Class → ℕ → Bool
 may_go base limit classes to =
     if nat_le base to && nat_lt to (base + length classes) then is_open (get_or classes (to - base) Inside)
@@ -28,7 +29,7 @@ abbrev pub has_bad_target : ℕ → ℕ → List Class → ℕ → Option Instr 
 has_bad_target base limit classes at None = false
 has_bad_target base limit classes at (Some i) = is_direct i.flow && not (may_go base limit classes (target i at))
 
--- the fault at an address, by the class there; an instruction that is otherwise allowed may still have a bad target
+-- the fault at an address, by the class of its byte; an instruction that is otherwise allowed may still have a bad target
 abbrev pub fault_by : Class → Bool → ℕ → Option VetFault
 fault_by Inside bad_target at = None
 fault_by Skipped bad_target at = None

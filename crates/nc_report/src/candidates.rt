@@ -17,8 +17,8 @@ fn may_transfer(byte: u8) -> bool
     (byte == 0x0F) | ((0x70 <= byte) & (byte <= 0x7F)) | ((0xE0 <= byte) & (byte <= 0xEB))
 }
 
-/// A place with this class and this byte has no fault, whatever the targets of transfers: either no fault can begin at the class,
-/// or it is an entry, and no direct transfer begins with the byte.
+/// A place whose byte has this class and this value has no fault, whatever the targets of transfers. Either no fault begins at
+/// a byte of the class, or it is an entry and the value begins no direct transfer.
 #[inline(always)]
 fn is_quiet(class: Class, byte: u8) -> bool
     ensures { result ≡ is_quiet class byte }

@@ -2,7 +2,7 @@
 
 ghost use Rattle.std.specs.Prelude.{◌≡◌, get_or};
 
-/// What the reading of a refused chunk finds at a byte.
+/// The class of a byte of a refused chunk, as the reading of the chunk finds it.
 #[derive(Clone, Copy, PartialEq, Eq)]
 pub(crate) enum Class {
     /// A later byte of an instruction.

@@ -8,7 +8,7 @@ use crate::class::{Class, class_at};
 use nc_decode::{decode, is_bundle_start};
 use nc_vet::VetFault;
 
-/// A direct transfer may target this class. Skipped bytes pass, because nothing is known about them.
+/// A direct transfer may target a byte of this class. Skipped bytes pass, because nothing is known about them.
 fn is_open(class: Class) -> bool
     ensures { result ≡ is_open class }
 {
@@ -47,7 +47,7 @@ fn has_bad_target(base: u32, limit: u32, classes: &[Class], rest: &[u8], at: u32
     instr.flow.is_direct() && !may_go(base, limit, classes, instr.target(at))
 }
 
-/// The fault at an address, by the class there.
+/// The fault at an address, by the class of its byte.
 fn fault_by(class: Class, bad_target: bool, at: u32) -> Option<VetFault>
     ensures { result ≡ fault_by class bad_target at }
 {

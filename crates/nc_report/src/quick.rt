@@ -58,9 +58,9 @@ impl Lane {
         self.read(i, code[at + i]);
     }
 
-    /// Writes the classes of the bytes of the bundle at this place over as many that are `Inside`, if those of all bytes before it
-    /// are written, and an instruction ends at its end: its instructions are then all allowed. Classes are written up to `end`
-    /// before, and afterwards up to the place that is returned.
+    /// Writes the classes of the bundle at `at` over as many that are `Inside`, if `end` is `at` and an instruction ends at the end
+    /// of the bundle. All of its instructions are then allowed. Classes are written up to `end` before, and up to the result
+    /// afterwards.
     #[inline(always)]
     fn put(&self, classes: &mut [Class], at: usize, end: usize) -> usize
         requires start { at % 32 ≡ 0 }

@@ -17,8 +17,8 @@ pub fn law_of_closed()
 ///
 /// A path may begin at any bundle start of the region with nothing masked, and may continue by any step. In a confined text
 /// the place of each of its states is a bundle start below 00010000, or has a permitted instruction wholly inside its bundle.
-/// That instruction isn't barred, so it is no return, no interrupt, and has no segment override. If it is an indirect transfer,
-/// its register has just been masked.
+/// That instruction isn't barred, so it is no return and no interrupt, and has no segment override. If it is an indirect
+/// transfer, its register has just been masked.
 pub fn law_of_paths()
     ensures stands { (text : List ℕ) (before after : List State) (now : State) → IsConfined text
         → IsPath text (before ++ now ∷ after) → Stands text now }

@@ -24,7 +24,7 @@ bundle_rest at rest = take (32 - at % 32) rest
 
 -- The bytes after the sound instructions, up to the end of the bundle, begin with a whole instruction (`Bare`), are only the
 -- beginning of one (`Crosses`), or neither (`NotPermitted`). If `front` is the longest, that whole instruction is an indirect
--- transfer without its mask. The fault has the address of that place.
+-- transfer without its mask. The fault has the address of the first of these bytes.
 abbrev pub StandsAfter : ℕ → List Piece → List ℕ → VetFault → Type 0
 StandsAfter base front rest (Bare at) = (at ≡ base + place front) × ((i : Instr) × IsAtFront (bundle_rest (place front) rest) i)
 StandsAfter base front rest (Crosses at) = (at ≡ base + place front) × IsProperFront (bundle_rest (place front) rest)

@@ -5,7 +5,7 @@ use thiserror::Error;
 /// The fault for which a chunk is refused. An address is that of the fault in the chunk.
 ///
 /// The faults are tested in this order, except that among `NotPermitted`, `Crosses` and `Bare` the one at the lowest
-/// address is reported. `OutOfMemory` says of the code only that none of the first three holds.
+/// address is reported. `OutOfMemory` says of the chunk only that none of the first three holds.
 #[derive(Clone, Copy, Debug, Drop, PartialEq, Eq, Error)]
 pub enum VetFault {
     /// The base isn't a multiple of 32, or is below 00010000.

@@ -8,8 +8,8 @@
 //! - A *chunk* is one or more bundles of 32 bytes from a base on, below the *guard*, which is the region's last bundle.
 //! - A *pair* is a mask of a register (`and r, -32`) with the indirect jump or call on that register directly after it. The
 //!   mask makes the register point to the start of a bundle.
-//! - A chunk is *valid* if it is a list of permitted instructions, none of which crosses the end of a bundle. Each indirect
-//!   transfer is the second half of a pair, and each direct transfer goes to a permitted target. [`vet`] has the rules.
+//! - A chunk is *valid* if it is a list of permitted instructions, none crosses the end of a bundle, each indirect transfer is
+//!   the second half of a pair, and each direct transfer goes to a permitted target. [`vet`] has the rules.
 //! - The *marks* of a valid chunk say for each of its bytes whether control may be there.
 //!
 //! Which call to use: [`vet`] takes a chunk and returns a [`Vetted`], which is valid and stays so, or the chunk and its

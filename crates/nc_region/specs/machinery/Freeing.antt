@@ -21,7 +21,7 @@ pub record AreUnmarked (chunks : List Chunk) (was now : MarkedText) (logged logg
   pub marked : now ≡ unmarked was chunks
   pub logs : Logs logged logged_now (unsettled (unmarkings chunks))
 
--- Of a region's chunks, the first ones that are due have been taken out and unmarked, which left a region with the others.
+-- The first of a region's chunks that are due have been taken out and unmarked, which left a region with the others.
 pub record AreFreed (least : ℕ) (old new : List Chunk) (was now : MarkedText) (logged logged_now : List Entry) : Type 0 where
   pub done : List Chunk
   pub stay : kept least new ≡ kept least old

@@ -27,7 +27,8 @@ pub record HasRead (bytes : List ℕ) (i state : ℕ) (states : List ℕ) : Type
   pub long : length states ≡ 34
   pub end : get_or states 33 0 ≡ 0
 
--- the code is read from a place on, up to `end`, and the classes of its bytes are written
+-- If `old` has the classes of the bytes before a place, `new` has those of the bytes before `end`, which is that place or
+-- a later one.
 pub record ReadsOn (code : List ℕ) (at : ℕ) (old : List Class) (end : ℕ) (new : List Class) : Type 0 where
   pub read : (masked : Option ℕ) → HasFilled code at masked old → HasFilled code end (if end == at then masked else None) new
   pub low : at ≤ end

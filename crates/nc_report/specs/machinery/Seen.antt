@@ -30,8 +30,8 @@ pub record HasFilled (code : List ℕ) (at : ℕ) (masked : Option ℕ) (classes
   pub seen : HasSeenTo code at masked done
   pub is : classes ≡ done ++ replicate (length code - at) Inside
 
--- A place with this class and this byte has no fault, whatever the targets of transfers: no fault begins at the class, or an
--- entry's byte begins no direct transfer.
+-- A place whose byte has this class and this value has no fault, whatever the targets of transfers. Either no fault begins at
+-- a byte of the class, or it is an entry and the value begins no direct transfer.
 abbrev pub is_quiet : Class → ℕ → Bool
 is_quiet Inside byte = true
 is_quiet Skipped byte = true
