@@ -6,7 +6,7 @@ use crate::code::{BARE, BASE, LIMIT, MASKED, SWITCHED};
 use crate::fault::{HostFault, LoadFault};
 use crate::guest::live;
 use crate::loading::admit;
-use crate::printing::say;
+use crate::printing::print_outcome;
 use crate::turns::{BOTH_INSIDE, BOTH_RAN, ONE_CHECKED_IN, OTHER_LEFT, Turns};
 use nc_gens::Pass;
 use nc_region::{Acts, CreateFault, SharedOf, WalkFault};
@@ -44,8 +44,8 @@ fn try_load<R: Wait + Print, A: Acts + Drop>(
     code: &[u8],
 ) -> Result<(), HostFault> {
     match load(rt, alloc, shared, code) {
-        Ok(()) => say(rt, what, "loaded"),
-        Err(fault) => say(rt, what, fault),
+        Ok(()) => print_outcome(rt, what, "loaded"),
+        Err(fault) => print_outcome(rt, what, fault),
     }
 }
 
@@ -55,7 +55,7 @@ fn reclaim<R: Wait + Print, A: Acts + Drop>(
     shared: &SharedOf<'_, A>,
     when: &str,
 ) -> Result<(), HostFault> {
-    say(rt, when, shared.reclaim(rt))
+    print_outcome(rt, when, shared.reclaim(rt))
 }
 
 /// While both threads run the code: tries code that is refused before the lock is taken, and patches the code. No thread is
@@ -70,7 +70,7 @@ fn patch<R: Wait + Print, A: Acts + Drop>(
     try_load(rt, alloc, shared, "a bare jump", &BARE)?;
     shared.modify(rt, BASE, &SWITCHED)?;
     turns.pass_on(rt);
-    say(rt, "while both ran", "patched")
+    print_outcome(rt, "while both ran", "patched")
 }
 
 /// While both threads stand inside: deletes the code, which nothing can free yet.
@@ -81,7 +81,7 @@ fn delete<R: Wait + Print, A: Acts + Drop>(
 ) -> Result<(), HostFault> {
     turns.wait_for(rt, BOTH_INSIDE);
     let stamp = shared.delete(rt, BASE)?;
-    say(rt, "while both stood inside, deleted with stamp", stamp)?;
+    print_outcome(rt, "while both stood inside, deleted with stamp", stamp)?;
     reclaim(rt, shared, "freed")?;
     turns.pass_on(rt);
     Ok(())
@@ -212,8 +212,8 @@ pub fn run<R: Threads + Wait + Print + Sync, A: Acts + Drop + Send>(
     requires { (one.table ≡ shared.now) × (other.table ≡ shared.now) }
 {
     let (first, second) = run_both(rt, alloc, shared, one, other)?;
-    say(rt, "the first thread's runs that went astray", first)?;
-    say(rt, "the second thread's runs that went astray", second)?;
+    print_outcome(rt, "the first thread's runs that went astray", first)?;
+    print_outcome(rt, "the second thread's runs that went astray", second)?;
     shared.delete(rt, BASE)?;
     reclaim(rt, shared, "freed once all had left")
 }

@@ -7,7 +7,7 @@ ghost use Rattle.nc_embed.specs.Load.{IsAdmitted, IsLoaded, IsLeft, MayRefuseCod
 
 use crate::code::{BASE, SWITCH};
 use crate::fault::{HostFault, LoadFault};
-use crate::printing::say;
+use crate::printing::print_outcome;
 use nc_region::{Acts, CreateFault, RegionOf};
 use nc_vet::{VetFault, Vetted, vet};
 use std::alloc::Global;
@@ -68,6 +68,6 @@ pub fn loaded<R: Print, A: Acts + Display + Drop>(
     if let Err(fault) = load(&mut region, BASE, code) {
         return Err(HostFault::Load(fault));
     }
-    say(rt, "loaded, and in the host's memory", region.acts())?;
+    print_outcome(rt, "loaded, and in the host's memory", region.acts())?;
     Ok(region)
 }

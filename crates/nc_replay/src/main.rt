@@ -85,14 +85,14 @@ fn run_words<R: Threads + Wait + Sync + Env + Eprint + AllocGlobal + Input, W: W
 }
 
 /// Prints a fault as one line on standard error. If that fails, nothing else is left to do.
-fn say<R: Eprint>(rt: &R, fault: ReplayFault) {
+fn eprint_fault<R: Eprint>(rt: &R, fault: ReplayFault) {
     let _ = eprintln!(rt; "nc_replay: {fault}");
 }
 
 /// Prints that a write failed, unless the reader of the output is gone.
-fn say_unwritten<R: Eprint>(rt: &R, is_closed: bool) {
+fn eprint_unwritten<R: Eprint>(rt: &R, is_closed: bool) {
     if !is_closed {
-        say(rt, ReplayFault::WriteFailed);
+        eprint_fault(rt, ReplayFault::WriteFailed);
     }
 }
 
@@ -101,15 +101,15 @@ fn stop<R: Print + Eprint>(rt: &R, halt: &Halt, is_closed: bool) -> u8
     ensures { (result ≡ status_of halt.now) ⊎ ((status_of halt.now ≡ 0) × (result ≡ 1)) }
 {
     match halt {
-        Halt::Fault(ReplayFault::WriteFailed) => say_unwritten(rt, is_closed),
-        Halt::Fault(fault) => say(rt, *fault),
+        Halt::Fault(ReplayFault::WriteFailed) => eprint_unwritten(rt, is_closed),
+        Halt::Fault(fault) => eprint_fault(rt, *fault),
         Halt::Words(error) if error.kind() == ClapKind::OutOfMemory => {
-            say(rt, ReplayFault::OutOfMemory);
+            eprint_fault(rt, ReplayFault::OutOfMemory);
         }
         Halt::Words(error) => {
             if let Err(fault) = error.print(rt) {
                 if !error.use_stderr() {
-                    say_unwritten(rt, fault.kind() == ErrorKind::BrokenPipe);
+                    eprint_unwritten(rt, fault.kind() == ErrorKind::BrokenPipe);
                     return Halt::Fault(ReplayFault::WriteFailed).status();
                 }
             }
