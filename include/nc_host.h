@@ -18,8 +18,9 @@
                   has wrapped. With length 0 any pointer will do, even null [tested]. No other may be null. Other numbers may have any
                   value. A buffer that is written may not overlap another argument. Nobody may change code or buffers during the call. The
                   library keeps no pointer to them, and never executes them.
-      Results     A refused call changes nothing, but a creation that ran out of memory may have allocated some for its span's text. Its
-                  results except the fault are 0, unless a comment says otherwise. No call writes more of a buffer than it says.
+      Results     A refused call changes nothing, but a creation that ran out of memory may have allocated some for its span's text. A
+                  refused call's results except the fault are 0, unless a comment says otherwise. No call writes more of a buffer than it
+                  says.
       Memory      malloc, realloc and free belong to one allocator, which aligns a block to each power of two up to 16 that divides its
                   size. NC_OUT_OF_MEMORY is returned exactly if memory runs out [tested]. Calls that can't return it allocate none
                   [tested]. 64 KiB of stack suffice [tested]. */
@@ -50,9 +51,9 @@ extern "C" {
 /* The limit of a region of 2 to 2097152 bundles. Other numbers may wrap around to a lawful limit. */
 #define NC_LIMIT(bundles) (NC_START + NC_BUNDLE * (uint32_t)(bundles))
 
-/* A chunk gets the first of 1 to 3, else whichever of 4 to 6 is at the lowest address, else 7 at the lowest address. 8 says of the code
-   only that 1 to 3 don't hold. A patch gets the first of 16 to 21. A file gets the first of 48 to 55, else, of 56 to 61, that of the first
-   loaded segment with a fault, else 62. */
+/* A chunk gets the first of 1 to 3 that holds. Otherwise it gets the one of 4 to 6 at the lowest address, and without one 7 at the lowest
+   address. 8 says of the code only that 1 to 3 don't hold. A patch gets the first of 16 to 21. A file gets the first of 48 to 55. Otherwise
+   it gets that of 56 to 61 of the first loaded segment with a fault, and without one 62. */
 #define NC_OK 0u
 #define NC_BAD_BASE 1u
 #define NC_BAD_LENGTH 2u
@@ -158,27 +159,26 @@ extern "C" {
 #define NC_FLOW_INDIRECT_CALL 6u
 #define NC_FLOW_STOP 7u
 
-/* How a walk ends: at a stop; below NC_START; by an indirect transfer to the limit or above; or with no choice left. */
-#define NC_END_STOP 1u
-#define NC_END_TRAMPOLINE 2u
-#define NC_END_BEYOND 3u
-#define NC_END_MORE 4u
+/* How a walk ends. */
+#define NC_END_STOP 1u       /* at a stop */
+#define NC_END_TRAMPOLINE 2u /* below NC_START */
+#define NC_END_BEYOND 3u     /* by an indirect transfer to the limit or above */
+#define NC_END_MORE 4u       /* with no choice left */
 
-/* The marks of bytes: NC_UNMARKED if control is never there; NC_PLAIN at an instruction, or a bundle start without a chunk; NC_MASKED at an
-   indirect transfer by this register. Registers are numbered as in ModRM. */
-#define NC_UNMARKED 0u
-#define NC_PLAIN 1u
-#define NC_MASKED(reg) (16u + (reg))
+/* The marks of bytes. Registers are numbered as in ModRM. */
+#define NC_UNMARKED 0u               /* control is never there */
+#define NC_PLAIN 1u                  /* an instruction, or a bundle start without a chunk */
+#define NC_MASKED(reg) (16u + (reg)) /* an indirect transfer by this register */
 
-/* What an NcAct can be. Fields that aren't named are 0. No call writes 4 or 5. */
+/* The kinds of an NcAct. Fields that a kind doesn't name are 0. No call writes 4 or 5. */
 #define NC_PUT 1u    /* put the byte `value` at the address `at` */
 #define NC_MARK 2u   /* the `value` addresses from `at` on get the chunk's marks; for a host that keeps marks */
 #define NC_BUMP 3u   /* draw a stamp */
 #define NC_SETTLE 6u /* make every processor that runs a thread of the host serialize */
 
-/* Runs: for each set bit k of `value`, the lowest first, a put at `at` + k. Only the two calls for runs write them. */
-#define NC_PUT_RUN 7u  /* put the chunk's bytes there */
-#define NC_STOP_RUN 8u /* put NC_STOP there */
+/* A run puts a byte at `at` + k for each set bit k of `value`, the lowest first. Only the two calls for runs write them. */
+#define NC_PUT_RUN 7u  /* of the chunk's bytes */
+#define NC_STOP_RUN 8u /* of stops */
 
 typedef struct NcInstruction {
     uint32_t fault;
@@ -215,8 +215,8 @@ typedef struct NcAct {
     uint32_t value;
 } NcAct;
 
-/* A handle is a struct of the host's, empty if all zeros. Only the library reads or writes its pointer. The host may move it, but not copy
-   it. Of two copies only one may ever be passed to a call. */
+/* A handle is a struct of the host's. One of all zeros is empty. Only the library reads or writes its pointer. The host may move a handle,
+   but not copy it. Of two copies only one may ever be passed to a call. */
 typedef struct NcRegion {
     void *at;
 } NcRegion;
@@ -310,16 +310,17 @@ NcSegments nc_host_elf(const uint8_t *file, size_t file_len, NcSegment *segments
 /* ---- Calls on handles
 
    What all of them keep
-      Locks       Make calls on one region one at a time, under the lock of duty 28, and calls on one seat by one thread at a time, without
-                  a lock, whatever runs on the region. A handle may pass to another thread, ordered by a lock, a thread's start or join, or
-                  a SeqCst atomic.
+      Locks       Make calls on one region one at a time, under the lock of duty 28. Make calls on one seat from one thread at a time. They
+                  need no lock, whatever runs on the region. A handle may pass to another thread, ordered by a lock, a thread's start or
+                  join, or a SeqCst atomic.
       Handles     An empty handle is refused with NC_NO_HANDLE, before other faults. A call that fills a handle refuses one that isn't empty
                   with NC_HANDLE_TAKEN, even before that. A call without a result does nothing to an empty handle.
       Changes     A creation or a patch is a call of a history (LogsCall). A change writes its acts, settlings included, which are then
                   pending in the host's memory (ReportsPending). Once they are made, and a deletion has ended, the memory has the region's
                   bytes. `at` is 0, except for faults 4 to 7 [at]. A call that reads or writes runs never changes the region [same].
       Buffers     A buffer is refused with NC_NO_ROOM if a change of this length can need a longer one. But with a length of 0 the change is
-                  made, and its acts aren't reported, for a host without memory, or one that asks for runs. Begin a growing buffer above 0.
+                  made, and its acts aren't reported. That is for hosts without memory, or those that ask for runs. Begin a growing buffer
+                  above 0.
       Memory      nc_region_free, nc_vetted_free and nc_seat_leave free all that was allocated for the handle [tested]. Only the table of
                   stamps and check-ins, which a region shares with its seats, is freed with the last of them, in any order [tested]. */
 
@@ -354,8 +355,8 @@ void nc_vetted_free(NcVetted *vetted);
    Refused: NC_UNDER_WAY, NC_NO_ROOM, NC_WRONG_LIMIT, NC_OCCUPIED, NC_OUT_OF_MEMORY [refused, unchanged, untouched]. */
 NcChange nc_region_load(NcRegion *region, NcVetted *vetted, NcAct *acts, size_t acts_len);
 
-/* Replaces whole instructions of a chunk with others of the same lengths, by at most 3 * `len` acts, and by none if no instruction differs.
-   A patch has no runs.
+/* Replaces whole instructions of a chunk with others of the same lengths, with at most 3 * `len` acts. There are none if no instruction
+   differs. A patch has no runs.
    Promised: the patch was lawful (IsPatch), and the region has its bytes (IsModified) [modified]. The acts are the patch's (log_of_modify)
    [reported, pending, at].
    Refused: NC_UNDER_WAY; NC_NO_ROOM, if `len` is at most 32 and a lent buffer shorter than 3 * `len`; 16 to 21 [refused, allowed,
@@ -369,8 +370,8 @@ NcChange nc_region_patch(NcRegion *region, uint32_t at, const uint8_t *bytes, si
    Refused: NC_UNDER_WAY, NC_NO_CHUNK, NC_FULL, NC_NO_ROOM [refused, unchanged, untouched]. */
 NcChange nc_region_begin_delete(NcRegion *region, uint32_t base, NcAct *acts, size_t acts_len);
 
-/* Ends a deletion: the chunk's bytes are stops, it is retired with the next stamp, and both calls are one of a history (HasEnded) [ended].
-   Only the stamp is pending, which the library has drawn (DoesItself) [pending].
+/* Ends a deletion. The chunk's bytes are then stops, and it is retired with the next stamp. Both calls are one of a history (HasEnded)
+   [ended]. Only the stamp is pending, which the library has drawn (DoesItself) [pending].
    Refused: NC_NOT_BEGUN [refused, unchanged]. */
 NcStamp nc_region_end_delete(NcRegion *region);
 
@@ -386,7 +387,7 @@ NcChange nc_region_deletion_runs(NcRegion *region, NcAct *acts, size_t acts_len)
 
 /* Checks in for seats that nobody was given, looks at each seat, and removes retired chunks. Their spans may be reused, and keep only the
    marks of bundle starts.
-   Promised: exactly the `count` retired chunks that no seat holds back, by what the looks found, are removed, in two calls of a history
+   Promised: exactly the `count` retired chunks that no seat holds back, according to the looks, are removed, in two calls of a history
    (HasReclaimed) [reclaimed]. Only looks and freed spans are pending, which the library has made (DoesItself) [pending]. A look finds a
    seat's last check-in, or that it was left [tested].
    Refused: NC_UNDER_WAY [refused, unchanged]. */
@@ -406,7 +407,7 @@ NcChunk nc_region_chunk_at(NcRegion *region, uint32_t at);
 NcPlace nc_region_place(NcRegion *region, uint32_t at);
 
 /* Walks from a bundle start, and writes at most `choices_len` + 1 places. Each step uses one choice in place of data and flags. At a branch
-   0 falls through, and others go to the target. An indirect transfer goes to the choice with its low five bits cleared.
+   the choice 0 falls through, and any other goes to the target. An indirect transfer goes to the choice with its low five bits cleared.
    Promised: this is the machine's only walk by these choices, and all of it is safe (IsShownWalk) [reported, same].
    Refused: NC_NO_START, NC_OUT_OF_MEMORY, NC_NO_ROOM [refused]. */
 NcWalk nc_region_walk(NcRegion *region, uint32_t start, const uint32_t *choices, size_t choices_len, uint32_t *places, size_t places_len);
@@ -416,8 +417,8 @@ NcWalk nc_region_walk(NcRegion *region, uint32_t start, const uint32_t *choices,
 NcStamp nc_region_generation(NcRegion *region);
 
 /* Reports that the seat's thread is outside, by one load and one store, both memory_order_seq_cst.
-   Promised: the generation that was loaded is stored, no less than any before (HasCheckedIn) [checked_in]. The call waits for no thread,
-   even one stuck in a creation [tested].
+   Promised: the store has the generation that was loaded, which is no less than any before (HasCheckedIn) [checked_in]. The call waits for
+   no thread, not even one stuck in a creation [tested].
    Refused: only an empty handle [nothing].
    Not promised: that the thread is outside (duty 17). */
 uint32_t nc_seat_check_in(NcSeat *seat);
@@ -426,7 +427,7 @@ uint32_t nc_seat_check_in(NcSeat *seat);
    Promised: the seat holds nothing back [tested]. */
 void nc_seat_leave(NcSeat *seat);
 
-/* With NC_FAULT_NAMES: a fault's name, and its sentence in NC_FAULTS, or "?" for other numbers. */
+/* With NC_FAULT_NAMES, these return a fault's name, and its sentence in NC_FAULTS, or "?" for other numbers. */
 #ifdef NC_FAULT_NAMES
 #ifdef __GNUC__
 #define NC_UNUSED __attribute__((unused))

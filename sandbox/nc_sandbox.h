@@ -5,7 +5,7 @@
  * each has data, heap and stack of its own. A box reads and writes its own memory and nothing else. It calls nothing but the call-backs
  * that the host gives it. For Linux on x86-64. docs/SANDBOX.md has an example, and says where each duty of a host is done.
  *
- * What the library can't see to, and the host must:
+ * Duties of the host that the library can't do for it:
  *   Handlers    Each signal handler of the process has SA_ONSTACK. A new module or box is refused while one hasn't. A handler that is
  *               installed later goes unnoticed: the untrusted code then chooses which memory below 4 GiB the kernel overwrites.
  *   Signals     SIGSEGV, SIGBUS, SIGILL, SIGFPE, SIGTRAP and SIGRTMAX - 1 stay this library's. It hands on the faults of the host's own
@@ -15,7 +15,8 @@
  *
  * Every call
  *   Threads     Any thread may call. One thread at a time is in a call of a box. A box or module is freed once, and isn't used after that.
- *               No call may be made from a signal handler. In the forked child of a process every call is refused, and nothing is freed.
+ *               No call may be made from a signal handler. In the forked child of a process the library refuses each new module or box,
+ *               each change and each call of a function. It resets and frees nothing there.
  *   Costs       A process has at most some 3,000 boxes and modules at once, and some 3 GB of memory for them.
  *               A module's text reaches from 0 to the end of its code, and all of it is written. A file whose code lies high can
  *               therefore take up to 64 MiB.
@@ -33,7 +34,7 @@ extern "C" {
 typedef struct NcsModule NcsModule;
 typedef struct NcsBox NcsBox;
 
-/* An address of a box, of its data or of its code. It isn't a pointer, so the host can't follow it by mistake. 0 is never a good one. */
+/* An address in a box, of data or of code. It isn't a pointer, so the host can't follow it by mistake. 0 is never a good one. */
 typedef struct NcsAt {
     uint32_t at;
 } NcsAt;
@@ -64,49 +65,51 @@ typedef struct NcsRefusal {
 /* ---- Modules */
 
 /*
- * A module from an ELF file, which is copied. `why` gets the refusal, and may be null. The file has one segment of code, at or above
- * 00010000, which nc_host judges before any of it is mapped. Its other segments are the data that each box begins with. They begin at or
- * above 00020000, since the stack lies below them (nc-cc: --data 00110000 leaves a stack of 1 MiB). Null if it is refused.
+ * Makes a module from an ELF file, which is copied. The file has one segment of code, at or above 00010000. nc_host judges it before any
+ * of it can be executed. Its other segments are the data with which each box begins. They begin at or above 00020000, since the stack lies
+ * below them. `nc-cc --data 00110000` leaves a stack of 1 MiB. Returns null if the file is refused. `why` gets the refusal, or is null.
  */
 NcsModule *ncs_module_elf(const void *file, size_t len, NcsRefusal *why);
 
-/* A module from bytes of code alone, which begins at 00010000. Its boxes have a stack of 1 MiB, below 00110000. Null if it is refused. */
+/* Makes a module from bytes of code alone, which begins at 00010000. Its boxes have a stack of 1 MiB, below 00110000. Returns null if the
+   code is refused. */
 NcsModule *ncs_module_code(const void *code, size_t len, NcsRefusal *why);
 
-/* The address that a global symbol of the file has, or 0 if it has no such symbol. A file may name any number. So ncs_call and the calls
-   for memory judge the address. */
+/* Returns the address of a global symbol of the file, or 0 if the file has no such symbol. A file may name any number. So ncs_call and the
+   calls for memory judge the address. */
 NcsAt ncs_symbol(const NcsModule *module, const char *name);
 
-/* Where the file begins (ld -e), or 00010000 for code alone. A file may name any number here too. */
+/* Returns the file's entry, which `ld -e` sets, or 00010000 for code alone. A file may name any number here too. */
 NcsAt ncs_entry(const NcsModule *module);
 
-/* The function of the file in which a place of the code lies, and how far the place is behind its beginning. It is the nearest symbol at or
-   below the place whose name has up to 255 printable ASCII characters. Null, and `offset` stays as it is, if there is none. The name is
-   valid until the module is freed. */
+/* Returns the name of the function in which an address of the code lies, and writes the distance in bytes from its beginning to `offset`.
+   The function is the nearest symbol of code at or below the address, of those with a name fit to be printed. Such a name has 1 to 255
+   printable ASCII characters, none of them a space, and doesn't begin with $ or .L. If there is no such symbol, the call returns null and
+   leaves `offset` as it is. The name is valid until the module is freed. */
 const char *ncs_function_at(const NcsModule *module, NcsAt at, uint32_t *offset);
 
-/* The same for a file whose code was refused. The name is in the file. */
+/* As ncs_function_at, for a file whose code was refused. The name is in the file. */
 const char *ncs_function_in(const void *file, size_t len, NcsAt at, uint32_t *offset);
 
-/* Frees a module, once its last box is freed. Null is allowed. */
+/* Frees a module. Its memory goes when its last box is freed. Null is allowed. */
 void ncs_module_free(NcsModule *module);
 
 /* ---- Live code */
 
 /*
- * A module whose code is created, patched and deleted while its boxes run. Its text has room for `bundles` bundles of 32 bytes, 1 to
- * 2097151, from 00010000 on; it may be up to a page longer. At first all of it is stops. Its boxes have a stack of 1 MiB, below 00110000.
- * At most NCS_LIVE_CALLS calls of its boxes may be under way at once, those within calls counted. Null if it is refused.
+ * Makes a module whose code is created, patched and deleted while its boxes run. Its text has room for `bundles` bundles of 32 bytes, 1 to
+ * 2097151, from 00010000 on, and may be up to a page longer. At first all of it is stops. Its boxes have a stack of 1 MiB, below 00110000.
+ * At most NCS_LIVE_CALLS calls of its boxes may be under way at once, and calls within calls count. Returns null if it is refused.
  */
 #define NCS_LIVE_CALLS 255u
 NcsModule *ncs_module_live(uint32_t bundles, NcsRefusal *why);
 
 /*
  * The changes. Any thread may make them, also in a call-back. They wait for each other, and never for a thread inside. Each returns 1 if
- * the change is made; or 0, and changes nothing, and `why`, which may be null, has the refusal. Code is copied before it is judged, so it
- * may lie in memory of a box.
+ * the change is made. Otherwise it returns 0, changes nothing, and writes the refusal to `why`, which may be null. Code is copied before it
+ * is judged, so it may lie in memory of a box.
  *   ncs_create  puts a chunk of whole bundles at a multiple of 32, where no chunk is, live or deleted and not yet reclaimed.
- *   ncs_patch   replaces whole instructions of a chunk, within a bundle, by others of the same lengths.
+ *   ncs_patch   replaces whole instructions of a chunk, within a bundle, with others of the same lengths.
  *   ncs_delete  removes the chunk that begins at `base`. A thread in it stops at its next instruction. Its span can't be used yet.
  * A thread inside that meets a change under way waits until that is made, and goes on. The wait counts as its time. The process is aborted
  * if the system refuses, in the midst of a change, a barrier that it had granted.
@@ -117,10 +120,10 @@ int ncs_delete(NcsModule *module, NcsAt base, NcsRefusal *why);
 
 /*
  * Frees the spans of deleted chunks in which no thread can be any more, and returns how many chunks it freed. It waits for nobody inside. A
- * chunk is freed once each thread that was inside when it was deleted has come out: by a return, a call-back, a stop, a kill or its time
- * limit. So the longest time limit of the module's boxes, in processor time of each thread inside, bounds how long that takes. In a
- * call-back a thread is outside, however slow that is.
- *   A call on its way to a chunk that is meanwhile deleted, reclaimed and replaced may run the new one, from a bundle start on.
+ * chunk is freed once each thread that was inside when it was deleted has come out. A thread comes out by a return, a call-back, a stop, a
+ * fault, a kill or its time limit. So the longest time limit of the module's boxes, in processor time of each thread inside, bounds the
+ * wait. In a call-back a thread is outside, however slow that is.
+ * A call on its way to a chunk that is meanwhile deleted, reclaimed and replaced may run the new one, from a bundle start on.
  */
 uint32_t ncs_reclaim(NcsModule *module);
 
@@ -131,23 +134,24 @@ uint32_t ncs_reclaim(NcsModule *module);
 
 /* What a box may use. */
 typedef struct NcsLimits {
-    uint32_t memory;       /* bytes: data, heap and stack are below this address. A multiple of 4096, at most NCS_MEMORY_MAX */
-    uint32_t depth;        /* calls that one thread may have under way at once, with the calls of other boxes: 1 to NCS_DEPTH_MAX */
-    uint32_t milliseconds; /* of processor time of the calling thread, for a call with its call-backs: from 1. See NCS_LATE */
+    uint32_t memory;       /* bytes. Data, heap and stack are below this address. A multiple of 4096, at most NCS_MEMORY_MAX */
+    uint32_t depth;        /* calls that one thread may have under way at once, and those of other boxes count. 1 to NCS_DEPTH_MAX */
+    uint32_t milliseconds; /* of processor time of the calling thread, for a call with its call-backs. 1 or more. See NCS_LATE */
 } NcsLimits;
 
-/* A box with its data as the file has it, and all other memory 0. `why` gets the refusal, and may be null. Null if it is refused. */
+/* Makes a box. Its data are as the file has them, and all other memory is 0. Returns null if it is refused. `why` gets the refusal, and may
+   be null. */
 NcsBox *ncs_box_new(NcsModule *module, const NcsLimits *limits, NcsRefusal *why);
 
-/* Gives a box its first memory again, and revives it. Its call-backs stay. Returns 1; or 0, and does nothing, while a call of it is under
-   way; or 0 if the system refuses, and then the box is dead. */
+/* Gives a box its first memory again, and revives it. Its call-backs stay. Returns 1 if that is done. While a call of the box is under way
+   it returns 0, and does nothing. If the system refuses, it returns 0, and the box is dead. */
 int ncs_reset(NcsBox *box);
 
 /* Ends the call that is under way, or else the next one, with NCS_KILLED. Any thread may ask for it. It doesn't wait: the thread comes out
    within some 20 ms of its processor time, or when its call-back returns. A reset takes back a kill that hasn't ended a call. */
 void ncs_kill(NcsBox *box);
 
-/* Frees a box. Returns 1; or 0, and does nothing, while a call of it is under way. Null is allowed. */
+/* Frees a box, and returns 1. While a call of the box is under way it returns 0, and does nothing. Null is allowed. */
 int ncs_free(NcsBox *box);
 
 /* ---- Calls */
@@ -171,8 +175,8 @@ enum {
 
 typedef struct NcsEnd {
     uint32_t how;    /* one of these */
-    uint32_t result; /* of NCS_RETURNED: EAX */
-    uint32_t high;   /* and EDX, which is the upper half of a result of 64 bits, and else any number */
+    uint32_t result; /* of NCS_RETURNED, EAX */
+    uint32_t high;   /* of NCS_RETURNED, EDX: the upper half of a result of 64 bits, otherwise any number */
     uint32_t place;  /* where in the code it ended; for a call of the host, the trampoline's address or the one to return to; else 0 */
     uint32_t trap;   /* the interrupt of a stop or fault, as docs/EMBEDDING.md lists them; else 0 */
     uint32_t data;   /* of interrupt 14 (no page, below 00010000) the address of the data; else 0. The others tell none */
@@ -180,15 +184,15 @@ typedef struct NcsEnd {
 } NcsEnd;
 
 #define NCS_ARGS_MAX 16u
-/* The last two arguments of ncs_call: NCS_ARGS(1, at.at). */
+/* The last two arguments of ncs_call, as in ncs_call(box, function, NCS_ARGS(1, at.at)). */
 #define NCS_ARGS(...) (unsigned)(sizeof((uint32_t[]){__VA_ARGS__}) / sizeof(uint32_t)), (const uint32_t[]){__VA_ARGS__}
 #define NCS_NO_ARGS 0u, NULL
 
-/* An end in a word or two, such as "stopped"; "?" for another number. */
+/* Returns an end in a word or two, such as "stopped". For another number it returns "?". */
 const char *ncs_how(uint32_t how);
 
 /* Calls a function of the box with 32-bit arguments, at most NCS_ARGS_MAX, as C for i386 does. A number of 64 bits is two, the lower half
-   first. A call-back may call: its box, with the stack below the frame that the code has left, or another one. */
+   first. A call-back may call its own box or another one. In its own box the call's stack lies below the frame that the code has left. */
 NcsEnd ncs_call(NcsBox *box, NcsAt function, unsigned count, const uint32_t *args);
 
 /* A call-back gets a copy of its arguments. What it returns goes to EDX and EAX. */
@@ -199,34 +203,35 @@ typedef uint64_t (*NcsCallback)(NcsBox *box, void *user, const uint32_t *args);
 #define NCS_EXIT 0x40u                     /* where the code ends its call, with a status: nc-cc -Wl,--defsym=ncs_exit=0x40 */
 #define NCS_CALLBACK(k) (0x100u + 32u * (k)) /* where call-back k is, counted from 0 as the box gets them */
 
-/* Gives the box a call-back with so many 32-bit arguments, at most NCS_CALLBACK_ARGS, and returns its address: NCS_CALLBACK(0) for the
-   first one, and so on up to NCS_CALLBACKS of them. 0 if it isn't given. Not while another thread is in a call of the box. */
+/* Gives the box a call-back with so many 32-bit arguments, at most NCS_CALLBACK_ARGS, and returns its address. The first one is at
+   NCS_CALLBACK(0), and a box gets at most NCS_CALLBACKS of them. Returns 0 if it isn't given. The host makes this call only while no other
+   thread is in a call of the box. */
 NcsAt ncs_callback(NcsBox *box, NcsCallback function, void *user, unsigned args);
 
-/* Within a call-back: the call that made it ends with NCS_DENIED, once the call-back has returned. Elsewhere it does nothing. */
+/* Within a call-back of the box, ends the call that made it with NCS_DENIED, once the call-back has returned. Elsewhere it does nothing. */
 void ncs_deny(NcsBox *box);
 
 /* ---- Memory */
 
-/* Each range is judged: it lies at or above 00010000 and ends at or below the limit. While another thread is in a call of the box, its
-   memory changes at any moment. */
+/* The calls judge each range. The box's bytes lie at or above 00010000 and below the limit `memory`. While another thread is in a call of
+   the box, its memory changes at any moment. */
 
-/* A pointer to `len` bytes of the box, valid until the box is freed; null unless all of them are the box's. */
+/* Returns a pointer to `len` bytes of the box, valid until the box is freed. Returns null unless all of them are the box's. */
 void *ncs_at(NcsBox *box, NcsAt at, uint32_t len);
 
-/* Copies into the box, or out of it. Returns 1; or 0, and copies nothing, unless all of the range is the box's. */
+/* Copy into the box, or out of it, and return 1. Unless all of the range is the box's, they return 0 and copy nothing. */
 int ncs_set(NcsBox *box, NcsAt at, const void *from, uint32_t len);
 int ncs_get(NcsBox *box, void *to, NcsAt at, uint32_t len);
 
-/* Copies a text out of the box up to its 0, and cuts it to `room` bytes with the 0. Returns its length as copied; or -1 if it leaves the
-   box, or if there is no room at all. */
+/* Copies a text out of the box up to its 0, and cuts it to `room` bytes with the 0. Returns its length as copied, without the 0. Returns -1
+   if `room` is 0, or if one of the bytes to be copied isn't the box's. Then `to` has the bytes before it, with a 0, if there is room. */
 long ncs_text(NcsBox *box, char *to, size_t room, NcsAt at);
 
-/* Takes `len` bytes from the heap, at a multiple of 16. The heap begins behind the data, and ends at the limit. Nothing is given back
-   before the reset. A library with an allocator of its own gets a range to work in. 0 if there is no room. */
+/* Takes `len` bytes from the heap, and returns their address, a multiple of 16. The heap begins behind the data, and ends at the limit.
+   Nothing is given back before the reset. A library with an allocator of its own gets a range to work in. Returns 0 if there is no room. */
 NcsAt ncs_take(NcsBox *box, uint32_t len);
 
-/* Takes room for these bytes, and copies them there. 0 if there is no room. */
+/* Takes room for these bytes as ncs_take does, copies them there, and returns their address. Returns 0 if there is no room. */
 NcsAt ncs_put(NcsBox *box, const void *from, uint32_t len);
 
 #ifdef __cplusplus
