@@ -1,19 +1,19 @@
 /*
  * nc_host.hpp: regions, seats and vetted chunks of nc_host.h as C++ values.
  *
- * It needs C++17, and neither exceptions nor RTTI. A member makes the call of the library that its comment names (a deletion makes two).
- * nc_host.h says what that call promises and what it asks of the host, and docs/EMBEDDING.md lists the host's duties. Nothing is proved
- * about this header. Of the calls without a handle it wraps nc_host_image and nc_host_elf.
+ * It needs C++17, and neither exceptions nor RTTI. A member makes the calls of the library that its comment names. nc_host.h says what
+ * these promise and what they ask of the host, and docs/EMBEDDING.md lists the host's duties. Nothing is proved about this header. Of the
+ * calls without a handle it wraps nc_host_image and nc_host_elf.
  *
- *   Locks     "Under the lock" means the host's own lock for the region: calls on one region must be made one at a time, including those
- *             that only read, so no member is const. The lock also covers the acts that the host makes for a change. "No lock" means that
- *             the call needs none, as long as one thread at a time uses the value.
+ *   Locks     "Under the lock" means that the host holds its own lock for the region. Calls on one region must be made one at a time,
+ *             including those that only read, so no member is const. The lock also covers the acts that the host makes for a change. "No
+ *             lock" means that the call needs none, as long as one thread at a time uses the value.
  *   Values    Region, Seat and Vetted own a handle. They are moved and never copied. A default-constructed and a moved-from value are
- *             empty and may be used: their calls are refused with NC_NO_HANDLE. A destructor frees or leaves, and so does an assignment
- *             before it takes the other handle; for a Region that is a call under the lock, too.
+ *             empty and may be used. The library refuses their calls with NC_NO_HANDLE. A destructor frees or leaves, and so does an
+ *             assignment before it takes the other handle. For a Region that is a call under the lock, too.
  *   Threads   A value may be passed to another thread, as nc_host.h says about handles.
- *   Buffers   A call that writes acts returns the written part of the buffer. An empty buffer means what a length of 0 does in nc_host.h:
- *             a change is made, and its acts aren't reported.
+ *   Buffers   A call that writes acts returns the written part of the buffer. With an empty buffer a change is made, and its acts aren't
+ *             reported, as with a length of 0 in nc_host.h.
  *   Programs  All sources of a program should be compiled in one standard, since spans are std::span only where there is one.
  */
 #ifndef NC_HOST_HPP
@@ -114,7 +114,7 @@ constexpr const char *Fault::sentence() const noexcept {
 #undef NC_HPP_NAME_OF
 #undef NC_HPP_SENTENCE_OF
 
-/* Whether a call was refused, and how: by a Fault, or by a type of another library, whose number() is 0 if nothing was refused. */
+/* Whether a call was refused, and how. `Why` is Fault, or a type of another library. Its number() is 0 if nothing was refused. */
 template <class T, class Why = Fault>
 class Result;
 
@@ -131,7 +131,7 @@ class [[nodiscard]] Result<void, Why> {
     Why fault_;
 };
 
-/* A value, or the fault for which there is none. If there is a fault, value() is a default-constructed value: 0, nothing, or empty. */
+/* A value, or the fault for which there is none. If there is a fault, value() is default-constructed, so it is 0, nothing, or empty. */
 template <class T, class Why>
 class [[nodiscard]] Result : public Result<void, Why> {
   public:
@@ -180,7 +180,7 @@ inline Result<Acts> written(NcChange change, Buffer acts) noexcept {
     return Acts(acts.first(change.count));
 }
 
-/* The value where there is no fault. */
+/* The value if there is no fault, else the fault. */
 template <class T>
 Result<T> told(std::uint32_t fault, T value) noexcept {
     if (fault != NC_OK) {
@@ -202,7 +202,7 @@ inline Result<Segments> loaded_segments(Bytes file, Span<NcSegment> buffer) noex
     return Segments(buffer.first(found.count));
 }
 
-/* nc_host_image. No lock: no thread may be inside yet. */
+/* nc_host_image. No lock, but no thread may be inside yet. */
 inline Result<void> fill_image(std::uint32_t base, Bytes code, Span<std::uint8_t> image) noexcept {
     NcVerdict verdict = nc_host_image(base, code.data(), code.size(), image.data(), image.size());
     return Fault(verdict.fault, verdict.at);
@@ -216,10 +216,10 @@ class Seat {
   public:
     Seat() noexcept = default;
 
-    /* nc_seat_check_in. No lock; only while the seat's thread is outside. */
+    /* nc_seat_check_in. No lock. The host may call it only while the seat's thread is outside. */
     Result<void> check_in() noexcept { return Fault(nc_seat_check_in(handle_.get())); }
 
-    /* nc_seat_leave. No lock; the seat is empty then. */
+    /* nc_seat_leave. No lock. The host may call it only when the seat's thread is outside for good. The seat is empty afterwards. */
     void leave() noexcept { nc_seat_leave(handle_.get()); }
 
     NcSeat *handle() noexcept { return handle_.get(); }
@@ -349,7 +349,7 @@ class Region {
         return detail::written(nc_region_create(handle(), base, code.data(), code.size(), acts.data(), acts.size()), acts);
     }
 
-    /* nc_region_load. Under the lock. The chunk is empty then; after a refusal it still has what it had. */
+    /* nc_region_load. Under the lock. Afterwards the chunk's value is empty. After a refusal it is as it was. */
     Result<Acts> load(Vetted &vetted, Buffer acts) noexcept {
         return detail::written(nc_region_load(handle(), vetted.handle(), acts.data(), acts.size()), acts);
     }
@@ -359,10 +359,10 @@ class Region {
         return detail::written(nc_region_patch(handle(), at, bytes.data(), bytes.size(), acts.data(), acts.size()), acts);
     }
 
-    /* A deletion: nc_region_begin_delete; then `make(deletion)`, which makes its acts in the host's memory; then nc_region_end_delete, whose
-       stamp is returned. Under the lock, all of it. If the first call is refused, `make` isn't called. So the last call is made once, and
-       after the acts. Only an exception from `make` leaves it out: the region then refuses changes until resume_delete, since a stamp that
-       was drawn before the stops are in place would free the span too early. */
+    /* Deletes a chunk, under the lock. It calls nc_region_begin_delete, and then `make(deletion)`, which makes the acts in the host's
+       memory. Then it calls nc_region_end_delete, and returns its stamp. If the first call is refused, `make` isn't called. So the last
+       call is made once, and after the acts. Only an exception from `make` leaves it out. The region then refuses changes until
+       resume_delete, since a stamp that was drawn before the stops are in place would free the span too early. */
     template <class Make>
     Result<std::uint64_t> delete_chunk(std::uint32_t base, Buffer acts, Make &&make) {
         NcChange begun = nc_region_begin_delete(handle(), base, acts.data(), acts.size());
@@ -372,8 +372,9 @@ class Region {
         return end_delete(acts.first(begun.count), make);
     }
 
-    /* delete_chunk from the second step on, for a deletion whose `make` threw an exception. It has no acts, so `make` asks for the runs, and
-       makes all of them: those that were made before are stops already. NC_NOT_BEGUN, and no call of `make`, if no deletion is under way. */
+    /* Goes on from the second step of delete_chunk, for a deletion whose `make` threw an exception. Under the lock. The deletion has no
+       acts, so `make` asks for the runs. It makes all of them, since those that were made before are stops already. If no deletion is under
+       way, the fault is NC_NOT_BEGUN, and `make` isn't called. */
     template <class Make>
     Result<std::uint64_t> resume_delete(Make &&make) {
         NcChange wanted = nc_region_deletion_runs(handle(), nullptr, 0);
@@ -475,10 +476,10 @@ void visit_run(std::uint32_t bits, Put put) {
 } // namespace detail
 
 /*
- * Goes through acts in their order, and through the puts of a run one by one: visitor.put(at, byte), visitor.settle(),
- * visitor.mark(at, length) and visitor.bump(). `code` is the code of the chunk at `base`, and the source of the bytes of NC_PUT_RUN; only
+ * Goes through acts in their order, and through the puts of a run one by one. It calls visitor.put(at, byte), visitor.settle(),
+ * visitor.mark(at, length) and visitor.bump(). `code` is the code of the chunk at `base`, and the source of the bytes of NC_PUT_RUN. Only
  * nc_region_creation_runs writes such acts. Returns false, and calls nothing, if nc_host.h doesn't name an act's kind, or if a run needs
- * bytes that `code` doesn't have. No call of the library is made; the host holds its lock around making the acts.
+ * bytes that `code` doesn't have. It makes no call of the library. The host holds its lock around making the acts.
  */
 template <class Visitor>
 [[nodiscard]] bool visit(Acts acts, std::uint32_t base, Bytes code, Visitor &&visitor) {
@@ -512,7 +513,7 @@ template <class Visitor>
     return true;
 }
 
-/* As above, for acts without NC_PUT_RUN: those of every call except nc_region_creation_runs. */
+/* Goes through acts without NC_PUT_RUN, which are those of every call except nc_region_creation_runs. */
 template <class Visitor>
 bool visit(Acts acts, Visitor &&visitor) {
     return visit(acts, 0, Bytes(), std::forward<Visitor>(visitor));

@@ -4,16 +4,16 @@
  * It needs C++17, and neither exceptions nor RTTI. A member makes the call of the library that its comment names. nc_sandbox.h says what
  * that call promises, and what it asks of the host. This header is trusted, as the library is.
  *
- *   Values      Module and Box own what they stand for. They are moved and never copied. A default-constructed and a moved-from value are
- *               empty and may be used: their calls are refused, a call of a function with NCS_HOST. A module's code stays until its last
- *               box is gone, so the module may go first.
+ *   Values      Module owns a module, and Box a box. They are moved and never copied. A default-constructed and a moved-from value are
+ *               empty and may be used. Their calls are refused. A call of a function then ends with NCS_HOST. A module's code stays until
+ *               its last box is gone, so the module may go first.
  *   Call-backs  A box keeps its call-backs, with what they capture, until it is destroyed. A call-back that throws ends its call with
  *               NCS_DENIED. The exception is thrown on from Access::call, once no untrusted code is left between.
  *   Threads     One thread at a time uses a Box. Any thread may use a Killer, and any number of them a Module that isn't assigned to.
  *   Lives       A box is neither destroyed nor assigned to while a call of it is under way. If a call-back does that to its own box, the
  *               box and its call-backs are left behind, and never freed.
- *   Numbers     What has another size in a box than here can't be an argument or a result: a pointer, and long, which is also size_t,
- *               int64_t and uint64_t. Say std::uint32_t or long long.
+ *   Numbers     A type that has another size in a box than here can't be an argument or a result. Such types are pointers and long, and so
+ *               size_t, int64_t and uint64_t, which are long here. Say std::uint32_t or long long.
  */
 #ifndef NC_SANDBOX_HPP
 #define NC_SANDBOX_HPP
@@ -85,7 +85,8 @@ class [[nodiscard]] End {
 
 /* ---- Modules */
 
-/* The function in which a place of the code lies, null if none is known, and how far the place is behind its beginning. */
+/* The name of the function in which an address of the code lies, and the distance in bytes from its beginning. The name is null if no
+   function is known. */
 struct Place {
     const char *name = nullptr;
     std::uint32_t offset = 0;
@@ -208,7 +209,7 @@ struct State {
 
 } // namespace detail
 
-/* What a box and a caller have in common: calls, and memory. Functions that work on either take an Access &. */
+/* The calls and the memory that a Box and a Caller give access to. Functions that work on either take an Access &. */
 class Access {
   public:
     Access(const Access &) = delete;
@@ -225,20 +226,20 @@ class Access {
         return run(function, count, words);
     }
 
-    /* ncs_at. Empty unless all of it is the box's. It is valid until the box is destroyed, and a call changes what is there. */
+    /* ncs_at. The range is empty unless all of it is the box's. It is valid until the box is destroyed, and a call changes its bytes. */
     Span<std::uint8_t> bytes(At at, std::size_t len) noexcept {
         void *data = box() != nullptr && len <= NCS_MEMORY_MAX ? ncs_at(box(), at, static_cast<std::uint32_t>(len)) : nullptr;
         return data != nullptr ? Span<std::uint8_t>(static_cast<std::uint8_t *>(data), len) : Span<std::uint8_t>();
     }
 
-    /* ncs_set, and ncs_get. They return whether all was copied. */
+    /* ncs_set and ncs_get. They return whether all was copied. If not, nothing was. */
     [[nodiscard]] bool set(At at, Bytes from) noexcept { return set(at, from.data(), from.size()); }
     [[nodiscard]] bool set(At at, std::string_view from) noexcept { return set(at, from.data(), from.size()); }
     [[nodiscard]] bool get(Span<std::uint8_t> to, At at) noexcept {
         return box() != nullptr && to.size() <= NCS_MEMORY_MAX && ncs_get(box(), to.data(), at, static_cast<std::uint32_t>(to.size())) != 0;
     }
 
-    /* ncs_text, cut to so many bytes without the 0. Nothing if it leaves the box. */
+    /* ncs_text. Returns the text, cut to `most` bytes without the 0, or nothing if it leaves the box. */
     std::optional<std::string> text(At at, std::size_t most) {
         std::string to(most < NCS_MEMORY_MAX ? most + 1 : NCS_MEMORY_MAX, '\0');
         long len = box() != nullptr ? ncs_text(box(), to.data(), to.size(), at) : -1;
@@ -249,7 +250,7 @@ class Access {
         return to;
     }
 
-    /* ncs_take, and ncs_put. 0 if there is no room. */
+    /* ncs_take and ncs_put. They return 0 if there is no room. */
     At take(std::size_t len) noexcept {
         return box() != nullptr && len <= NCS_MEMORY_MAX ? At(ncs_take(box(), static_cast<std::uint32_t>(len))) : At();
     }
@@ -394,9 +395,9 @@ class Box : public Access {
         return Result<Box>(std::move(box));
     }
 
-    /* ncs_callback, with anything that can be called in one way: a function, a lambda, a std::function. Its first parameter may be a
-       Caller &, and the others are what the code passes: integers up to 64 bits, and addresses. It returns such a one, or nothing. It is
-       called again while it is under way if it calls code that calls back. Its address; 0 if it isn't given. */
+    /* ncs_callback, with anything that can be called in one way, such as a function, a lambda or a std::function. Its first parameter may
+       be a Caller &. The others are the arguments of the code, which are integers up to 64 bits and addresses. It returns one of these, or
+       nothing. It is called again while it is under way if it calls code that calls back. Returns its address, or 0 if it isn't given. */
     template <class F>
     At callback(F &&function) {
         using Stored = detail::CallableOf<std::decay_t<F>>;

@@ -92,7 +92,7 @@ T next(const std::uint32_t *&from) noexcept {
 
 /* ---- What functions take */
 
-/* What a function takes from the code: R(Caller &, P...) or R(P...). */
+/* The arguments that a function takes from the code. It is an R(Caller &, P...) or an R(P...). */
 template <class Function>
 struct Signature;
 

@@ -1,20 +1,21 @@
 /*
- * nc_run.h: what a program can call when nc-run runs it. For code that nc-cc compiles: it finds this header and links the calls.
+ * nc_run.h: the calls of a program that nc-run runs. It is for code that nc-cc compiles, which finds this header and links the calls.
  *
  *     #include <nc_run.h>
  *     int start(int argc, char **argv) { return nc_write(1, "hello\n", 6) != 6; }
  *
  * Start      nc-run calls the entry, `start`, as C for i386 does. argv[0] is the file as the command line names it, the other words follow,
- *            and argv[argc] is null. What `start` returns is the program's status; the low 8 bits count.
+ *            and argv[argc] is null. The low 8 bits of the number that `start` returns are the program's status.
  * Memory     From the end of the data, `_end`, to nc_memory() the memory is free for the program to use. The words of argv lie above. The
- *            stack grows down from the data to 00010000: 64 MiB, or as much as nc-cc --data leaves.
- * Errors     A call that fails returns a negative number, -9 for EBADF. Errors have the numbers of Linux. A pointer outside the memory is
- *            EFAULT. Nothing is done then.
- * Files      0, 1 and 2 are nc-run's own, with EBADF if they aren't open. A program gets others by nc_open, at most 64 in all.
- * Addresses  Call k is at 00000100 + 32 k, nc_exit at 00000040. The arguments lie on the stack above the address to return to; 64 bits are
- *            two words. The result is in EAX, or in EDX and EAX. These two and ECX are overwritten, and no other register.
+ *            stack grows down from the data to 00010000. It has 64 MiB, or as much as nc-cc --data leaves.
+ * Errors     A call that fails returns a negative number, such as -9 for EBADF. Errors have the numbers of Linux. A pointer outside the
+ *            memory is EFAULT, unless it is to 0 bytes. A call with EFAULT does nothing.
+ * Files      0, 1 and 2 are nc-run's own. A call on one that isn't open is EBADF. A program gets others by nc_open, and has at most 64 in
+ *            all.
+ * Addresses  Call k is at 00000100 + 32 k, and nc_exit at 00000040. The arguments lie on the stack above the address to return to. One of
+ *            64 bits is two words. The result is in EAX, or in EDX and EAX. A call overwrites these two and ECX, and no other register.
  *
- *     k  address   call                    result                   errors, beside those that the file's system has, such as EIO
+ *     k  address   call                    result                   errors, besides those of the file system, such as EIO
  *     -  00000040  exit(status)            none
  *     0  00000100  read(file, to, len)     bytes; 0 at the end      EBADF, EFAULT, EAGAIN if the file doesn't wait
  *     1  00000120  write(file, from, len)  bytes                    EBADF, EFAULT, EAGAIN, EPIPE, ENOSPC, EFBIG
@@ -41,12 +42,12 @@
     CALL(6, lseek, 4) \
     CALL(7, size, 1)
 
-/* What nc_clock reads, in nanoseconds: the time since 1970; since some moment, without steps; and the processor time of nc-run. */
-#define NC_CLOCK_REAL 0
-#define NC_CLOCK_STEADY 1
-#define NC_CLOCK_PROCESSOR 2
+/* The clocks of nc_clock, which counts nanoseconds. */
+#define NC_CLOCK_REAL 0      /* since 1970 */
+#define NC_CLOCK_STEADY 1    /* since some moment, without steps */
+#define NC_CLOCK_PROCESSOR 2 /* of processor time that nc-run has used */
 
-/* How nc_open opens: one of the first three, with any of the others. The numbers are those of Linux for i386. */
+/* How nc_open opens a file. `how` is one of the first three numbers, with any of the others. They are those of Linux for i386. */
 #define NC_OPEN_READ 0
 #define NC_OPEN_WRITE 1
 #define NC_OPEN_BOTH 2
@@ -59,33 +60,33 @@
 extern "C" {
 #endif
 
-/* Ends the program; the low 8 bits of the status count. */
+/* Ends the program, with the low 8 bits of the status. */
 __attribute__((noreturn)) void nc_exit(int status);
 
-/* Read or write at most `len` bytes, and return how many: 0 at the end of a file. Fewer than `len` are no error. A read waits until there
-   are some. A write that nobody reads any more is EPIPE. */
+/* Read or write at most `len` bytes, and return their number, which is 0 at the end of a file. Fewer than `len` are no error. A read waits
+   until there are some, unless the file doesn't wait, which is EAGAIN. A write that nobody reads any more is EPIPE. */
 int nc_read(int file, void *to, unsigned len);
 int nc_write(int file, const void *from, unsigned len);
 
-/* A clock in nanoseconds. EINVAL for another one. */
+/* Returns the time of a clock, in nanoseconds. EINVAL for a number that is no clock. */
 long long nc_clock(int clock);
 
-/* The end of the memory that the program may use. */
+/* Returns the address at which the memory ends that the program may use. */
 unsigned nc_memory(void);
 
-/* Opens a regular file below the folder of nc-run --dir or --dir-rw, and returns its number, the least that is free. `mode` counts if a
-   file is created. EACCES without such a folder, for a path that leads out of it, and for devices and pipes; EISDIR for a folder; EROFS for
-   more than reading, without --dir-rw; EMFILE if the program has 64 files; EINVAL for another way to open. */
+/* Opens a regular file below the folder of nc-run --dir or --dir-rw, and returns its number, the least that is free. The low 9 bits of
+   `mode` count if a file is created. EACCES without such a folder, for a path that leads out of it, and for devices and pipes. EISDIR for a
+   folder. EROFS for more than reading, without --dir-rw. EMFILE if the program has 64 files. EINVAL for another way to open. */
 int nc_open(const char *path, int how, unsigned mode);
 
-/* Any file can be closed, and its number is given again. */
+/* Closes a file, which may be 0, 1 or 2. nc_open may then give its number again. */
 int nc_close(int file);
 
-/* Sets where the next read or write begins, and returns it: `from` is 0 for the file's beginning, 1 for the present place, 2 for its end.
-   ESPIPE for a pipe. */
+/* Sets the place at which the next read or write begins, and returns it, in bytes from the file's beginning. `offset` counts from the
+   beginning if `from` is 0, from the present place if it is 1, and from the file's end if it is 2. ESPIPE for a pipe. */
 long long nc_lseek(int file, long long offset, int from);
 
-/* A regular file's length in bytes. ESPIPE for anything else. */
+/* Returns a regular file's length in bytes. ESPIPE for anything else. */
 long long nc_size(int file);
 
 #ifdef __cplusplus

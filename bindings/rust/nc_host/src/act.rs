@@ -17,14 +17,14 @@ pub enum Act {
         /// The byte.
         byte: u8,
     },
-    /// The addresses from `at` on get the chunk's marks; a host that keeps no marks does nothing.
+    /// Give the addresses from `at` on the chunk's marks. A host that keeps no marks does nothing.
     Mark {
         /// The first of the addresses.
         at: u32,
         /// The number of the addresses.
         length: u32,
     },
-    /// Draw the stamp of a deletion: [`Deletion::finish`](crate::Deletion::finish) does it.
+    /// Draw the stamp of a deletion, which [`Deletion::finish`](crate::Deletion::finish) does.
     Bump,
     /// Make every processor that runs a thread of the host serialize.
     Settle,
@@ -95,7 +95,7 @@ impl<'a> Acts<'a> {
     }
 
     /// The acts with each run written out as the [`Act::Put`]s for which it stands. `code` is the code of the chunk at `base`, from which the
-    /// bytes of an [`Act::PutRun`] come; a run whose bundle isn't in it stays as it is. Only
+    /// bytes of an [`Act::PutRun`] come. An [`Act::PutRun`] whose bundle isn't in `code` stays as it is. Only
     /// [`Region::creation_runs`](crate::Region::creation_runs) writes such runs, so for other acts `(0, &[])` is enough.
     pub fn written_out(self, base: u32, code: &'a [u8]) -> WrittenOut<'a> {
         WrittenOut { rest: self.raw.iter(), base, code, run: Run { at: 0, places: 0, is_stops: true } }
@@ -129,7 +129,7 @@ pub struct WrittenOut<'a> {
 }
 
 impl WrittenOut<'_> {
-    /// The code from this address on, where a whole bundle of it is there.
+    /// The code from this address on, if it has a whole bundle there.
     fn bundle(&self, at: u32) -> Option<&[u8]> {
         let from = at.checked_sub(self.base)? as usize;
         self.code.get(from..)?.get(..crate::BUNDLE)

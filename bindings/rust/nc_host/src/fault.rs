@@ -4,8 +4,8 @@ use crate::ffi;
 use std::error::Error;
 use std::fmt;
 
-/// Writes the enum and what is said of each fault. The first two names are those of a fault's address or program header, and of a length
-/// that is enough.
+/// Writes the enum, and the number, name and sentence of each fault. The first name is that of a fault's address or program header. The
+/// second is that of a length that is enough.
 macro_rules! faults {
     ($at:ident, $enough:ident; $($variant:ident $({ $field:ident: $of:ty })? = $number:literal, $name:literal, $sentence:literal;)*) => {
         /// Why a call was refused. The numbers and the sentences are those of nc_host.h.
@@ -40,7 +40,7 @@ macro_rules! faults {
                 }
             }
 
-            /// What it says, such as `the base is not a multiple of 32, or is below the region`, or `?`.
+            /// Its sentence in nc_host.h, such as `the base is not a multiple of 32, or is below the region`, or `?`.
             pub fn sentence(self) -> &'static str {
                 match self {
                     $(Fault::$variant { .. } => $sentence,)*
@@ -125,7 +125,7 @@ faults! {
 }
 
 impl Fault {
-    /// `Ok` where the number is `NC_OK`.
+    /// `Ok` if the number is `NC_OK`.
     pub(crate) fn check(number: u32, at: u32, enough: usize) -> Result<(), Fault> {
         Fault::of(number, at, enough).map_or(Ok(()), Err)
     }
@@ -140,7 +140,7 @@ impl Fault {
         }
     }
 
-    /// The number of the program header, counted from 0, of a fault that is about a segment.
+    /// The number of the program header of a fault in a segment, counted from 0.
     pub fn header(self) -> Option<u32> {
         match self {
             Fault::ElfBeyondFile { at }

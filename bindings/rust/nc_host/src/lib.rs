@@ -1,16 +1,17 @@
 //! A safe interface of the C library `nc_host`: regions of proved Native Client code, the seats of their threads, and vetted chunks.
 //!
 //! Each method makes the call of the library that its documentation names, and `include/nc_host.h` says what that call promises. Nothing is
-//! proved of this crate. Of the calls on code alone those of a host that loads code once are functions here ([`fill_image`],
-//! [`loaded_segments`]). The others, such as `nc_host_vet`, are declared in [`ffi`] only.
+//! proved of this crate. Of the calls on code alone [`fill_image`] and [`loaded_segments`] are functions here, for a host that loads code
+//! once. The others, such as `nc_host_vet`, are declared in [`ffi`] only.
 //!
-//! What the header asks of handles is kept by types: [`Region`], [`Seat`] and [`Vetted`] own theirs, free or leave when they are dropped, and
-//! are never empty; `&mut` keeps calls on one of them apart. A [`Region`] isn't `Sync`: hosts with threads put it behind a lock of their own,
-//! such as a `Mutex`, together with the memory in which they make its acts.
+//! Types keep the header's rules for handles. [`Region`], [`Seat`] and [`Vetted`] own theirs, and are never empty. They free or leave when
+//! they are dropped. `&mut` keeps calls on one of them apart. A [`Region`] isn't `Sync`. A host with threads puts it behind a lock of its own,
+//! such as a `Mutex`, together with the memory in which it makes the acts.
 //!
-//! What no type can keep stays with the host: the memory that is executed, and that its acts are made in their order, each put as one atomic
-//! store of one byte; the segments and the ways in and out; when a thread checks in. `docs/EMBEDDING.md` has all of it. No call may be made
-//! from a signal handler, or in the forked child of a process with threads, and a thread that makes calls needs 64 KiB of stack.
+//! No type can keep the other duties of the host. It owns the memory that is executed, and makes the acts there in their order, each put as
+//! one atomic store of one byte. It makes the segments and the ways in and out, and decides when a thread checks in. `docs/EMBEDDING.md`
+//! lists all duties. No call of this crate may be made from a signal handler, or in the forked child of a process with threads. A thread that
+//! makes calls needs 64 KiB of stack.
 //!
 //! ```
 //! use nc_host::{Act, Fault, RawAct, Region, BUNDLE, START};

@@ -6,7 +6,7 @@ use std::cell::UnsafeCell;
 use std::fmt;
 use std::ptr;
 
-/// A region: its chunks, bytes and marks, the stamps and the check-ins. Dropping it is `nc_region_free`.
+/// A region, with its chunks, bytes, marks, stamps and check-ins. Dropping it is `nc_region_free`.
 ///
 /// Each call that changes the region writes the acts of the change into a buffer, and returns the written part. The host makes these acts in
 /// its memory before the next change. A buffer that is too short is [`Fault::NoRoom`], and nothing has changed. An empty buffer means what a
@@ -23,7 +23,7 @@ pub struct Region {
     handle: UnsafeCell<NcRegion>,
 }
 
-// SAFETY: nc_host.h, "Threads" of the calls on handles: a handle may go to another thread if this is ordered, as safe Rust orders whatever it
+// SAFETY: nc_host.h, "Locks": a handle may go to another thread if this is ordered, as safe Rust orders whatever it
 // sends.
 unsafe impl Send for Region {}
 
@@ -44,7 +44,7 @@ impl Region {
         Ok(region)
     }
 
-    /// `nc_region_seat`: one of the seats that wasn't given yet. It is given while a deletion is under way, too.
+    /// `nc_region_seat`: gives one of the seats that weren't given yet, even while a deletion is under way.
     pub fn seat(&mut self) -> Result<Seat, Fault> {
         let mut handle = NcSeat { at: ptr::null_mut() };
         // SAFETY: "Locks"; and "A handle": the seat's is empty.
@@ -70,7 +70,7 @@ impl Region {
         Acts::written(change, buffer).map_err(|fault| NotLoaded { fault, vetted })
     }
 
-    /// `nc_region_patch`: whole instructions in the place of others of the same lengths. A buffer of three acts for each byte is enough.
+    /// `nc_region_patch`: replaces whole instructions with others of the same lengths. A buffer of three acts for each byte is enough.
     pub fn patch<'a>(&mut self, at: u32, bytes: &[u8], buffer: &'a mut [RawAct]) -> Result<Acts<'a>, Fault> {
         let (acts, room) = (buffer.as_mut_ptr(), buffer.len());
         // SAFETY: "Locks" and "Arguments".

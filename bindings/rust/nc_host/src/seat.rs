@@ -5,8 +5,8 @@ use std::fmt;
 
 /// A thread's right to be inside a region, and its report that it is outside. [`Region::seat`](crate::Region::seat) gives it.
 ///
-/// It may outlive the region. Dropping it is `nc_seat_leave`: the seat's thread is outside for good. Neither that nor a check-in needs a lock.
-/// A seat may go to another thread, and only one at a time can use it:
+/// It may outlive the region. Dropping it is `nc_seat_leave`, so the host drops it only when the seat's thread is outside for good. Neither
+/// that nor a check-in needs a lock. A seat may go to another thread, and only one at a time can use it:
 ///
 /// ```compile_fail,E0277
 /// fn is_sync<T: Sync>() {}
@@ -16,7 +16,7 @@ pub struct Seat {
     handle: NcSeat,
 }
 
-// SAFETY: nc_host.h, "Threads" of the calls on handles: a handle may go to another thread if this is ordered, as safe Rust orders whatever it
+// SAFETY: nc_host.h, "Locks": a handle may go to another thread if this is ordered, as safe Rust orders whatever it
 // sends.
 unsafe impl Send for Seat {}
 

@@ -11,7 +11,7 @@ pub struct Vetted {
     pub(crate) handle: NcVetted,
 }
 
-// SAFETY: nc_host.h, "Threads" of the calls on handles: a handle may go to another thread if this is ordered, as safe Rust orders whatever it
+// SAFETY: nc_host.h, "Locks": a handle may go to another thread if this is ordered, as safe Rust orders whatever it
 // sends.
 unsafe impl Send for Vetted {}
 
@@ -43,7 +43,7 @@ impl fmt::Debug for Vetted {
 /// A chunk that a region has refused, and why. `?` turns it into its [`Fault`].
 #[derive(Debug)]
 pub struct NotLoaded {
-    /// Why.
+    /// The fault with which the region refused the chunk.
     pub fault: Fault,
     /// The chunk, as it was.
     pub vetted: Vetted,

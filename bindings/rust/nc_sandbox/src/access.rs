@@ -66,19 +66,19 @@ pub trait Access: sealed::Inside {
         Ok(unsafe { slice::from_raw_parts_mut(data, len) })
     }
 
-    /// `ncs_get`: copies out of the box, until `to` is full.
+    /// Copies out of the box, until `to` is full, as `ncs_get` does. It makes the call `ncs_at`.
     fn get(&self, to: &mut [u8], at: At) -> Result<(), Refusal> {
         to.copy_from_slice(self.bytes(at, to.len())?);
         Ok(())
     }
 
-    /// `ncs_set`: copies into the box.
+    /// Copies all of `from` into the box, as `ncs_set` does. It makes the call `ncs_at`.
     fn set(&mut self, at: At, from: &[u8]) -> Result<(), Refusal> {
         self.bytes_mut(at, from.len())?.copy_from_slice(from);
         Ok(())
     }
 
-    /// `ncs_text`: a copy of a text up to its 0, which isn't copied, cut to `most` bytes.
+    /// `ncs_text`: copies a text up to its 0, which isn't copied, and cuts it to `most` bytes.
     fn text(&self, at: At, most: usize) -> Result<Vec<u8>, Refusal> {
         let mut to = vec![0; most.min(ffi::NCS_MEMORY_MAX as usize) + 1];
         // SAFETY: "Outside", and `to` has room for as many bytes as are named.
@@ -98,7 +98,7 @@ pub trait Access: sealed::Inside {
         }
     }
 
-    /// `ncs_put`: takes room for these bytes, and copies them there.
+    /// Takes room for these bytes, and copies them there, as `ncs_put` does. It makes the calls `ncs_take` and `ncs_at`.
     fn put(&mut self, from: &[u8]) -> Result<At, Refusal> {
         let at = self.take(from.len())?;
         self.set(at, from)?;
@@ -106,7 +106,7 @@ pub trait Access: sealed::Inside {
     }
 }
 
-/// A pointer to as many bytes, all of which are the box's. It isn't null, also for a length of 0.
+/// A pointer to `len` bytes, all of which are the box's. It isn't null, not even for a length of 0.
 fn range(shared: &Shared, at: At, len: usize) -> Result<*mut u8, Refusal> {
     let known = u32::try_from(len).map_err(|_| Refusal::NotInBox { at })?;
     // SAFETY: "Freed once". The call judges the range, and reads and writes nothing.

@@ -62,8 +62,8 @@ impl Slot {
         Arc::new(Slot { shared, args, function: Mutex::new(Some(function)) })
     }
 
-    /// Calls the function, unless it is under way: the code may call back whatever it likes, and there is only one `&mut`. A panic is kept
-    /// for the call that has called back, which ends.
+    /// Calls the function. While it is under way it is denied instead, since the code may call back as it likes and there is only one
+    /// `&mut`. A panic is kept for the call that has called back, and ends that call.
     fn answer(&self, args: &[u32]) -> u64 {
         let mut caller = Caller { shared: &self.shared, one_thread: PhantomData };
         let taken = locked(&self.function).take();
@@ -81,7 +81,7 @@ impl Slot {
     }
 }
 
-/// An `NcsCallback`. No panic leaves it: what may panic is within `catch_unwind`.
+/// An `NcsCallback`. No panic leaves it, since the function runs within `catch_unwind`.
 ///
 /// # Safety
 ///

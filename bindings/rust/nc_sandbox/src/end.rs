@@ -5,8 +5,8 @@ use crate::At;
 use std::error::Error;
 use std::fmt;
 
-/// The end of a call that hasn't returned. `Stopped` and those down to `Denied` leave the box dead until [`Sandbox::reset`]. `place` is
-/// the place in the code at which the call ended.
+/// The end of a call that hasn't returned. `Stopped` and those down to `Denied` leave the box dead until [`Sandbox::reset`], and so do
+/// `BadEntry` and `Host` if something was entered. `place` is the address in the code at which the call ended.
 ///
 /// [`Sandbox::reset`]: crate::Sandbox::reset
 #[non_exhaustive]
@@ -23,7 +23,7 @@ pub enum End {
         place: At,
         /// The interrupt.
         trap: u32,
-        /// The address of the data, of a page fault (interrupt 14).
+        /// The address of the data, for a page fault, which is interrupt 14.
         data: Option<At>,
     },
     /// Its time is over.
@@ -51,9 +51,10 @@ pub enum End {
         /// Where the call-back would have returned to.
         place: At,
     },
-    /// The function isn't at a bundle start of the code, and nothing was entered; or the code was to return to such a place, and is dead.
+    /// The function isn't at a bundle start of the code, and nothing was entered. Or a call-back was to return to an address that isn't
+    /// one, and the box is dead.
     BadEntry {
-        /// The place to which the code was to return; 0 if nothing was entered.
+        /// The address to which the call-back was to return; 0 if nothing was entered.
         place: At,
     },
     /// The thread has too many calls under way, and nothing was entered.
@@ -70,7 +71,7 @@ pub enum End {
 }
 
 impl End {
-    /// `Ok` where the function has returned.
+    /// `Ok` if the function has returned.
     pub(crate) fn check(end: &NcsEnd) -> Result<(), End> {
         let place = At(end.place);
         Err(match end.how {

@@ -3,9 +3,9 @@
 //! Each method makes the call of the library that its documentation names, and `nc_sandbox.h` says what that call promises. This crate
 //! is trusted, as the library is.
 //!
-//! A [`Module`] is code that was accepted, with its data. A [`Sandbox`] is a box, an instance of a module. [`Access`] has what its owner
-//! can do with it: calls, and reading and writing its memory. Call-backs are closures, which get a [`Caller`] that can do the same. A
-//! [`Killer`] ends calls from other threads.
+//! A [`Module`] is code that was accepted, with its data. A [`Sandbox`] is a box, an instance of a module. By [`Access`] its owner calls
+//! it, and reads and writes its memory. Call-backs are closures, which get a [`Caller`] that can do the same. A [`Killer`] ends calls from
+//! other threads.
 //!
 //! Types keep most of what the header asks of its caller. The rest stays with the host:
 //!

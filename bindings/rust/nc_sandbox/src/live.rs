@@ -20,7 +20,7 @@ impl Module {
         Refusal::unless_made(|why| unsafe { ffi::ncs_create(module, base.raw(), from, code.len(), why) })
     }
 
-    /// `ncs_patch`: replaces whole instructions of a chunk, within a bundle, by others of the same lengths.
+    /// `ncs_patch`: replaces whole instructions of a chunk, within a bundle, with others of the same lengths.
     pub fn patch(&self, at: At, code: &[u8]) -> Result<(), Refusal> {
         let (module, from) = (self.handle.as_ptr(), code.as_ptr().cast());
         // SAFETY: as above.

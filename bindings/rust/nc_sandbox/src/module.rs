@@ -32,7 +32,7 @@ impl Module {
         Ok(Module { handle: made })
     }
 
-    /// `ncs_symbol`: the address that a global symbol of the file has. A file may name any number.
+    /// `ncs_symbol`: the address of a global symbol of the file. A file may name any number.
     pub fn symbol(&self, name: &str) -> Option<At> {
         let name = CString::new(name).ok()?;
         // SAFETY: the module is there as long as this value, and the name ends with a 0.
@@ -40,13 +40,13 @@ impl Module {
         (found.at != 0).then_some(At(found.at))
     }
 
-    /// `ncs_entry`: where the file begins, or 00010000 for code alone. A file may name any number.
+    /// `ncs_entry`: the file's entry, or 00010000 for code alone. A file may name any number.
     pub fn entry(&self) -> At {
         // SAFETY: the module is there as long as this value.
         At(unsafe { ffi::ncs_entry(self.handle.as_ptr()) }.at)
     }
 
-    /// `ncs_function_at`: the function of the file in which a place of the code lies, and how far the place is behind its beginning.
+    /// `ncs_function_at`: the function of the file in which an address of the code lies, and its distance in bytes from the beginning.
     pub fn function_at(&self, at: At) -> Option<(&str, u32)> {
         let mut offset = 0;
         // SAFETY: the module is there as long as this value, and the pointer leads to a number.
@@ -55,7 +55,7 @@ impl Module {
         Some((unsafe { text(name) }?, offset))
     }
 
-    /// `ncs_function_in`: the same for a file whose code was refused.
+    /// `ncs_function_in`: as [`Module::function_at`], for a file whose code was refused.
     pub fn function_in(file: &[u8], at: At) -> Option<(&str, u32)> {
         let mut offset = 0;
         // SAFETY: the pointers lead to as many bytes as the slice has, and to a number.

@@ -7,7 +7,7 @@ use std::ffi::{c_int, CStr};
 use std::fmt;
 use std::ptr;
 
-/// Why there is no module, no box, no change, no range or no room. Everything is as it was.
+/// Why there is no module, no box, no change, no range or no room. Everything is as it was, unless it is [`Refusal::NotReset`].
 #[non_exhaustive]
 #[derive(Clone, Copy, Debug, PartialEq, Eq, Hash)]
 pub enum Refusal {
@@ -19,7 +19,7 @@ pub enum Refusal {
         fault: u32,
         /// The address of the fault; 0 for a fault without one.
         at: At,
-        /// What it says.
+        /// The fault's sentence in `nc_host.h`.
         sentence: &'static str,
     },
     /// A limit is 0 or too large, or there is less memory than the data needs.
@@ -39,32 +39,32 @@ pub enum Refusal {
     BadChange {
         /// The number of the fault in `nc_host.h`.
         fault: u32,
-        /// What it says.
+        /// The fault's sentence in `nc_host.h`.
         sentence: &'static str,
     },
     /// A range isn't all the box's, or a text leaves the box.
     NotInBox {
-        /// Where it begins.
+        /// The address at which the range or the text begins.
         at: At,
     },
     /// The heap has no room for this.
     NoRoom,
     /// The box has 64 call-backs, or the one that was to be given has more than 12 arguments.
     NoCallback,
-    /// The system has refused to reset the box, which is dead, or this is a forked child.
+    /// The system has refused to reset the box, which is now dead. Or this is a forked child, and nothing was done.
     NotReset,
     /// A kind that this crate doesn't know, from a newer library.
     Other(&'static str),
 }
 
 impl Refusal {
-    /// What was refused by the call, which gets a place for the reason; else the pointer that it returns.
+    /// The pointer that a call returns, or its refusal if that is null. The call gets a place for the refusal.
     pub(crate) fn or<T>(call: impl FnOnce(*mut NcsRefusal) -> *mut T) -> Result<ptr::NonNull<T>, Refusal> {
         let mut why = NcsRefusal { kind: ffi::NCS_OK, fault: 0, at: 0, sentence: ptr::null() };
         ptr::NonNull::new(call(&mut why)).ok_or_else(|| Refusal::of(why))
     }
 
-    /// The same for a change, of which the call says whether it was made.
+    /// `Ok` if a change was made, as its call says, or else its refusal. The call gets a place for the refusal.
     pub(crate) fn unless_made(call: impl FnOnce(*mut NcsRefusal) -> c_int) -> Result<(), Refusal> {
         let mut why = NcsRefusal { kind: ffi::NCS_OK, fault: 0, at: 0, sentence: ptr::null() };
         match call(&mut why) {

@@ -13,11 +13,11 @@ use std::sync::{Arc, Weak};
 /// What a box may use.
 #[derive(Clone, Copy, Debug, PartialEq, Eq, Hash)]
 pub struct Limits {
-    /// Bytes of memory: data, heap and stack are below this address. A multiple of 4096, at most 1 GiB.
+    /// Bytes of memory. Data, heap and stack are below this address. A multiple of 4096, at most 1 GiB.
     pub memory: u32,
-    /// Calls that one thread may have under way at once, with those of other boxes: 1 to 64.
+    /// Calls that one thread may have under way at once, and those of other boxes count. 1 to 64.
     pub depth: u32,
-    /// Milliseconds of processor time of the calling thread, for a call with its call-backs: from 1.
+    /// Milliseconds of processor time of the calling thread, for a call with its call-backs. 1 or more.
     pub milliseconds: u32,
 }
 
@@ -64,7 +64,7 @@ impl Sandbox {
     }
 
     /// `ncs_callback`: gives the box a call-back with so many 32-bit arguments, at most 12, and returns its address. The box keeps it until
-    /// it is dropped, also over a reset. What it returns goes to EDX and EAX.
+    /// it is dropped, also over a reset. Its result goes to EDX and EAX.
     ///
     /// If it panics, the call of the code that has called back ends with [`End::Denied`](crate::End::Denied), and the panic is resumed from
     /// [`Access::call`]. It is denied a second call while it is under way, which the code of the box may try when the call-back calls it.
@@ -107,8 +107,8 @@ impl Sandbox {
         Ok(At(given.at))
     }
 
-    /// `ncs_reset`: gives the box its first memory again, and revives it. Its call-backs stay. A kill that hasn't ended a call is taken
-    /// back.
+    /// `ncs_reset`: gives the box its first memory again, and revives it. Its call-backs stay. The reset takes back a kill that hasn't
+    /// ended a call.
     pub fn reset(&mut self) -> Result<(), Refusal> {
         // SAFETY: "One thread" and "Outside": nobody has a range of its memory.
         let made = unsafe { ffi::ncs_reset(self.shared.raw()) };

@@ -28,7 +28,7 @@ unsafe impl Send for Shared {}
 unsafe impl Sync for Shared {}
 
 impl Shared {
-    /// It owns the box.
+    /// A value that owns the box.
     pub(crate) fn of(raw: NonNull<NcsBox>) -> Shared {
         Shared { raw, panic: Mutex::new(None) }
     }
@@ -37,7 +37,7 @@ impl Shared {
         self.raw.as_ptr()
     }
 
-    /// Where a panic waits that has to be resumed when the call has come out.
+    /// The panic that has to be resumed when the call has come out, if there is one.
     pub(crate) fn panic(&self) -> MutexGuard<'_, Option<Payload>> {
         locked(&self.panic)
     }
