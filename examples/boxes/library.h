@@ -1,4 +1,4 @@
-/* A library in a box, and files: what the hosts of this folder share. */
+/* A library in a box, and files, for all hosts of this folder. */
 #ifndef LIBRARY_H
 #define LIBRARY_H
 

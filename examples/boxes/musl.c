@@ -1,5 +1,5 @@
-/* What a library with musl finds in a box: `begin`, which the host calls once, and a heap. No system call leaves the box. For nc-cc, with
-   musl's inner headers (build). It runs inside, so nobody has to trust it. */
+/* The surroundings of a library with musl in a box, which are `begin`, called by the host once, and a heap. No system call leaves the box.
+   For nc-cc, with musl's inner headers. It runs inside, so nobody has to trust it. */
 
 #include "heap.h"
 #include "setup.h"

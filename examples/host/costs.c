@@ -1,12 +1,12 @@
 /*
- * What the calls on a region by its handle cost, in nanoseconds a call: the best of some rounds.
+ * Measures the calls on a region by its handle, in nanoseconds a call. Each number is that of the best of ROUNDS rounds.
  *
  *     costs COUNT BUNDLES ROUNDS [SEATS]
  *
  * A round makes a region with SEATS seats (default 1), creates COUNT chunks of BUNDLES bundles of ordinary code in it, patches and deletes
  * each of them, and reclaims all once each seat has checked in. Creations, patches and deletions are made with a buffer for their acts, and
- * without one; creations and deletions also without one and then with their acts as runs. Beside them stand a call that only vets, the
- * loading of vetted chunks, a check-in, and the making of a largest region. docs/PERFORMANCE.md has numbers.
+ * without one. Creations and deletions are also made without one, and then their acts are written as runs. Other rows are a call that only
+ * vets, the loading of vetted chunks, a check-in, and the making of a largest region. docs/PERFORMANCE.md has numbers.
  */
 #define _POSIX_C_SOURCE 199506L
 #include "nc_host.h"

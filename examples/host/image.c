@@ -1,11 +1,11 @@
 /*
- * What vetting, creating, walking and deleting chunks of real code costs, by a region's handle.
+ * Measures how long it takes to vet, create, walk and delete chunks of real code, by a region's handle.
  *
  *     image FILE LENGTH COUNT STEPS
  *
- * A chunk has LENGTH bytes: the code of FILE, whole bundles of raw code, as often as it fits, and then nops. COUNT chunks are vetted and
- * then created in a region of the largest size; walks go over STEPS places, from bundle starts and by choices that are drawn; and the chunks
- * are deleted. There is one round, since new chunks come into new memory. docs/PERFORMANCE.md has numbers.
+ * A chunk has LENGTH bytes. They are the code of FILE, which is whole bundles of raw code, as often as it fits, and then nops. COUNT chunks
+ * are vetted, and created in a region of the largest size. Walks go over STEPS places, from bundle starts and by choices that are drawn. Then
+ * the chunks are deleted. There is one round, since new chunks come into new memory. docs/PERFORMANCE.md has numbers.
  */
 #define _POSIX_C_SOURCE 199506L
 #include "nc_host.h"

@@ -1,9 +1,9 @@
 /*
- * A host in C with a region by a handle: memory of its own follows the region by the acts that each call writes. Before, it decodes, and has
- * code judged without a region.
+ * A host in C with a region by a handle. Memory of its own follows the region by the acts that each call writes. Before that it decodes
+ * instructions, and has code judged without a region.
  *
  * It executes nothing. After each call it compares its memory with the region's bytes. tools/try/host compiles it as C and as C++ and
- * compares what it prints with region.txt.
+ * compares its output with region.txt.
  */
 #define NC_FAULT_NAMES
 #include "nc_host.h"

@@ -3,9 +3,9 @@
  *
  *     script BUNDLES SEATS [acts|runs]
  *
- * It executes nothing. Memory of its own follows the region by the acts that each change writes; after each line both must hold the same
- * bytes, or it says where they differ and ends. With the word `acts` each act is printed below the reply to its line. With `runs` too, and
- * then those of creations and deletions are taken as runs, and written out.
+ * It executes nothing. Memory of its own follows the region by the acts that each change writes. After each line both must hold the same
+ * bytes, or it says where they differ and ends. With the word `acts` it prints each act below the reply to its line. With `runs` it prints
+ * the acts too, but takes those of creations and deletions as runs, and writes them out.
  */
 #include "nc_host.h"
 

@@ -3,11 +3,11 @@
  *
  *     threads [--seconds N] [--control]
  *
- * It executes nothing: what the threads read in the host's memory they interpret, instruction by instruction, byte after byte. A chunk's
- * instructions are loads of its name, four equal bytes, at places that differ from chunk to chunk. So a thread that stands in one chunk
- * while another one is put there, or that reads an instruction before it is whole, finds a name of unequal bytes or a byte that begins
- * nothing: it is astray. With --control the host draws the stamp of a deletion before its stops stand in the memory, and threads go
- * astray. tools/try/host compiles it as C and as C++.
+ * It executes nothing. The threads read the host's memory byte after byte, and interpret its instructions. A chunk's instructions are loads
+ * of its name, which is four equal bytes, at places that differ from chunk to chunk. A thread is astray if it finds a name of unequal bytes,
+ * or a byte that begins nothing. So it is if it stands in one chunk while another one is put there, or if it reads an instruction before
+ * that is whole. With --control the host draws the stamp of a deletion before its stops stand in the memory, and threads go astray.
+ * tools/try/host compiles it as C and as C++.
  */
 #define _POSIX_C_SOURCE 199506L
 #define NC_FAULT_NAMES

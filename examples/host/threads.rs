@@ -1,7 +1,7 @@
 //! A host in Rust whose threads are inside a region, held by a handle, while it is patched and its chunks are deleted and replaced.
 //!
-//! What threads.c does, by the same calls. A `Region` owns its handle and frees it when it is dropped, and a `Seat` leaves: neither can be
-//! copied, so what the header asks of handles is kept by Rust. A `Region` isn't `Sync`, so calls on it are made one at a time.
+//! It does the same as threads.c, by the same calls. A `Region` owns its handle and frees it when it is dropped, and a `Seat` leaves. Neither
+//! can be copied, so Rust keeps the header's rules for handles. A `Region` isn't `Sync`, so calls on it are made one at a time.
 //!
 //!     threads [--seconds N] [--control]
 

@@ -4,7 +4,7 @@
  * is thrown away.
  *
  * Status 0: each sum is right. 1: a line says WRONG. 2: a change was refused, or standard output can't be written. 77: the system refuses
- * what live code needs.
+ * the calls that live code needs.
  */
 #include "generate.h"
 

@@ -1,11 +1,11 @@
-/* What the programs of this folder share: how often one works, what it works on, and a checksum of what it makes. */
+/* The common part of the programs of this folder: the number of their rounds, their input, and a checksum of their output. */
 #ifndef PORT_H
 #define PORT_H
 
 #include <stddef.h>
 #include <stdlib.h>
 
-/* The first word of the command line says how often; once where there is none. */
+/* The number of rounds, which is the first word of the command line, or 1 if there is none. */
 static inline int rounds_of(int argc, char **argv) {
     return argc > 1 ? atoi(argv[1]) : 1;
 }

@@ -2,7 +2,7 @@
  * Untrusted code in boxes, and code that changes while threads run it: sandbox PROGRAM [SECONDS]. `build` compiles it, and PROGRAM.
  *
  * Status 0: all is as it has to be. 1: a line says ASTRAY. 2: the command line is wrong, a file can't be read, a change is refused, or
- * standard output can't be written. 3: PROGRAM was refused. 77: the system refuses what boxes need.
+ * standard output can't be written. 3: PROGRAM was refused. 77: the system refuses the calls that boxes need.
  */
 #include "nc_sandbox.h"
 

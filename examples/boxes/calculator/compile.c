@@ -1,4 +1,4 @@
-/* A compiler for a machine with a stack. No instruction crosses the end of a bundle. What it gets wrong nc_host refuses. */
+/* A compiler for a machine with a stack. No instruction crosses the end of a bundle. nc_host refuses its mistakes. */
 #include "compile.h"
 
 #include <stdlib.h>

@@ -1,4 +1,4 @@
-/* What the programs of this folder share. */
+/* The functions that the programs of this folder share. */
 #include "costs.h"
 
 #include <stdio.h>

@@ -1,4 +1,4 @@
-/* What boxes cost, beside code without a box and beside other processes: `costs` in the folder that `build` has made. */
+/* Compares the costs of boxes with those of code without a box and of other processes. Run `costs` in the folder that `build` has made. */
 #define _GNU_SOURCE
 #include "costs.h"
 #include "../library.h"

@@ -1,4 +1,4 @@
-/* native32: for each line KIND FILE of its input it does the job, and prints the processor time in ns and what came of it. */
+/* native32: for each line KIND FILE of its input it does the job, and prints the processor time in ns and the result. */
 #include "costs.h"
 
 #include <stdio.h>

@@ -1,4 +1,4 @@
-/* Fails to compile where png_image isn't what host.c takes it for. */
+/* Fails to compile if png_image hasn't the layout that host.c assumes. */
 #include <stddef.h>
 #include "png.h"
 
