@@ -91,7 +91,7 @@ const char *ncs_function_at(const NcsModule *module, NcsAt at, uint32_t *offset)
 /* As ncs_function_at, for a file whose code was refused. The name is in the file. */
 const char *ncs_function_in(const void *file, size_t len, NcsAt at, uint32_t *offset);
 
-/* Frees a module. Its memory goes when its last box is freed. Null is allowed. */
+/* Frees a module. Its code and data stay until its last box is freed. Null is allowed. */
 void ncs_module_free(NcsModule *module);
 
 /* ---- Live code */
