@@ -299,7 +299,7 @@ void threads() {
     CHECK(killer.kill() && brief.reset() && killer.kill() && brief.reset());
 }
 
-// In a forked child every call is refused, and values may go all the same.
+// In a forked child calls, resets and new boxes are refused, and values may go all the same.
 void children() {
     ncs::Box box = new_box();
     std::fflush(stdout);

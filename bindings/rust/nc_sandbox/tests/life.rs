@@ -459,7 +459,7 @@ fn no_call_when_a_thread_ends() -> Outcome {
     })
 }
 
-/// In a forked child each call is refused, and values may be dropped all the same.
+/// In a forked child calls, resets and new boxes are refused, and values may be dropped all the same.
 #[test]
 fn children() -> Outcome {
     extern "C" {
