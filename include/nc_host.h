@@ -417,8 +417,8 @@ NcWalk nc_region_walk(NcRegion *region, uint32_t start, const uint32_t *choices,
 NcStamp nc_region_generation(NcRegion *region);
 
 /* Reports that the seat's thread is outside, by one load and one store, both memory_order_seq_cst.
-   Promised: the store has the generation that was loaded, which is no less than any before (HasCheckedIn) [checked_in]. The call waits for
-   no thread, not even one stuck in a creation [tested].
+   Promised: it stores the generation that it loaded, which is no less than any before (HasCheckedIn) [checked_in]. The call waits for no
+   thread, not even one stuck in a creation [tested].
    Refused: only an empty handle [nothing].
    Not promised: that the thread is outside (duty 17). */
 uint32_t nc_seat_check_in(NcSeat *seat);
