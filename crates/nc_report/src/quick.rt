@@ -154,9 +154,9 @@ fn read_four(classes: &mut [Class], code: &[u8], at: usize) -> usize
     d.put(classes, at + 96, third)
 }
 
-/// If a bundle begins at a place, reads four from there, or one where fewer are left. The classes of those before the first at
-/// whose end no instruction ends are written over as many that are `Inside`: their instructions are all allowed. Returns the
-/// place up to which classes are written.
+/// If a bundle begins at a place, reads four from there, or one where fewer are left. The instructions before the first bundle at
+/// whose end none ends are all allowed, and their classes are written over as many that are `Inside`. Returns the place up to which
+/// classes are written.
 #[inline(always)]
 pub(crate) fn read_bundles(classes: &mut [Class], code: &[u8], at: usize) -> usize
     requires bundles { length code.now % 32 ≡ 0 }

@@ -12,6 +12,7 @@ pub mod LaneBits
 pub mod RunStates
 pub mod EightRuns
 pub mod BitPlaces
+pub mod GoodOffsets
 pub mod LowestBits
 pub mod PlaceLists
 pub mod BitReading

@@ -1,13 +1,12 @@
 -- A chunk is valid or has one fault.
-use Rattle.std.proofs.Common.{◌≡◌, ◌≢◌, ◌↔◌, ℕ, ◌+◌, List, [], ◌∷◌, ◌++◌, length, refl, sym, subst, ◌∙◌, ap, arith, append-nil}
-use Rattle.std.proofs.lemmas.List.{length-append}
+use Rattle.std.proofs.Common.{◌≡◌, ◌≢◌, ◌↔◌, ℕ, ◌+◌, List, ◌∷◌, ◌++◌, length, refl, sym, subst, ◌∙◌}
 use Rattle.nc_decode.specs.declared.instruction.Mark.{Mark}
 use Rattle.nc_decode.specs.Transfers.{target}
 use Rattle.nc_vet.specs.declared.fault.VetFault.{VetFault}
 use Rattle.nc_vet.specs.declared.fault.VetFault.TheVariants.{BadBase, BadLength, OutOfRange, NotPermitted, Crosses, Bare, BadTarget}
 use Rattle.nc_vet.specs.declared.fault.VetFault.TheVariants.{OutOfMemory}
-use Rattle.nc_vet.specs.Chunk.{Piece, code_of, place, IsBase, IsLength, IsInRange, IsTarget, MarkedChunk, IsValid}
-use Rattle.nc_vet.specs.Faults.{IsStuck, HasFirstBadTarget, HasGoodSpan, HasFault}
+use Rattle.nc_vet.specs.Chunk.{Piece, place, IsBase, IsLength, IsInRange, IsTarget, MarkedChunk, IsValid}
+use Rattle.nc_vet.specs.Faults.{HasFirstBadTarget, HasGoodSpan, HasFault}
 use Rattle.nc_vet.proofs.OneReading.{same_pieces}
 use Rattle.nc_vet.proofs.Stuck.{sound_not_stuck}
 

@@ -1,7 +1,7 @@
 -- A chunk has one verdict: at most one fault besides lack of memory, and one list of marks.
-use Rattle.std.proofs.Common.{◌≡◌, ℕ, ◌+◌, List, [], ◌∷◌, ◌++◌, length, refl, sym, subst, ◌∙◌, ap, arith, inl, inr, append-nil}
+use Rattle.std.proofs.Common.{◌≡◌, ℕ, ◌+◌, List, ◌∷◌, ◌++◌, refl, sym, subst, ◌∙◌, ap, arith, inl, inr, append-nil}
 use Rattle.std.proofs.Common.{append_assoc}
-use Rattle.std.proofs.lemmas.List.{length-append, append_cancel_left}
+use Rattle.std.proofs.lemmas.List.{append_cancel_left}
 use Rattle.nc_decode.specs.Transfers.{target}
 use Rattle.nc_vet.specs.declared.fault.VetFault.{VetFault}
 use Rattle.nc_vet.specs.declared.fault.VetFault.TheVariants.{BadBase, BadLength, OutOfRange, NotPermitted, Crosses, Bare, BadTarget}

@@ -31,6 +31,7 @@ mod fault;
 mod lane;
 mod lanes;
 mod law;
+mod lists;
 mod marks;
 mod reading;
 mod targets;

@@ -9,9 +9,10 @@ ghost use Rattle.nc_vet.specs.Listed.{listed};
 ghost use Rattle.nc_vet.specs.machinery.Running.{AreBitsTold};
 ghost use Rattle.nc_vet.specs.machinery.Steps.{HasReadAll, HasNoBadTargetAt, HasBadTargetAt, HasJudged, HasJudgedAll};
 
+use crate::lists::judged_bundles;
 use crate::marks::Marks;
-use crate::transfers::judged_bundles;
 use nc_decode::{BUNDLE, Instr, Mark, bundle_rest, decode, is_bundle_start, may_transfer};
+use std::alloc::Global;
 
 /// Whether the mark is that of an instruction other than the second half of a pair.
 fn is_plain(mark: Mark) -> bool
@@ -83,21 +84,27 @@ fn has_bad_target_at(base: u32, limit: u32, code: &[u8], marks: &Marks, at: usiz
 
 /// A place before which all direct transfers have permitted targets. If the marks are kept as bits, the code is judged by
 /// them, up to the first two bundles with a bad target.
-fn judged_front(base: u32, limit: u32, code: &[u8], marks: &Marks) -> usize
+fn judged_front(alloc: Global, base: u32, limit: u32, code: &[u8], marks: &Marks) -> usize
     requires read { HasReadAll code.now (listed code.now marks.now) }
     requires told { AreBitsTold code.now marks.now }
     requires fits { base + length code.now < 2 ^ 32 }
     ensures { HasJudged base limit code.now (listed code.now marks.now) result }
 {
     match marks {
-        Marks::Bits(bundles) => BUNDLE as usize * judged_bundles(base, limit, code, bundles),
+        Marks::Bits(bundles) => BUNDLE as usize * judged_bundles(alloc, base, limit, code, bundles),
         Marks::Each(_) => 0,
     }
 }
 
 /// The address of the first direct transfer whose target isn't permitted. Only instructions that may be direct transfers by
 /// their first byte are decoded a second time.
-pub(crate) fn bad_target(base: u32, limit: u32, code: &[u8], marks: &Marks) -> Option<u32>
+pub(crate) fn bad_target(
+    alloc: Global,
+    base: u32,
+    limit: u32,
+    code: &[u8],
+    marks: &Marks,
+) -> Option<u32>
     requires read { HasReadAll code.now (listed code.now marks.now) }
     requires told { AreBitsTold code.now marks.now }
     requires bundles { length code.now % 32 ≡ 0 }
@@ -105,7 +112,7 @@ pub(crate) fn bad_target(base: u32, limit: u32, code: &[u8], marks: &Marks) -> O
     ensures good { IfNone result (HasJudgedAll base limit code.now (listed code.now marks.now)) }
     ensures bad { IfSome result (HasFirstBadTarget base limit code.now) }
 {
-    let mut at = judged_front(base, limit, code, marks);
+    let mut at = judged_front(alloc, base, limit, code, marks);
     while at < code.len() {
         if has_bad_target_at(base, limit, code, marks, at) {
             return Some(base + at as u32);

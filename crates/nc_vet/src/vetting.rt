@@ -44,7 +44,7 @@ pub fn judge(alloc: Global, base: u32, limit: u32, code: &[u8]) -> Result<Marks,
 {
     check_span(base, limit, code.len())?;
     let marks = read(alloc, base, code)?;
-    match bad_target(base, limit, code, &marks) {
+    match bad_target(alloc, base, limit, code, &marks) {
         Some(at) => Err(VetFault::BadTarget { at }),
         None => Ok(marks),
     }

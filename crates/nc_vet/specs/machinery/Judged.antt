@@ -1,9 +1,9 @@
 -- The targets of direct transfers, by the bits of bundles; machinery of the proofs, cited by no public contract.
-use Rattle.std.specs.Prelude.{◌≡◌, ℕ, ◌+◌, ◌-◌, ◌*◌, ◌/◌, ◌%◌, ◌^◌, ◌<◌, ◌≤◌, List, length, drop, get_or, slice_index}
+use Rattle.std.specs.Prelude.{◌≡◌, ℕ, ◌+◌, ◌-◌, ◌*◌, ◌/◌, ◌%◌, ◌^◌, ◌<◌, ◌≤◌, true, false, List, length, drop, get_or, slice_index}
 use Rattle.std.specs.Int.{bit_at, w8, w32, cast_signed, cast_unsigned, from_le_bytes}
 use Rattle.nc_decode.specs.declared.instruction.Mark.TheVariants.{Plain}
 use Rattle.nc_decode.specs.declared.bundle.Bundle.{Bundle}
-use Rattle.nc_decode.specs.Bits.{no_bits, mark_by_bits}
+use Rattle.nc_decode.specs.Bits.{starts_instruction, is_second, no_bits, mark_by_bits}
 
 -- the target of a transfer whose displacement is the byte at place k
 abbrev pub short_to : ℕ → List ℕ → ℕ → ℕ
@@ -17,6 +17,14 @@ near_to base code k = (base + k + 1 + cast_unsigned w32 (cast_signed w32 (from_l
 pub record IsGood (base limit : ℕ) (code : List ℕ) (bundles : List Bundle) (to : ℕ) : Type 0 where
   pub inside : base ≤ to → to - base < length code → mark_by_bits code bundles (to - base) ≡ Plain
   pub outside : (base ≤ to → to - base < length code → ⊥) → (to % 32 ≡ 0) × (to < limit)
+
+-- one word for each bundle; its bit k is set only if an instruction that isn't the second half of a pair begins at byte k
+pub record AreStarts (bundles : List Bundle) (starts : List ℕ) : Type 0 where
+  pub start : (n k : ℕ) → n < length bundles → k < 32 → bit_at (get_or starts n 0) k ≡ 1
+      → starts_instruction (get_or bundles n no_bits) k ≡ true
+  pub second : (n k : ℕ) → n < length bundles → k < 32 → bit_at (get_or starts n 0) k ≡ 1
+      → is_second (get_or bundles n no_bits) k ≡ false
+  pub long : length starts ≡ length bundles
 
 -- the transfers with one-byte displacements and these last bytes, counted from `start`, have permitted targets
 abbrev pub AreGoodShorts : ℕ → ℕ → List ℕ → List Bundle → ℕ → ℕ → Type 0

@@ -1,7 +1,7 @@
 use Rattle.std.proofs.Common.{◌≤◌, ◌-◌, length}
 use Rattle.nc_vet.specs.machinery.Judged.{AreJudged}
 use Rattle.nc_vet.specs.machinery.Lists.{AreBelow}
-use Rattle.nc_vet.proofs.transfers.judged_by_lists.Given as goal
+use Rattle.nc_vet.proofs.lists.judged_by_lists.Given as goal
 
 abbrev pub invariant-loop-n : goal.invariant-loop-n
 invariant-loop-n l = record {

@@ -1,8 +1,9 @@
-use Rattle.std.proofs.Common.{ℕ, ◌<◌, get_or, subst, arith, rules}
+use Rattle.std.proofs.Common.{ℕ, ◌<◌, length, take, get_or, subst, arith, rules}
+use Rattle.std.proofs.lemmas.List.{get_or-take, length-take}
 use Rattle.nc_vet.specs.machinery.Judged.{IsGoodEnd}
 use Rattle.nc_vet.specs.machinery.Lists.{AreBelow}
 use Rattle.nc_vet.proofs.PlaceLists.{zeros_below, judged_by}
-use Rattle.nc_vet.proofs.transfers.judged_by_lists.Goals as goal
+use Rattle.nc_vet.proofs.lists.judged_by_lists.Goals as goal
 
 pub loop-n-init : goal.loop-n-init
 loop-n-init c = record {
@@ -20,9 +21,14 @@ list_transfers-count-requires-clause-small c =
 
 pub loop-n-preserved : goal.loop-n-preserved
 loop-n-preserved c =
-    let good : (i : ℕ) → i < c.list_transfers-count.result.0
-    → IsGoodEnd c.args.base c.args.limit c.args.code.now c.args.bundles.now (get_or c.list_transfers-count.new.list i 0)
+    let count = c.list_transfers-count.result.0 in
+    let list = c.list_transfers-count.new.list in
+    let every : (i : ℕ) → i < length (take count list)
+    → IsGoodEnd c.args.base c.args.limit c.args.code.now c.args.bundles.now (get_or (take count list) i 0)
     = search (rules, c.are_good.ensures) in
+    let good : (i : ℕ) → i < count → IsGoodEnd c.args.base c.args.limit c.args.code.now c.args.bundles.now (get_or list i 0)
+    = λ i lt. subst (IsGoodEnd c.args.base c.args.limit c.args.code.now c.args.bundles.now) (get_or-take count list i 0 lt)
+    (every i (omega (arith, lt, length-take count list, c.list_transfers-count.ensures.room))) in
     record {
       judged = judged_by c.args.base c.args.limit c.args.code.now c.args.bundles.now c.list_transfers-count.new.list
           c.list_transfers-count.result.0 c.loop-n.n c.list_transfers-count.result.1 c.list_transfers-count.ensures.within

@@ -1,6 +1,6 @@
 use Rattle.std.proofs.Common.{◌≡◌, ◌≤◌, ◌+◌, ◌-◌, length, count_ones}
 use Rattle.nc_vet.specs.machinery.Lists.{HasAdded}
-use Rattle.nc_vet.proofs.transfers.add_rest.Given as goal
+use Rattle.nc_vet.proofs.lists.add_rest.Given as goal
 
 abbrev pub invariant-loop-left : goal.invariant-loop-left
 invariant-loop-left l = record {

@@ -1,6 +1,6 @@
 use Rattle.std.proofs.Common.{◌≡◌, length}
 use Rattle.nc_vet.specs.machinery.Lists.{HasAdded}
-use Rattle.nc_vet.proofs.transfers.add_usual.Given as goal
+use Rattle.nc_vet.proofs.lists.add_usual.Given as goal
 
 abbrev pub invariant-loop-i : goal.invariant-loop-i
 invariant-loop-i l = record {

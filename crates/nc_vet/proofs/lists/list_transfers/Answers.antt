@@ -3,7 +3,7 @@ use Rattle.std.proofs.lemmas.Bool.{cases_eq}
 use Rattle.std.proofs.lemmas.Nat.{ones-le}
 use Rattle.nc_vet.specs.machinery.Lists.{AreListed}
 use Rattle.nc_vet.proofs.PlaceLists.{listed_two}
-use Rattle.nc_vet.proofs.transfers.list_transfers.Goals as goal
+use Rattle.nc_vet.proofs.lists.list_transfers.Goals as goal
 
 pub loop-n-init : goal.loop-n-init
 loop-n-init c = record {

@@ -2,7 +2,7 @@ use Rattle.std.proofs.Common.{ℕ, ◌+◌, refl, subst, ◌∙◌, arith}
 use Rattle.std.proofs.lemmas.List.{length-set}
 use Rattle.nc_vet.specs.machinery.Lists.{HasAdded}
 use Rattle.nc_vet.proofs.PlaceLists.{none_added, one_added}
-use Rattle.nc_vet.proofs.transfers.add_usual.Goals as goal
+use Rattle.nc_vet.proofs.lists.add_usual.Goals as goal
 
 pub loop-i-init : goal.loop-i-init
 loop-i-init c = record { added = none_added c.args.list.now c.args.start c.args.from c.args.bits; long = c.told-list }

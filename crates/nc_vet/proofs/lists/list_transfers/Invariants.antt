@@ -1,6 +1,6 @@
 use Rattle.std.proofs.Common.{◌≡◌, ◌≤◌, ◌*◌, ◌-◌, length}
 use Rattle.nc_vet.specs.machinery.Lists.{AreBelow, AreListed}
-use Rattle.nc_vet.proofs.transfers.list_transfers.Given as goal
+use Rattle.nc_vet.proofs.lists.list_transfers.Given as goal
 
 abbrev pub invariant-loop-n : goal.invariant-loop-n
 invariant-loop-n l = record {

@@ -1,7 +1,7 @@
 use Rattle.std.proofs.Common.{◌∙◌, ap, arith, ℕ, count_ones}
 use Rattle.std.specs.Int.{bit_at}
 use Rattle.nc_vet.proofs.LowestBits.{lowest_in_word, others_stay, one_fewer, one_less, lowest_found}
-use Rattle.nc_vet.proofs.transfers.lowest_or_last.Goals as goal
+use Rattle.nc_vet.proofs.lists.lowest_or_last.Goals as goal
 
 pub returns-clause-place : goal.returns-clause-place
 returns-clause-place c = lowest_in_word c.args.bits (omega (arith, c.ranges.bits))

@@ -3,7 +3,7 @@ use Rattle.std.proofs.lemmas.List.{length-set}
 use Rattle.std.proofs.lemmas.Nat.{ones-le}
 use Rattle.nc_vet.specs.machinery.Lists.{HasAdded}
 use Rattle.nc_vet.proofs.PlaceLists.{none_added, some_ones, one_added, all_added}
-use Rattle.nc_vet.proofs.transfers.add_rest.Goals as goal
+use Rattle.nc_vet.proofs.lists.add_rest.Goals as goal
 
 pub loop-left-init : goal.loop-left-init
 loop-left-init c = record {
