@@ -36,6 +36,9 @@
 #define JUMP "\xEB\x1E" NOPS30                                   /* to the next bundle */
 #define RETURN "\xC3" NOPS30 "\x90"                              /* refused */
 #define JUMPS "\xEB\x3C" NOPS30 NOPS30 "\xEB\xC0"                /* at both ends of two bundles, each to the other */
+#define JUMP8 JUMP JUMP JUMP JUMP JUMP JUMP JUMP JUMP
+#define JUMP64 JUMP8 JUMP8 JUMP8 JUMP8 JUMP8 JUMP8 JUMP8 JUMP8
+#define ASTRAY "\xEB\xFF" NOPS30                                 /* refused: into itself */
 #define SEVERAL "\xEB\xFE" NUMBER PAIR NOPS9 NOPS9 "\x90\x90"    /* a jump to itself, and some more */
 
 /* A text as bytes and their number: two arguments. */
@@ -80,6 +83,7 @@ static void need(bool holds) {
 /* ---- Calls that take memory */
 
 static uint32_t vet(void) { return nc_host_vet(base, LIMIT, BYTES(code)).fault; }
+static uint32_t vet_many(void) { return nc_host_vet(base, NC_LIMIT(100), BYTES(code)).fault; }
 static uint32_t mark(void) { return nc_host_marks(base, LIMIT, BYTES(code), buffers.marks, sizeof buffers.marks).fault; }
 static uint32_t image(void) { return nc_host_image(base, BYTES(code), buffers.image, sizeof buffers.image).fault; }
 static uint32_t new_region(void) { return nc_region_new(BUNDLES, 1, &region); }
@@ -303,6 +307,8 @@ static void show_walk(void) {
 static const Call calls[] = {
     {"vet", JUMP, NO_REGION, 0, 0, vet, show_marks},
     {"vet-return", RETURN, NO_REGION, 0, 0, vet, show_marks},
+    {"vet-many", JUMP64 JUMP JUMP, NO_REGION, 0, 0, vet_many, show_marks},
+    {"vet-many-astray", JUMP64 JUMP ASTRAY, NO_REGION, 0, 0, vet_many, show_marks},
     {"marks-pair", NOPS27 PAIR, NO_REGION, 0, 0, mark, show_marks},
     {"marks-jumps", JUMPS, NO_REGION, 0, 0, mark, show_marks},
     {"image", JUMP, NO_REGION, 0, 1, image, show_image},
