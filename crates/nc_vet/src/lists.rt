@@ -22,7 +22,7 @@ const MOST: usize = 64;
 /// The number of places that are written for two bundles even if they have fewer transfers: few have more.
 const USUAL: usize = 6;
 
-/// The number of bundles from which on lists pay. Fewer are judged two at a time, which is as fast where the processor has learnt
+/// The number of bundles from which on lists pay. Fewer are judged two at a time, which is faster where the processor has learnt
 /// their branches, and needs no memory.
 const MANY: usize = 64;
 

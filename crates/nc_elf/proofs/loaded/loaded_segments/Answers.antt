@@ -1,4 +1,4 @@
-use Rattle.std.proofs.Common.{Err, ap, subst}
+use Rattle.std.proofs.Common.{Err, ap, subst, rules}
 use Rattle.nc_elf.specs.declared.fault.ElfFault.{ElfFault}
 use Rattle.nc_elf.specs.declared.fault.LoadedFault.TheVariants.{Refused}
 use Rattle.nc_elf.specs.Header.{e_phnum}
@@ -18,3 +18,6 @@ returns-clause-loadable c = all_loadable c.args.file.now (e_phnum c.args.file.no
 
 pub returns-clause-apart : goal.returns-clause-apart
 returns-clause-apart c = all_below c.args.file.now (e_phnum c.args.file.now) c.in_default.ensures.fine.good
+
+pub returns-then-count-room-clause-fault : goal.returns-then-count-room-clause-fault
+returns-then-count-room-clause-fault c = search rules

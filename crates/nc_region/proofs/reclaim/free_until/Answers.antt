@@ -1,4 +1,4 @@
-use Rattle.std.proofs.Common.{◌≡◌, ℕ, List, [], length, take, refl, ap, ◌∙◌, arith}
+use Rattle.std.proofs.Common.{◌≡◌, ℕ, List, [], length, take, refl, ap, ◌∙◌, arith, rules}
 use Rattle.std.proofs.lemmas.List.{length-take-le}
 use Rattle.nc_list.specs.declared.chunk.Chunk.{Chunk}
 use Rattle.nc_region.specs.machinery.Freeing.{AreFreed}
@@ -67,3 +67,6 @@ returns-then-count-eq0-clause-none g c = λ no.
 
 pub returns-then-count-enough-clause-freed : goal.returns-then-count-enough-clause-freed
 returns-then-count-enough-clause-freed g c = so_far g (goal.at.returns-then-count-enough-clause-freed g c).After-unmark_taken
+
+pub returns-then-count-enough-clause-none : goal.returns-then-count-enough-clause-none
+returns-then-count-enough-clause-none g c = search rules

@@ -1,4 +1,4 @@
-use Rattle.std.proofs.Common.{◌<◌, get_or, ◌≡◌, ◌+◌, ℕ, Option, None, arith, cond, subst, ◌==◌}
+use Rattle.std.proofs.Common.{◌<◌, get_or, ◌≡◌, ◌+◌, ℕ, Option, None, arith, cond, subst, ◌==◌, rules}
 use Rattle.nc_report.specs.machinery.Seen.{HasFilled}
 use Rattle.nc_report.proofs.QuickReading.{masked_at_start, none_masked_past}
 use Rattle.nc_report.proofs.quick.read_four.Goals as goal
@@ -10,6 +10,9 @@ loop-i-init c = record {
   c = c.new-c.ensures _;
   d = c.new-d.ensures _;
 }
+
+pub loop-i-preserved : goal.loop-i-preserved
+loop-i-preserved c = search rules
 
 pub returns : goal.returns
 returns c =

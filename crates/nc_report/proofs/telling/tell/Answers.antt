@@ -1,4 +1,4 @@
-use Rattle.std.proofs.Common.{ℕ, true, false, inl, inr, refl, ap, ◌∙◌}
+use Rattle.std.proofs.Common.{ℕ, true, false, inl, inr, refl, ap, ◌∙◌, rules}
 use Rattle.std.specs.Global.{Vec}
 use Rattle.nc_report.specs.Report.{Tells}
 use Rattle.nc_report.proofs.Additions.{begun_any}
@@ -17,3 +17,6 @@ returns-clause-cut g c =
     let code = c.deref-in-Err.ensures.value ∙ ap (λ (v : Vec ℕ). v.items) c.in-Err.ensures.given_back in
     begun_any (Tells c.args.limit c.args.base c.args.style source.name.items source.code.items) _ true _ _
     (λ text t. inr (refl, rw (c.deref-in-Err-2.ensures.value, code) at t)) c.in-Err-tell_refused.ensures.cut
+
+pub returns-in-Ok-tell_refused-clause-ok : goal.returns-in-Ok-tell_refused-clause-ok
+returns-in-Ok-tell_refused-clause-ok g c = search rules

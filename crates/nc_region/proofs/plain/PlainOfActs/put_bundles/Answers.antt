@@ -28,3 +28,6 @@ put_bundles-requires-clause-keeps g c =
 pub put_bundles-requires-clause-closed : goal.put_bundles-requires-clause-closed
 put_bundles-requires-clause-closed g c =
     chunk_joins c.self.inside.text.marked c.args.at c.args.code.now (marks_in c.args.code.now c.args.bundles.now) (joins g c)
+
+pub returns-clause-logged : goal.returns-clause-logged
+returns-clause-logged g c = λ _. rw (sym c.self.view_is) c.note.ensures

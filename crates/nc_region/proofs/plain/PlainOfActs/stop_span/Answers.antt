@@ -1,4 +1,4 @@
-use Rattle.std.proofs.Common.{sym, subst}
+use Rattle.std.proofs.Common.{sym, subst, rules}
 use Rattle.nc_text.specs.Places.{limit_of}
 use Rattle.nc_region.specs.Chunks.{HasGoodSpan}
 use Rattle.nc_region.specs.Region.{PlainState}
@@ -10,3 +10,6 @@ stop_span-requires-clause-closed g c =
     stops_closed c.self.inside.text.marked c.args.at c.args.len
     (subst (λ (p : PlainState). HasGoodSpan c.args.at (limit_of p.marked.bytes) c.args.len) (sym c.self.view_is) c.requires.placed)
     c.limit-facts.ensures.whole.closed
+
+pub returns-clause-logged : goal.returns-clause-logged
+returns-clause-logged g c = search rules
