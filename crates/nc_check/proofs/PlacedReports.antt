@@ -123,9 +123,9 @@ slice_back (x ∷ old) (y ∷ new) zero e long = absurd (omega (arith, e))
 slice_back (x ∷ old) (y ∷ new) (suc n) e long = ap (λ (z : List _). y ∷ z) (slice_back old new n (omega (arith, e)) (omega (arith, long)))
 
 -- what holds of two lists side by side holds at each index
-pub zip_at : {A B : Type 0} (R : A → B → Type 0) (xs : List A) (ys : List B) (k : ℕ) (d : A) (e y : B) → AllZip R xs ys → k < length xs
-    → y ≡ get_or ys k e → R (get_or xs k d) y
-zip_at R [] ys k d e y h below is = absurd (omega (arith, below))
-zip_at R (a ∷ xs) [] k d e y h below is = absurd h
-zip_at R (a ∷ xs) (b ∷ ys) zero d e y h below is = subst (λ z. R a z) (sym is) h.0
-zip_at R (a ∷ xs) (b ∷ ys) (suc k) d e y h below is = zip_at R xs ys k d e y h.1 (omega (arith, below)) is
+pub zip_at : {A B : Type 0} (R : A → B → Type 0) (xs : List A) (ys : List B) (k : ℕ) (d : A) (y : B) → AllZip R xs ys → k < length xs
+    → y ≡ get_or ys k y → R (get_or xs k d) y
+zip_at R [] ys k d y h below e = absurd (omega (arith, below))
+zip_at R (a ∷ xs) [] k d y h below e = absurd h
+zip_at R (a ∷ xs) (b ∷ ys) zero d y h below e = subst (λ z. R a z) (sym e) h.0
+zip_at R (a ∷ xs) (b ∷ ys) (suc k) d y h below e = zip_at R xs ys k d y h.1 (omega (arith, below)) e

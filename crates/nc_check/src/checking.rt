@@ -1,6 +1,6 @@
 //! Judging files, one round after another.
 
-ghost use Rattle.std.specs.Prelude.{◌≡◌, ◌<◌, None, length, slice_index_or};
+ghost use Rattle.std.specs.Prelude.{◌<◌, length};
 ghost use Rattle.std.specs.List.{AllZip};
 ghost use Rattle.nc_check.specs.Reports.{FitsFile};
 
@@ -95,17 +95,6 @@ fn print_place<R: Threads + Wait + Sync + AllocGlobal + Input + Files + Print + 
     }
 }
 
-/// The place of the file of this number in a round.
-fn place_of(places: &[Option<Report>], number: usize) -> &Option<Report>
-    requires { number < length places.now }
-    ensures { result.now ≡ slice_index_or places.now number None }
-{
-    match places.get(number) {
-        Some(place) => place,
-        None => unreachable!(),
-    }
-}
-
 /// Prints the report on the file of this number in a round.
 fn print_number<R: Threads + Wait + Sync + AllocGlobal + Input + Files + Print + Eprint>(
     rt: &R,
@@ -118,7 +107,10 @@ fn print_number<R: Threads + Wait + Sync + AllocGlobal + Input + Files + Print +
     requires below { number < length files.now }
     requires places { AllZip (λ file place. FitsFile ask.now file.now place) files.now places.now }
 {
-    print_place(rt, ask, state, files[number], place_of(places, number))
+    match places.get(number) {
+        Some(place) => print_place(rt, ask, state, files[number], place),
+        None => unreachable!(),
+    }
 }
 
 /// Prints the reports on the files of a round, in the order of the files.
