@@ -1,4 +1,4 @@
-use Rattle.std.proofs.Common.{◌≡◌, length, arith, sym, ◌∙◌, Result, Ok, Err, IfOk, OnErr, true, false}
+use Rattle.std.proofs.Common.{◌≡◌, refl, length, arith, sym, ◌∙◌, Result, Ok, Err, IfOk, OnErr, true, false}
 use Rattle.std.specs.Result.{is_err}
 use Rattle.nc_text.specs.Places.{limit_of}
 use Rattle.nc_text.specs.Ready.{AreReady}
@@ -36,6 +36,9 @@ returns-then-limit-clause-refused g c = λ same. c.if-limit.true (c.limit.ensure
 
 pub returns-in_default-clause-only : goal.returns-in_default-clause-only
 returns-in_default-clause-only g c = ready_same _ _ _
+
+pub returns-in_default-clause-others : goal.returns-in_default-clause-others
+returns-in_default-clause-others g c = (refl, refl, refl)
 
 pub returns-in_default-clause-refused : goal.returns-in_default-clause-refused
 returns-in_default-clause-refused g c = (

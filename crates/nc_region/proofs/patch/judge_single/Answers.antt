@@ -33,6 +33,9 @@ returns-then-not-spares_pair-clause-refused g c =
           cc,
     )
 
+pub returns-then-not-spares_pair-clause-can : goal.returns-then-not-spares_pair-clause-can
+returns-then-not-spares_pair-clause-can g c = tt
+
 pub returns-then-not-goes_well-clause-refused : goal.returns-then-not-goes_well-clause-refused
 returns-then-not-goes_well-clause-refused g c =
     let marked = g.A.Acts.marked c.args.acts.now in

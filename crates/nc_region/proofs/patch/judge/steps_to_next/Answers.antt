@@ -38,3 +38,6 @@ returns-clause-between c = λ k some lt.
 
 pub returns-clause-next : goal.returns-clause-next
 returns-clause-next c = λ lt. behind c.args.places c.args.from c.lowest_place-steps.result.0 ∙ c.lowest_place-steps.ensures.set
+
+pub returns-clause-some : goal.returns-clause-some
+returns-clause-some c = omega arith

@@ -31,3 +31,6 @@ put_bundles-requires-clause-closed g c =
 
 pub returns-clause-logged : goal.returns-clause-logged
 returns-clause-logged g c = λ _. rw (sym c.self.view_is) c.note.ensures
+
+pub returns-clause-marked : goal.returns-clause-marked
+returns-clause-marked g c = λ _. rw (sym c.self.view_is) c.put_bundles.ensures.marked

@@ -13,3 +13,6 @@ stop_span-requires-clause-closed g c =
 
 pub returns-clause-logged : goal.returns-clause-logged
 returns-clause-logged g c = search rules
+
+pub returns-clause-marked : goal.returns-clause-marked
+returns-clause-marked g c = rw (sym c.self.view_is) c.stop_span.ensures.marked
