@@ -1,4 +1,0 @@
-mod Listed
-mod Labelled
-mod WrittenReports
-mod PlacedReports

@@ -1,4 +1,1 @@
 pub mod Status
-pub mod Parts
-pub mod Reports
-pub mod Places

@@ -3,8 +3,8 @@ use Rattle.std.specs.Prelude.{ℕ}
 use Rattle.clap.specs.Values.{kind_of}
 use Rattle.clap.specs.declared.error.kind.ErrorKind.{ErrorKind}
 use Rattle.clap.specs.declared.error.kind.ErrorKind.TheVariants.{DisplayHelp, DisplayVersion}
-use Rattle.nc_check.specs.declared.outcome.Halt.{Halt}
-use Rattle.nc_check.specs.declared.outcome.Halt.TheVariants.{Words, Files}
+use Rattle.nc_check.specs.declared.halt.Halt.{Halt}
+use Rattle.nc_check.specs.declared.halt.Halt.TheVariants.{Words, Files}
 
 -- the exit status for the words of the command line: 0 if they ask for help or the version, else 2
 abbrev pub words_status : ErrorKind → ℕ

@@ -1,30 +1,17 @@
 //! The program `nc_check`: files of code, and the verdict on each.
 //!
-//! `ask_check` of `nc_command` parses the command line. `checking` goes through the files, one round after another, and prints
-//! the reports; `working` lets workers judge the files of a round, each into a report that `buffered` holds, and puts the reports
-//! into the places of their files. `judging` judges one file: `files` opens and reads it, `parts` finds the segments of code of an
-//! ELF file and `labelling` the names in them, and `report` of `nc_report` writes the report. `outcome` has the exit status, and
-//! `progress` shows how far the program is.
+//! `ask_check` of `nc_command` parses the command line, and `check_files` of `nc_files` judges the files and prints the reports.
 #![tactic(auto)]
 
 ghost use Rattle.std.specs.Prelude.{◌≡◌, ◌⊎◌};
 ghost use Rattle.nc_check.specs.Status.{halt_status};
 
-mod buffered;
-mod checking;
-mod files;
-mod judging;
-mod labelling;
-mod outcome;
-mod parts;
-mod progress;
-mod working;
+mod halt;
 
-use checking::check_files;
 use clap::error::ErrorKind as ClapKind;
+use halt::Halt;
 use nc_command::{CheckAsk, arguments, ask_check, check_words};
-use outcome::{Failure, Halt};
-use progress::Progress;
+use nc_files::{Failure, Progress, check_files};
 use std::io::{ErrorKind, Input, IsTerminal};
 use std::process::ExitCode;
 use std::rt::{Env, Files};

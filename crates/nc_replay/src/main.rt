@@ -1,17 +1,16 @@
 //! The program `nc_replay`: scripts for a code region, and chunks to be vetted, from standard input to standard output.
 //!
 //! It has two subcommands. `replay` runs a script: it creates, patches, deletes and reclaims chunks in a code region, walks
-//! through them and shows them. `vet` only vets chunks, several at a time. `ask` of `nc_command` parses the command line, and
-//! `start` carries it out over any reader and writer, by the calls of `nc_script` and `nc_lines`. `gathering` says whether replies may be
-//! written together. `explaining` has the reader and the writer that explain bad lines and refusals on standard error.
+//! through them and shows them. `vet` only vets chunks, several at a time. `start` of `nc_task` carries out the words of the command
+//! line over any reader and writer. `gathering` says whether replies may be written together. `explaining` has the reader and the writer
+//! that explain bad lines and refusals on standard error.
 #![tactic(auto)]
 
 ghost use Rattle.std.specs.Prelude.{◌≡◌, ◌⊎◌};
-ghost use Rattle.nc_replay.specs.Status.{status_of};
+ghost use Rattle.nc_task.specs.Status.{status_of};
 
 mod explaining;
 mod gathering;
-pub mod program;
 
 use clap::error::ErrorKind as ClapKind;
 use explaining::{ExplainedInput, ExplainedOutput};
@@ -19,7 +18,7 @@ use gathering::most_held;
 use nc_command::{Ask, arguments, ask, replay_words};
 use nc_lines::ReplayFault;
 use nc_output::PipeWriter;
-use program::{Halt, start};
+use nc_task::{Halt, start};
 use std::io::{self, BufReader, ErrorKind, Input, Write};
 use std::process::ExitCode;
 use std::rt::Env;

@@ -1,6 +1,0 @@
-use Rattle.std.specs.Vec.Iter.{into_iter_items}
-use Rattle.nc_check.specs.Places.{AreDone, ArePlaces}
-use Rattle.nc_check.proofs.working.put_all.Given as goal
-
-abbrev pub invariant-loop-one : goal.invariant-loop-one
-invariant-loop-one l = record { done : AreDone l.ask l.files (into_iter_items l.one-iterator); places : ArePlaces l.ask l.files l.places }

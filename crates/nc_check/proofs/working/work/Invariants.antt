@@ -1,5 +1,0 @@
-use Rattle.nc_check.specs.Places.{AreDone}
-use Rattle.nc_check.proofs.working.work.Given as goal
-
-abbrev pub invariant-loop : goal.invariant-loop
-invariant-loop g l = AreDone l.ask l.files l.worker.done.items

@@ -1,0 +1,4 @@
+mod Listed
+mod Labelled
+mod WrittenReports
+mod PlacedReports

@@ -1,0 +1,111 @@
+-- Texts that were written one after the other, and the reports that they are.
+use Rattle.std.proofs.Common.{◌≡◌, ℕ, Bool, true, false, List, [], ◌∷◌, ◌++◌, map, refl, sym, ◌∙◌, ap, append_assoc, append-nil, Option, inr, subst}
+use Rattle.std.specs.Prelude.{◌||◌, codes}
+use Rattle.std.specs.Io.KnownBytes.{Appends}
+use Rattle.std.proofs.KnownBytes.{Appends-nil, Appends-trans}
+use Rattle.nc_elf.specs.Segments.{bytes_of}
+use Rattle.nc_elf.specs.declared.segment.Segment.{Segment}
+use Rattle.nc_output.specs.declared.detail.Format.{Format}
+use Rattle.nc_output.specs.declared.detail.Format.TheVariants.{Text}
+use Rattle.nc_output.specs.declared.detail.Style.{Style}
+use Rattle.nc_report.specs.Report.{HasWritten}
+use Rattle.nc_command.specs.declared.asked.CheckAsk.{CheckAsk}
+use Rattle.nc_files.specs.Parts.{bases_in, codes_in, names_in, part_name}
+use Rattle.nc_files.specs.Reports.{Judged, judged_in, segment_code, raw_code, TellsCode, TellsEach, TellsRaw, hexadecimal_note, explanation, refusal_text}
+use Rattle.nc_files.specs.declared.parts.Part.{Part}
+
+-- what was written says what it has to
+pub written_so : (P Q : List ℕ → Type 0) (before after : Option (List ℕ)) → ((text : List ℕ) → P text → Q text)
+    → HasWritten P before after → HasWritten Q before after
+written_so P Q before after f h = record { text = h.text; says = f h.text h.says; written = h.written }
+
+-- more was written
+pub written_more : (P Q R : List ℕ → Type 0) (before mid after : Option (List ℕ)) → ((a b : List ℕ) → P a → Q b → R (a ++ b))
+    → HasWritten P before mid → HasWritten Q mid after → HasWritten R before after
+written_more P Q R before mid after f a b = record {
+  text = a.text ++ b.text;
+  says = f a.text b.text a.says b.says;
+  written = Appends-trans before mid after a.text b.text a.written b.written;
+}
+
+-- nothing was written
+pub written_none : (P : List ℕ → Type 0) (before : Option (List ℕ)) → P [] → HasWritten P before before
+written_none P before p = record { text = []; says = p; written = Appends-nil before }
+
+or-false : (b : Bool) → b ≡ b || false
+or-false true = refl
+or-false false = refl
+
+or_assoc : (a b c : Bool) → (a || b) || c ≡ a || (b || c)
+or_assoc true b c = refl
+or_assoc false b c = refl
+
+-- the report on one more, after the reports on others
+pub tells_more : (ask : CheckAsk) (done : List Judged) (judged : Judged) (refused more : Bool) (text next : List ℕ)
+    → TellsEach ask done refused text → TellsCode ask judged more next → TellsEach ask (done ++ judged ∷ []) (refused || more) (text ++ next)
+tells_more ask [] judged refused more text next (none, empty) h = (
+  more,
+  false,
+  next,
+  [],
+  h,
+  (refl, refl),
+  ap (λ (b : Bool). b || more) none ∙ or-false more,
+  ap (λ (z : List ℕ). z ++ next) empty ∙ sym (append-nil next),
+)
+tells_more ask (one ∷ done) judged refused more text next (a, b, first, rest, tells, others, is, whole) h = (
+  a,
+  b || more,
+  first,
+  rest ++ next,
+  tells,
+  tells_more ask done judged b more rest next others h,
+  ap (λ (z : Bool). z || more) is ∙ or_assoc a b more,
+  ap (λ (z : List ℕ). z ++ next) whole ∙ append_assoc first rest next,
+)
+
+-- parts with the addresses, the names and the bytes of segments are these segments
+pub judged_segments : (format : Format) (name code : List ℕ) (parts : List Part) (segments : List Segment)
+    → bases_in parts ≡ map (λ s. s.address) segments → names_in parts ≡ map (λ s. part_name format name s.address) segments
+    → codes_in parts ≡ map (bytes_of code) segments → map judged_in parts ≡ map (segment_code format name code) segments
+judged_segments format name code [] [] bases names codes = refl
+judged_segments format name code [] (segment ∷ segments) bases names codes = absurd (cc)
+judged_segments format name code (part ∷ parts) [] bases names codes = absurd (cc)
+judged_segments format name code (part ∷ parts) (segment ∷ segments) bases names codes =
+    let base : part.base ≡ segment.address = cc in
+    let name_is : part.source.name.items ≡ part_name format name segment.address = cc in
+    let code_is : part.source.code.items ≡ bytes_of code segment = cc in
+    let others = judged_segments format name code parts segments (cc) (cc) (cc) in
+    cc
+
+-- one more of the parts is before those that are left
+pub split_more : (all before after : List Part) (part : Part) (done : List Judged) → map judged_in all ≡ done ++ map judged_in before
+    → before ≡ part ∷ after → map judged_in all ≡ (done ++ judged_in part ∷ []) ++ map judged_in after
+split_more all before after part done is next =
+    is ∙ ap (λ (z : List Part). done ++ map judged_in z) next ∙ sym (append_assoc done (judged_in part ∷ []) (map judged_in after))
+
+-- the report on raw code, and after it the note
+pub raw_noted : (ask : CheckAsk) (name code : List ℕ) (refused : Bool) (before mid after : Option (List ℕ)) → refused ≡ false
+    → HasWritten (TellsCode ask (raw_code ask name code) refused) before mid → Appends mid after hexadecimal_note
+    → HasWritten (TellsRaw ask name code false) before after
+raw_noted ask name code refused before mid after is h more = record {
+  text = h.text ++ hexadecimal_note;
+  says = record {
+    report = h.text;
+    tells = subst (λ (b : Bool). TellsCode ask (raw_code ask name code) b h.text) is h.says;
+    note = hexadecimal_note;
+    noted = inr (refl, refl);
+    written = refl;
+  };
+  written = Appends-trans before mid after h.text hexadecimal_note h.written more;
+}
+
+-- the line of a refusal, and after it what explains it
+pub refusal_added : (style : Style) (old name meaning mid after new : List ℕ) → style.format ≡ Text → mid ≡ old ++ name
+    → after ≡ mid ++ codes ": refused BadElf\n" → new ≡ after ++ explanation style.detail meaning
+    → new ≡ old ++ refusal_text style.format style.detail name meaning
+refusal_added style old name meaning mid after new is a b e =
+    let line = codes ": refused BadElf\n" in
+    let more = explanation style.detail meaning in
+    e ∙ ap (λ (z : List ℕ). z ++ more) (b ∙ ap (λ (z : List ℕ). z ++ line) a ∙ append_assoc old name line)
+    ∙ append_assoc old (name ++ line) more ∙ ap (λ (f : Format). old ++ refusal_text f style.detail name meaning) (sym is)

@@ -1,0 +1,22 @@
+use Rattle.std.proofs.Common.{Bool, List, map, inl, subst}
+use Rattle.std.proofs.lemmas.Result.{IfOk-weaker}
+use Rattle.nc_elf.specs.Segments.{segments_of}
+use Rattle.nc_report.specs.Report.{HasWritten}
+use Rattle.nc_files.specs.Reports.{Judged, judged_in, TellsEach, TellsElf}
+use Rattle.nc_files.proofs.WrittenReports.{judged_segments, written_so}
+use Rattle.nc_files.proofs.judging.judge_elf.Goals as goal
+
+pub returns-in-Ok : goal.returns-in-Ok
+returns-in-Ok g c =
+    let ask = c.args.ask.now in
+    let name = c.args.file.now.name.items in
+    let code = c.args.file.now.code.items in
+    let parts = c.in-Ok.parts.items in
+    let before = g.W.Write.contents c.args.writer.now in
+    let after = g.W.Write.contents c.judge_parts.new.writer in
+    let same = judged_segments ask.style.format name code parts (segments_of code) c.in-Ok.ensures.bases c.in-Ok.ensures.names c.in-Ok.ensures.codes in
+    IfOk-weaker c.judge_parts.result (λ (refused : Bool). HasWritten (TellsEach ask (map judged_in parts) refused) before after)
+    (λ (refused : Bool). HasWritten (TellsElf ask name code refused) before after)
+    (λ refused h. written_so (TellsEach ask (map judged_in parts) refused) (TellsElf ask name code refused) before after
+    (λ text each. inl (c.in-Ok.ensures.well_formed, subst (λ (z : List Judged). TellsEach ask z refused text) same each)) h)
+    c.judge_parts.ensures

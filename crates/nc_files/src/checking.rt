@@ -1,0 +1,198 @@
+//! Judging files, one round after another.
+
+ghost use Rattle.std.specs.Prelude.{◌<◌, length};
+ghost use Rattle.std.specs.List.{AllZip};
+ghost use Rattle.nc_files.specs.Reports.{FitsFile};
+
+use crate::files::Unread;
+use crate::judging::{Unjudged, judge_file};
+use crate::outcome::{Failure, Outcome};
+use crate::progress::Progress;
+use crate::working::{Report, judge_files};
+use nc_command::CheckAsk;
+use nc_output::{PipeWriter, write_out};
+use std::alloc::Global;
+use std::io;
+use std::io::Input;
+use std::rt::Files;
+use std::sync::Wait;
+use std::thread::Threads;
+
+/// A block that is larger than most files.
+const LARGE: usize = 31 << 20;
+
+/// The number of files that several workers judge before the reports on them are printed.
+const ROUND: usize = 256;
+
+/// The state of the program: the outcome so far, and the progress that it shows.
+#[derive(Drop)]
+struct State {
+    outcome: Outcome,
+    progress: Progress,
+}
+
+/// Makes the C library keep the memory of a file for the next one: glibc does so for up to twice the size of the largest block
+/// that was freed (up to 32 MiB). Otherwise it would return much of it to the system, which allocates it anew, page by page.
+/// The block isn't touched. If there is no memory for it, only time is lost.
+fn keep_memory(alloc: Global) {
+    let _ = Vec::<u8>::with_capacity(alloc, LARGE);
+}
+
+/// Prints on standard error why a file isn't judged. If that fails, nothing else is left to do.
+fn eprint_fault<R: Eprint>(rt: &R, file: &str, unread: Unread) {
+    let _ = eprintln!(rt; "nc_check: {file}: {}", unread.text());
+}
+
+/// Judges a file alone, and prints the report on it as it is made.
+fn judge_alone<R: AllocGlobal + Input + Files + Print + Eprint>(
+    rt: &R,
+    ask: &CheckAsk<'_>,
+    state: &mut State,
+    file: &str,
+) -> Result<(), Failure> {
+    state.progress.yield_output(rt);
+    let mut writer = PipeWriter::new(io::writer(rt));
+    match judge_file(rt, ask, file, &mut writer) {
+        Ok(is_refused) => {
+            state.outcome.is_refused |= is_refused;
+            Ok(())
+        }
+        Err(Unjudged::Unread(unread)) => {
+            state.progress.wipe(rt);
+            eprint_fault(rt, file, unread);
+            state.outcome.is_faulty = true;
+            Ok(())
+        }
+        Err(Unjudged::OutOfMemory) => Err(Failure::OutOfMemory),
+        Err(Unjudged::WriteFailed) => Err(Failure::of_writing(writer.is_closed())),
+    }
+}
+
+/// Prints the report that a worker has made.
+fn print<R: Print + Eprint>(rt: &R, state: &mut State, report: &Report) -> Result<(), Failure> {
+    state.progress.yield_output(rt);
+    state.outcome.is_refused |= report.is_refused;
+    let mut writer = PipeWriter::new(io::writer(rt));
+    match write_out(&mut writer, &report.text) {
+        Ok(()) => Ok(()),
+        Err(_) => Err(Failure::of_writing(writer.is_closed())),
+    }
+}
+
+/// Prints the report on a file, which is in the file's place. A file that no worker has judged is judged here.
+fn print_place<R: AllocGlobal + Input + Files + Print + Eprint>(
+    rt: &R,
+    ask: &CheckAsk<'_>,
+    state: &mut State,
+    file: &str,
+    place: &Option<Report>,
+) -> Result<(), Failure>
+    requires { FitsFile ask.now file.now place.now }
+{
+    match place {
+        Some(report) => print(rt, state, report),
+        None => judge_alone(rt, ask, state, file),
+    }
+}
+
+/// Prints the report on the file of this number in a round.
+fn print_number<R: AllocGlobal + Input + Files + Print + Eprint>(
+    rt: &R,
+    ask: &CheckAsk<'_>,
+    state: &mut State,
+    files: &[&str],
+    places: &[Option<Report>],
+    number: usize,
+) -> Result<(), Failure>
+    requires below { number < length files.now }
+    requires places { AllZip (λ file place. FitsFile ask.now file.now place) files.now places.now }
+{
+    match places.get(number) {
+        Some(place) => print_place(rt, ask, state, files[number], place),
+        None => unreachable!(),
+    }
+}
+
+/// Prints the reports on the files of a round, in the order of the files.
+fn print_round<R: AllocGlobal + Input + Files + Print + Eprint>(
+    rt: &R,
+    ask: &CheckAsk<'_>,
+    state: &mut State,
+    files: &[&str],
+    places: &[Option<Report>],
+) -> Result<(), Failure>
+    requires { AllZip (λ file place. FitsFile ask.now file.now place) files.now places.now }
+{
+    for number in 0..files.len() {
+        print_number(rt, ask, state, files, places, number)?;
+    }
+    Ok(())
+}
+
+/// Judges the files of a round, by several workers if there are several files, and prints the reports on them.
+fn judge_round<R: Threads + Wait + Sync + AllocGlobal + Input + Files + Print + Eprint>(
+    rt: &R,
+    ask: &CheckAsk<'_>,
+    state: &mut State,
+    files: &[&str],
+) -> Result<(), Failure>
+where
+    R::File: Send + Sync,
+    R::Dir: Send + Sync,
+    R::Reader: Send + Sync,
+{
+    if files.len() == 1 {
+        return judge_alone(rt, ask, state, files[0]);
+    }
+    match judge_files(rt, ask, files) {
+        Ok(places) => print_round(rt, ask, state, files, places.as_slice()),
+        Err(_) => Err(Failure::OutOfMemory),
+    }
+}
+
+/// Judges the files that are asked for, one round after another.
+fn judge_all<R: Threads + Wait + Sync + AllocGlobal + Input + Files + Print + Eprint>(
+    rt: &R,
+    ask: &CheckAsk<'_>,
+    state: &mut State,
+) -> Result<(), Failure>
+where
+    R::File: Send + Sync,
+    R::Dir: Send + Sync,
+    R::Reader: Send + Sync,
+{
+    let round = if ask.workers > 1 { ROUND } else { 1 };
+    let mut done: usize = 0;
+    for files in ask.files.chunks(round) {
+        judge_round(rt, ask, state, files)?;
+        done = files.len().saturating_add(done);
+        state.progress.show(rt, done);
+    }
+    state.progress.wipe(rt);
+    Ok(())
+}
+
+/// Judges the files that are asked for, in order, and returns the exit status.
+pub fn check_files<R: Threads + Wait + Sync + AllocGlobal + Input + Files + Print + Eprint>(
+    rt: &R,
+    ask: &CheckAsk<'_>,
+    progress: Progress,
+) -> Result<u8, Failure>
+where
+    R::File: Send + Sync,
+    R::Dir: Send + Sync,
+    R::Reader: Send + Sync,
+{
+    keep_memory(rt.alloc());
+    let mut state = State {
+        outcome: Outcome {
+            is_faulty: false,
+            is_refused: false,
+        },
+        progress,
+    };
+    match judge_all(rt, ask, &mut state) {
+        Ok(()) => Ok(state.outcome.status()),
+        Err(failure) => Err(failure),
+    }
+}

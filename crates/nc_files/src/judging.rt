@@ -1,0 +1,222 @@
+//! Judging one file, and writing the report on it.
+
+ghost use Rattle.std.specs.Prelude.{◌≡◌, ◌≢◌, ◌++◌, ℕ, List, true, IfOk, OnOk, map};
+ghost use Rattle.nc_elf.specs.Faults.{HasElfFault};
+ghost use Rattle.nc_elf.specs.declared.fault.ElfFault.TheVariants as elf;
+ghost use Rattle.nc_report.specs.Report.{HasWritten};
+ghost use Rattle.nc_files.specs.Reports.{judged_in, TellsCode, TellsEach, TellsRaw, RefusesElf, TellsElf, TellsFile, explanation, refusal_text};
+
+use crate::files::{Unread, read_file};
+use crate::parts::{Part, parts_of};
+use nc_command::CheckAsk;
+use nc_elf::{ElfFault, is_elf};
+use nc_output::{Detail, Format, Style, write_out};
+use nc_report::{ReportFault, Source, is_hexadecimal, push_file_object, report};
+use std::alloc::{AllocError, Global};
+use std::io::{Input, Write};
+use std::rt::Files;
+
+/// Why a file isn't judged, or the report on it isn't complete.
+#[derive(Clone, Copy, Drop)]
+pub enum Unjudged {
+    /// It can't be read.
+    Unread(Unread),
+    /// There is no memory.
+    OutOfMemory,
+    /// The writer failed.
+    WriteFailed,
+}
+
+/// Judges code and writes the report on it. Returns whether it was refused.
+fn judge_part<W: Write>(
+    alloc: Global,
+    ask: &CheckAsk<'_>,
+    part: Part,
+    writer: &mut W,
+) -> Result<bool, Unjudged>
+    ensures { IfOk result (λ refused. HasWritten (TellsCode ask.now (judged_in part) refused)
+        (W.contents writer.old) (W.contents writer.new)) }
+{
+    let Part { base, source } = part;
+    match report(alloc, source, base, ask.bundles, ask.style, writer) {
+        Ok(refused) => Ok(refused),
+        Err(ReportFault::WriteFailed) => Err(Unjudged::WriteFailed),
+        // the number of bundles is in range, since the command line was parsed
+        Err(_) => Err(Unjudged::OutOfMemory),
+    }
+}
+
+/// Judges the parts of an ELF file, in order. Returns whether any of them was refused.
+fn judge_parts<W: Write>(
+    alloc: Global,
+    ask: &CheckAsk<'_>,
+    parts: Vec<Part>,
+    writer: &mut W,
+) -> Result<bool, Unjudged>
+    ensures { IfOk result (λ refused. HasWritten (TellsEach ask.now (map judged_in parts.items) refused)
+        (W.contents writer.old) (W.contents writer.new)) }
+{
+    let mut is_refused = false;
+    for part in parts {
+        match judge_part(alloc, ask, part, writer) {
+            Ok(more) => is_refused |= more,
+            Err(unjudged) => return Err(unjudged),
+        }
+    }
+    Ok(is_refused)
+}
+
+/// Adds the line that explains a fault, unless only verdicts are written.
+fn push_explanation(text: &mut Vec<u8>, detail: Detail, meaning: &[u8]) -> Result<(), AllocError>
+    ensures { OnOk result (text.new.items ≡ text.old.items ++ explanation detail meaning.now) }
+{
+    match detail {
+        Detail::Brief => return Ok(()),
+        _ => {}
+    }
+    text.extend_from_slice(b"  ")?;
+    text.extend_from_slice(meaning)?;
+    text.push(b'\n')?;
+    Ok(())
+}
+
+/// Adds the text written for an ELF file that is refused as a whole, for a fault of this meaning.
+fn push_refusal(
+    text: &mut Vec<u8>,
+    style: Style,
+    name: &[u8],
+    meaning: &[u8],
+) -> Result<(), AllocError>
+    ensures { OnOk result (text.new.items
+        ≡ text.old.items ++ refusal_text style.format style.detail name.now meaning.now) }
+{
+    match style.format {
+        Format::Json => push_file_object(text, name, b"BadElf", meaning),
+        Format::Text => {
+            text.extend_from_slice(name)?;
+            text.extend_from_slice(b": refused BadElf\n")?;
+            push_explanation(text, style.detail, meaning)
+        }
+    }
+}
+
+/// The text written for an ELF file that is refused as a whole.
+fn refusal(alloc: Global, style: Style, name: &[u8], fault: ElfFault) -> Result<Vec<u8>, AllocError>
+    ensures { IfOk result (λ text. (meaning : List ℕ)
+        × (text.items ≡ refusal_text style.format style.detail name.now meaning)) }
+{
+    let meaning = fault.to_string(alloc)?;
+    let mut text = Vec::new(alloc);
+    push_refusal(&mut text, style, name, meaning.as_bytes())?;
+    Ok(text)
+}
+
+/// Writes the refusal of an ELF file that has this fault.
+fn refuse<W: Write>(
+    alloc: Global,
+    ask: &CheckAsk<'_>,
+    file: &Source,
+    fault: ElfFault,
+    writer: &mut W,
+) -> Result<bool, Unjudged>
+    requires has { HasElfFault file.now.code.items fault }
+    requires real { fault ≢ elf.OutOfMemory }
+    ensures { IfOk result (λ refused. (refused ≡ true)
+        × HasWritten (RefusesElf ask.now.style file.now.name.items file.now.code.items)
+        (W.contents writer.old) (W.contents writer.new)) }
+{
+    let Ok(text) = refusal(alloc, ask.style, file.name.as_slice(), fault) else {
+        return Err(Unjudged::OutOfMemory);
+    };
+    match write_out(writer, &text) {
+        Ok(()) => Ok(true),
+        Err(_) => Err(Unjudged::WriteFailed),
+    }
+}
+
+/// Judges the code of an ELF file, and writes the report on it. Returns whether any of it was refused.
+fn judge_elf<W: Write>(
+    alloc: Global,
+    ask: &CheckAsk<'_>,
+    file: &Source,
+    writer: &mut W,
+) -> Result<bool, Unjudged>
+    ensures { IfOk result (λ refused. HasWritten (TellsElf ask.now file.now.name.items file.now.code.items refused)
+        (W.contents writer.old) (W.contents writer.new)) }
+{
+    match parts_of(alloc, file, ask.style) {
+        Ok(parts) => judge_parts(alloc, ask, parts, writer),
+        Err(ElfFault::OutOfMemory) => Err(Unjudged::OutOfMemory),
+        Err(fault) => refuse(alloc, ask, file, fault, writer),
+    }
+}
+
+/// What is said about an accepted file of hexadecimal text, whose characters were judged.
+const NOTE: &[u8] =
+    b"  this is hexadecimal text: its characters were judged, and not the bytes that they spell; turn it into bytes with xxd -r -p\n";
+
+/// Whether more than the verdict is written about an accepted file, in lines of text.
+fn has_lines(style: Style) -> bool {
+    style.format == Format::Text && style.detail != Detail::Brief
+}
+
+/// Judges raw code, and writes the report on it, with a note on an accepted file of hexadecimal text. Returns whether it was refused.
+fn judge_raw<W: Write>(
+    alloc: Global,
+    ask: &CheckAsk<'_>,
+    source: Source,
+    writer: &mut W,
+) -> Result<bool, Unjudged>
+    ensures { IfOk result (λ refused. HasWritten (TellsRaw ask.now source.name.items source.code.items refused)
+        (W.contents writer.old) (W.contents writer.new)) }
+{
+    let base = ask.base;
+    let is_noted = has_lines(ask.style) && is_hexadecimal(source.code.as_slice());
+    let is_refused = match judge_part(alloc, ask, Part { base, source }, writer) {
+        Ok(is_refused) => is_refused,
+        Err(unjudged) => return Err(unjudged),
+    };
+    if is_refused || !is_noted {
+        return Ok(is_refused);
+    }
+    match write_out(writer, NOTE) {
+        Ok(()) => Ok(false),
+        Err(_) => Err(Unjudged::WriteFailed),
+    }
+}
+
+/// Judges the code of a file, and writes the report on it. Returns whether any of it was refused.
+fn judge_source<W: Write>(
+    alloc: Global,
+    ask: &CheckAsk<'_>,
+    source: Source,
+    writer: &mut W,
+) -> Result<bool, Unjudged>
+    ensures { IfOk result (λ refused. HasWritten (TellsFile ask.now source.name.items source.code.items refused)
+        (W.contents writer.old) (W.contents writer.new)) }
+{
+    if ask.raw || !is_elf(source.code.as_slice()) {
+        judge_raw(alloc, ask, source, writer)
+    } else {
+        judge_elf(alloc, ask, &source, writer)
+    }
+}
+
+/// Reads a file, judges its code, and writes the report on it. Returns whether any of it was refused.
+pub fn judge_file<R: AllocGlobal + Input + Files, W: Write>(
+    rt: &R,
+    ask: &CheckAsk<'_>,
+    file: &str,
+    writer: &mut W,
+) -> Result<bool, Unjudged>
+    // Exactly the report on a file of this name was written, and the result says whether it is refused. What bytes a file has is up
+    // to its device.
+    ensures { IfOk result (λ refused. (code : List ℕ) × HasWritten (TellsFile ask.now file.now code refused)
+        (W.contents writer.old) (W.contents writer.new)) }
+{
+    match read_file(rt, file) {
+        Ok(source) => judge_source(rt.alloc(), ask, source, writer),
+        Err(Unread::OutOfMemory) => Err(Unjudged::OutOfMemory),
+        Err(unread) => Err(Unjudged::Unread(unread)),
+    }
+}

@@ -1,0 +1,60 @@
+//! How judging the files ends.
+
+ghost use Rattle.std.specs.Prelude.{◌≡◌, ◌<◌, ◌↔◌, true, false};
+
+/// Why the files are not all judged.
+#[derive(Clone, Copy, Drop)]
+pub enum Failure {
+    /// There is no memory.
+    OutOfMemory,
+    /// A report can't be written.
+    WriteFailed,
+    /// The reader of the output is gone, as with a closed pipe: a write failed, and nothing is printed about it.
+    OutputClosed,
+}
+
+impl Failure {
+    /// A write failed, perhaps because the reader of the output is gone.
+    pub fn of_writing(is_closed: bool) -> Failure {
+        if is_closed {
+            Failure::OutputClosed
+        } else {
+            Failure::WriteFailed
+        }
+    }
+
+    /// The reason in words, if anything is printed about it.
+    pub fn text(self) -> Option<&'static str> {
+        match self {
+            Failure::OutOfMemory => Some("out of memory"),
+            Failure::WriteFailed => Some("write failed"),
+            Failure::OutputClosed => None,
+        }
+    }
+}
+
+/// The findings about the files so far.
+#[derive(Clone, Copy, Drop)]
+pub struct Outcome {
+    /// A file wasn't judged: it couldn't be read, was too long, or there was no memory for it.
+    pub is_faulty: bool,
+    /// A file was refused.
+    pub is_refused: bool,
+}
+
+impl Outcome {
+    /// The exit status after the program has been through its files.
+    pub fn status(self) -> u8
+        ensures faulty { (result ≡ 2) ↔ (self.is_faulty ≡ true) }
+        ensures refused { (result ≡ 1) ↔ ((self.is_faulty ≡ false) × (self.is_refused ≡ true)) }
+        ensures good { (result ≡ 0) ↔ ((self.is_faulty ≡ false) × (self.is_refused ≡ false)) }
+    {
+        if self.is_faulty {
+            2
+        } else if self.is_refused {
+            1
+        } else {
+            0
+        }
+    }
+}

@@ -1,5 +1,0 @@
-use Rattle.nc_replay.proofs.program.Halt.status.Goals as goal
-use Rattle.std.proofs.Common.{rules}
-
-pub returns-in-Fault : goal.returns-in-Fault
-returns-in-Fault c = search rules

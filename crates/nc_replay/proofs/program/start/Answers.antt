@@ -1,5 +1,0 @@
-use Rattle.nc_replay.proofs.program.start.Goals as goal
-use Rattle.std.proofs.Common.{rules}
-
-pub returns-in-Err-clause-words : goal.returns-in-Err-clause-words
-returns-in-Err-clause-words g c = search rules

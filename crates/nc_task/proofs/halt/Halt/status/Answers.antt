@@ -1,0 +1,5 @@
+use Rattle.nc_task.proofs.halt.Halt.status.Goals as goal
+use Rattle.std.proofs.Common.{rules}
+
+pub returns-in-Fault : goal.returns-in-Fault
+returns-in-Fault c = search rules
