@@ -1,6 +1,6 @@
 //! Judging files, one round after another.
 
-ghost use Rattle.std.specs.Prelude.{◌<◌, length};
+ghost use Rattle.std.specs.Prelude.{◌<◌, ◌≤◌, IfOk, length};
 ghost use Rattle.std.specs.List.{AllZip};
 ghost use Rattle.nc_files.specs.Reports.{FitsFile};
 
@@ -172,7 +172,8 @@ where
     Ok(())
 }
 
-/// Judges the files that are asked for, in order, and returns the exit status.
+/// Judges the files that are asked for, in order, and returns the exit status: 2 if a file wasn't judged, otherwise 1 if one was refused,
+/// otherwise 0.
 pub fn check_files<R: Threads + Wait + Sync + AllocGlobal + Input + Files + Print + Eprint>(
     rt: &R,
     ask: &CheckAsk<'_>,
@@ -182,6 +183,7 @@ where
     R::File: Send + Sync,
     R::Dir: Send + Sync,
     R::Reader: Send + Sync,
+    ensures { IfOk result (λ status. status ≤ 2) }
 {
     keep_memory(rt.alloc());
     let mut state = State {

@@ -1,6 +1,6 @@
 //! How judging the files ends.
 
-ghost use Rattle.std.specs.Prelude.{◌≡◌, ◌<◌, ◌↔◌, true, false};
+ghost use Rattle.std.specs.Prelude.{◌≡◌, ◌≤◌, ◌↔◌, true, false};
 
 /// Why the files are not all judged.
 #[derive(Clone, Copy, Drop)]
@@ -48,6 +48,7 @@ impl Outcome {
         ensures faulty { (result ≡ 2) ↔ (self.is_faulty ≡ true) }
         ensures refused { (result ≡ 1) ↔ ((self.is_faulty ≡ false) × (self.is_refused ≡ true)) }
         ensures good { (result ≡ 0) ↔ ((self.is_faulty ≡ false) × (self.is_refused ≡ false)) }
+        ensures range { result ≤ 2 }
     {
         if self.is_faulty {
             2
