@@ -1,6 +1,6 @@
 //! How judging the files ends.
 
-ghost use Rattle.std.specs.Prelude.{◌≡◌, ◌≤◌, ◌↔◌, true, false};
+ghost use Rattle.std.specs.Prelude.{◌≡◌, ◌≤◌, ◌↔◌, true, false, IfSome, IsNone, codes};
 
 /// Why the files are not all judged.
 #[derive(Clone, Copy, Drop)]
@@ -15,7 +15,10 @@ pub enum Failure {
 
 impl Failure {
     /// A write failed, perhaps because the reader of the output is gone.
-    pub fn of_writing(is_closed: bool) -> Failure {
+    pub fn of_writing(is_closed: bool) -> Failure
+        ensures closed { (result ≡ Failure.OutputClosed) ↔ (is_closed ≡ true) }
+        ensures failed { (result ≡ Failure.WriteFailed) ↔ (is_closed ≡ false) }
+    {
         if is_closed {
             Failure::OutputClosed
         } else {
@@ -24,7 +27,11 @@ impl Failure {
     }
 
     /// The reason in words, if anything is printed about it.
-    pub fn text(self) -> Option<&'static str> {
+    pub fn text(self) -> Option<&'static str>
+        ensures none { IsNone result ↔ (self ≡ Failure.OutputClosed) }
+        ensures memory { self ≡ Failure.OutOfMemory → IfSome result (λ text. text.now ≡ codes "out of memory") }
+        ensures write { self ≡ Failure.WriteFailed → IfSome result (λ text. text.now ≡ codes "write failed") }
+    {
         match self {
             Failure::OutOfMemory => Some("out of memory"),
             Failure::WriteFailed => Some("write failed"),

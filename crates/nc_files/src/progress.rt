@@ -30,7 +30,7 @@ impl Progress {
     }
 
     /// Shows the number of files that are done. If it can't be written, nothing is lost.
-    pub fn show<R: Eprint>(&mut self, rt: &R, done: usize) {
+    pub(crate) fn show<R: Eprint>(&mut self, rt: &R, done: usize) {
         let is_due = self.is_shared || done.saturating_sub(self.shown) > self.all / TIMES;
         if self.is_wanted && is_due && done < self.all {
             let _ = eprint!(rt; "\r{done} of {} files", self.all);
@@ -40,14 +40,14 @@ impl Progress {
     }
 
     /// Removes the line before anything is written to standard output.
-    pub fn yield_output<R: Eprint>(&mut self, rt: &R) {
+    pub(crate) fn yield_output<R: Eprint>(&mut self, rt: &R) {
         if self.is_shared {
             self.wipe(rt);
         }
     }
 
     /// Removes the line before anything else is written to standard error, and at the end.
-    pub fn wipe<R: Eprint>(&mut self, rt: &R) {
+    pub(crate) fn wipe<R: Eprint>(&mut self, rt: &R) {
         if self.is_shown {
             let _ = eprint!(rt; "\r{BLANK}\r");
             self.is_shown = false;

@@ -1,4 +1,5 @@
 use Rattle.std.proofs.Common.{◌≡◌, ◌<◌, ◌≤◌, ℕ, ◌+◌, ◌-◌, ◌++◌, true, List, length, drop, ap, sym, subst, ◌∙◌, arith}
+use Rattle.std.proofs.lemmas.Grind.{common_steps}
 use Rattle.std.proofs.lemmas.List.{length_push}
 use Rattle.nc_elf.specs.declared.loaded.NcSegment.{NcSegment}
 use Rattle.nc_elf.specs.declared.program.ProgramHeader.{ProgramHeader}
@@ -21,12 +22,18 @@ one_fits file i count h read here lt counted =
     subst (λ (n : ℕ). length (first_loaded file (i + 1)) ≤ length (first_loaded file n)) last (no_fewer file (i + 1) (e_phnum file - (i + 1))) in
     omega (arith, more, longer, all, counted)
 
+pub offset_bounds-room-count : goal.offset_bounds-room-count
+offset_bounds-room-count c = grind (arith, common_steps)
+
 pub bounds-room-count : goal.bounds-room-count
 bounds-room-count c =
     let few = one_fits c.args.file.now c.loop-number.number c.loop-number.count c.program_header-header.result
     c.program_header-header.ensures (sym c.is_present.ensures ∙ c.if-is_present.true)
     (omega (arith, c.loop-number-test.true, c.header_count-number-end.ensures)) c.loop-number.invariant.counted in
     omega (arith, few, c.requires.fits, c.loop-number.auto.room)
+
+pub overflow_add-count : goal.overflow_add-count
+overflow_add-count c = grind (arith, common_steps)
 
 pub loop-number-preserved : goal.loop-number-preserved
 loop-number-preserved c =

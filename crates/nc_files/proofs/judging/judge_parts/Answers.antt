@@ -1,4 +1,5 @@
-use Rattle.std.proofs.Common.{◌++◌, ◌∷◌, []}
+use Rattle.std.proofs.Common.{arith, ◌++◌, ◌∷◌, []}
+use Rattle.std.proofs.lemmas.Grind.{common_steps}
 use Rattle.std.specs.Prelude.{◌||◌}
 use Rattle.nc_files.specs.Reports.{judged_in, TellsCode, TellsEach}
 use Rattle.nc_files.proofs.WrittenReports.{split_more, tells_more, written_more}
@@ -15,3 +16,6 @@ loop-part-preserved g c =
       written_more (TellsEach ask done refused) (TellsCode ask judged c.in-Ok.more) (TellsEach ask (done ++ judged ∷ []) (refused || c.in-Ok.more))
           _ _ _ (λ a b h k. tells_more ask done judged refused c.in-Ok.more a b h k) told c.in-Ok.ensures,
     )
+
+pub returns : goal.returns
+returns g c = grind (arith, common_steps)

@@ -1,5 +1,6 @@
 use Rattle.nc_elf.specs.Segments.{IsPlaced, bytes_of}
-use Rattle.std.proofs.Common.{map}
+use Rattle.std.proofs.Common.{arith, map}
+use Rattle.std.proofs.lemmas.Grind.{common_steps}
 use Rattle.nc_files.specs.Parts.{code_in, part_name, named, labels_of}
 use Rattle.nc_files.proofs.Listed.{made_more, all_after, all_first}
 use Rattle.nc_files.proofs.parts.list_parts.Goals as goal
@@ -22,3 +23,12 @@ loop-segment-preserved c =
           pushed c.in_ok-part_of.ensures.name,
       all_after (IsPlaced file) _ _ _ placed next,
     )
+
+pub returns-clause-bases : goal.returns-clause-bases
+returns-clause-bases c = grind (arith, common_steps)
+
+pub returns-clause-codes : goal.returns-clause-codes
+returns-clause-codes c = grind (arith, common_steps)
+
+pub returns-clause-labels : goal.returns-clause-labels
+returns-clause-labels c = grind (arith, common_steps)

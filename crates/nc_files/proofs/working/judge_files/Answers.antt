@@ -1,4 +1,5 @@
 use Rattle.std.proofs.Common.{◌≡◌, List, Option, subst, sym, ap, length, ◌∙◌, arith}
+use Rattle.std.proofs.lemmas.Grind.{common_steps}
 use Rattle.std.specs.List.{AllZip}
 use Rattle.nc_files.specs.Reports.{FitsFile}
 use Rattle.nc_files.specs.declared.working.Report.{Report}
@@ -9,6 +10,9 @@ pub gather-requires-clause-workers : goal.gather-requires-clause-workers
 gather-requires-clause-workers g c =
     workers_back c.args.ask.now c.args.files.now c.in_ok-workers.workers.items c.work_all.new.workers c.in_ok-workers.workers.len
     c.in_ok-workers.ensures c.work_all.ensures
+
+pub gather-requires-clause-places : goal.gather-requires-clause-places
+gather-requires-clause-places g c = grind (arith, common_steps)
 
 pub returns : goal.returns
 returns g c =

@@ -1,4 +1,5 @@
 use Rattle.std.proofs.Common.{◌≡◌, arith, ap, ◌∙◌, fold, take_all}
+use Rattle.std.proofs.lemmas.Grind.{common_steps}
 use Rattle.nc_gens.proofs.LeastNumber.{lower, fold-lower, fold-lower_le, fold-lower_below}
 use Rattle.nc_gens.proofs.keeper_calls.least_bound.Goals as goal
 
@@ -6,6 +7,9 @@ use Rattle.nc_gens.proofs.keeper_calls.least_bound.Goals as goal
 whole : (c : goal.After-loop-bound) → c.loop-bound.least ≡ fold lower c.args.generation c.args.bounds.now
 whole c = c.loop-bound.invariant ∙ ap (fold lower c.args.generation)
     (take_all c.loop-bound.bound-index c.args.bounds.now c.loop-bound-test.false)
+
+pub loop-bound-preserved : goal.loop-bound-preserved
+loop-bound-preserved c = grind (arith, common_steps)
 
 pub returns-clause-least : goal.returns-clause-least
 returns-clause-least c = whole c ∙ fold-lower c.args.generation c.args.bounds.now (λ i l. c.requires i 0 l)

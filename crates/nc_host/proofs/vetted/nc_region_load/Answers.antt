@@ -1,8 +1,15 @@
-use Rattle.std.proofs.Common.{Some, ap, sym, inl, inr, ⊎_elim, ◌∙◌}
+use Rattle.std.proofs.Common.{arith, Some, ap, sym, inl, inr, ⊎_elim, ◌∙◌}
+use Rattle.std.proofs.lemmas.Grind.{common_steps}
 use Rattle.nc_handle.specs.RegionHandle.{RegionHandleState}
 use Rattle.nc_handle.specs.declared.vetted_handle.VettedHandle.{VettedHandle}
 use Rattle.nc_host.proofs.PutBack.{had_before, is_done}
 use Rattle.nc_host.proofs.vetted.nc_region_load.Goals as goal
+
+pub returns-in_default-take-clause-refused : goal.returns-in_default-take-clause-refused
+returns-in_default-take-clause-refused c = grind (arith, common_steps)
+
+pub returns-then-change-gt0-clause-created : goal.returns-then-change-gt0-clause-created
+returns-then-change-gt0-clause-created c = grind (arith, common_steps)
 
 pub returns-else-change-gt0-clause-created : goal.returns-else-change-gt0-clause-created
 returns-else-change-gt0-clause-created c = λ e.

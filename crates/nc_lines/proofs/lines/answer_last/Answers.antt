@@ -1,4 +1,5 @@
 use Rattle.std.proofs.Common.{◌≡◌, ◌++◌, ◌-◌, ℕ, List, [], length, take, min, sym, ap, ◌∙◌, arith, rules}
+use Rattle.std.proofs.lemmas.Grind.{common_steps}
 use Rattle.std.proofs.lemmas.List.{drop_all}
 use Rattle.nc_lines.proofs.Cuts.{kept_append}
 use Rattle.nc_lines.proofs.Steps.{early_kept}
@@ -14,6 +15,9 @@ returns-then-is_empty-clause-answers g c = λ part e.
     let room : count ≡ min (1048577 - length line) (length last) = omega (arith, c.min-count.ensures) in
     c.answer_line.ensures.answers (part ++ last)
     (ap (λ (xs : List ℕ). xs ++ take count last) (sym empty) ∙ kept_append 1048577 line part last count e room)
+
+pub returns-then-is_empty-clause-none : goal.returns-then-is_empty-clause-none
+returns-then-is_empty-clause-none g c = grind (arith, common_steps)
 
 pub returns-in-Err-clause-answers : goal.returns-in-Err-clause-answers
 returns-in-Err-clause-answers g c = λ part e.

@@ -1,4 +1,5 @@
 use Rattle.std.proofs.Common.{◌++◌, ℕ, List, [], take, sym, ap, ◌∙◌, subst, append-nil, arith, rules}
+use Rattle.std.proofs.lemmas.Grind.{common_steps}
 use Rattle.std.specs.Io.KnownBytes.{Consumes}
 use Rattle.std.proofs.KnownBytes.{Consumes-nil, Consumes-trans, Consumes-kept}
 use Rattle.nc_lines.specs.machinery.Progress.{KeepsUp}
@@ -23,6 +24,9 @@ loop-init g c = (
   c.new-replies.ensures.most,
   search rules,
 )
+
+pub slice_bounds-feed-end : goal.slice_bounds-feed-end
+slice_bounds-feed-end g c = grind (arith, common_steps)
 
 pub loop-preserved : goal.loop-preserved
 loop-preserved g c =

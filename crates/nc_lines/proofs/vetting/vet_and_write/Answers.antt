@@ -1,4 +1,5 @@
 use Rattle.std.proofs.Common.{◌≡◌, List, ℕ, length, sym, subst, take, rules, arith, refl}
+use Rattle.std.proofs.lemmas.Grind.{common_steps}
 use Rattle.std.proofs.lemmas.Option.{IfSome_then}
 use Rattle.std.proofs.lemmas.List.{take_all}
 use Rattle.std.specs.Io.KnownBytes.{Appends}
@@ -30,6 +31,15 @@ returns-in-Err-write_out-clause-write_failed g c = λ _.
     } in
     IfSome_then _ c.in-Ok.ensures.ok vetted
 
+pub returns-in-Err-vet_all-clause-write_failed : goal.returns-in-Err-vet_all-clause-write_failed
+returns-in-Err-vet_all-clause-write_failed g c = grind (arith, common_steps)
+
+pub returns-in-Err-vet_all-clause-faults : goal.returns-in-Err-vet_all-clause-faults
+returns-in-Err-vet_all-clause-faults g c = grind (arith, common_steps)
+
+pub returns-in-Err-write_out-clause-unwritten : goal.returns-in-Err-write_out-clause-unwritten
+returns-in-Err-write_out-clause-unwritten g c = grind (arith, common_steps)
+
 pub returns-in-Ok-flush-clause-ok : goal.returns-in-Ok-flush-clause-ok
 returns-in-Ok-flush-clause-ok g c =
     let limit : c.new-batch.result.limit ≡ c.args.limit = search rules in
@@ -47,6 +57,12 @@ returns-in-Ok-flush-clause-ok g c =
           c.as_slice.ensures.value c.in-Ok-write_out.ensures.all) c.flush.ensures.bytes;
     } in
     IfSome_then _ c.in-Ok.ensures.ok vetted
+
+pub returns-in-Ok-flush-clause-read : goal.returns-in-Ok-flush-clause-read
+returns-in-Ok-flush-clause-read g c = grind (arith, common_steps)
+
+pub returns-in-Ok-flush-clause-write_failed : goal.returns-in-Ok-flush-clause-write_failed
+returns-in-Ok-flush-clause-write_failed g c = grind (arith, common_steps)
 
 pub returns-clause-write_failed : goal.returns-clause-write_failed
 returns-clause-write_failed g c = λ _.

@@ -1,4 +1,5 @@
 use Rattle.std.proofs.Common.{ℕ, List, Some, ap, sym, ◌∙◌, arith}
+use Rattle.std.proofs.lemmas.Grind.{common_steps}
 use Rattle.std.proofs.lemmas.List.{take_rest}
 use Rattle.nc_lines.specs.Lines.{words_in}
 use Rattle.nc_lines.proofs.FirstWords.{first_short_none, first_long_none, first_whole, first_part}
@@ -19,3 +20,6 @@ returns-in-Some-address_of-clause-value c =
     let at = c.in-Some-address_of.at in
     ap (λ (rest : List ℕ). Some (at, words_in rest)) (take_rest text 9)
     ∙ sym (first_part text at (omega arith) c.if-text-ne32.false (sym c.in-Some-address_of.ensures))
+
+pub returns-in-None-address_of-clause-value : goal.returns-in-None-address_of-clause-value
+returns-in-None-address_of-clause-value c = grind (arith, common_steps)

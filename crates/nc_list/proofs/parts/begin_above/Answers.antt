@@ -1,7 +1,11 @@
 use Rattle.std.proofs.Common.{◌+◌, ◌<◌, length, map, arith}
+use Rattle.std.proofs.lemmas.Grind.{common_steps}
 use Rattle.std.proofs.lemmas.Bool.{leb-true}
 use Rattle.nc_list.proofs.Searching.{has_first, part_above}
 use Rattle.nc_list.proofs.parts.begin_above.Goals as goal
+
+pub returns-then-k-parts : goal.returns-then-k-parts
+returns-then-k-parts g c = grind (arith, common_steps)
 
 pub returns-else-k-parts : goal.returns-else-k-parts
 returns-else-k-parts g c above =

@@ -1,4 +1,5 @@
 use Rattle.std.proofs.Common.{◌≡◌, suc, ◌+◌, ◌<◌, List, [], ◌++◌, length, get_or, set, take, drop, map, refl, sym, ap, ◌∙◌, arith, subst}
+use Rattle.std.proofs.lemmas.Grind.{common_steps}
 use Rattle.std.specs.List.{remove}
 use Rattle.std.proofs.lemmas.List.{length-map}
 use Rattle.nc_list.specs.declared.chunk.Chunk.{Chunk}
@@ -114,3 +115,6 @@ returns-else-join-clause-starts g c =
 pub returns-else-join-clause-have : goal.returns-else-join-clause-have
 returns-else-join-clause-have g c =
     subst HaveSome (sym (same g (goal.at.returns-else-join-clause-have g c).Else-join)) c.requires.have
+
+pub returns-else-join-clause-some : goal.returns-else-join-clause-some
+returns-else-join-clause-some g c = grind (arith, common_steps)

@@ -1,4 +1,5 @@
 use Rattle.std.proofs.Common.{◌≡◌, ℕ, ◌<◌, [], length, get_or, take, map, sym, arith, subst}
+use Rattle.std.proofs.lemmas.Grind.{common_steps}
 use Rattle.std.proofs.lemmas.List.{length-map}
 use Rattle.nc_list.specs.Stamps.{AreSince}
 use Rattle.nc_list.specs.Parts.{all_of}
@@ -16,3 +17,6 @@ loop-k-preserved g c =
     subst (AreSince c.min-low.result) (sym (all_more parts k (omega (arith, inside, long))))
     (since_both c.min-low.result c.loop-k.low c.oldest.result (all_of (take k parts)) (get_or parts k []) (omega arith) (omega arith)
     c.loop-k.invariant (subst (AreSince c.oldest.result) is c.oldest.ensures))
+
+pub returns : goal.returns
+returns g c = grind (arith, common_steps)

@@ -1,6 +1,10 @@
 use Rattle.std.proofs.Common.{ℕ, ◌+◌, ◌-◌, ◌/◌, map, arith}
+use Rattle.std.proofs.lemmas.Grind.{common_steps}
 use Rattle.nc_list.proofs.Searching.{has_first, part_below, part_above}
 use Rattle.nc_list.proofs.parts.part_for.Goals as goal
+
+pub loop-high-init : goal.loop-high-init
+loop-high-init g c = grind (arith, common_steps)
 
 pub loop-high-preserved-then-first-at : goal.loop-high-preserved-then-first-at
 loop-high-preserved-then-first-at g c =
@@ -26,3 +30,6 @@ loop-high-preserved g c =
       above = part_above (map g.T.Part.items c.args.parts.now) middle c.first.result c.args.at c.requires.rising has
           (omega (arith, c.if-first-at.false));
     }
+
+pub returns : goal.returns
+returns g c = grind (arith, common_steps)

@@ -1,4 +1,5 @@
 use Rattle.std.proofs.Common.{◌≡◌, ◌<◌, List, [], length, get_or, map, sym, ap, ◌∙◌, arith, subst}
+use Rattle.std.proofs.lemmas.Grind.{common_steps}
 use Rattle.std.specs.List.{remove}
 use Rattle.std.proofs.lemmas.List.{length-map}
 use Rattle.nc_list.specs.declared.chunk.Chunk.{Chunk}
@@ -7,6 +8,9 @@ use Rattle.nc_list.proofs.Pieces.{part_is}
 use Rattle.nc_list.proofs.Parting.{starts_many, map_remove, removed_all, removed_starts, removed_have, others_and_one, no_chunk}
 use Rattle.nc_list.proofs.parts.remove_empty.Given.{Over}
 use Rattle.nc_list.proofs.parts.remove_empty.Goals as goal
+
+pub returns-then-len-eq1-clause-have : goal.returns-then-len-eq1-clause-have
+returns-then-len-eq1-clause-have g c = grind (arith, common_steps)
 
 pub returns-then-len-ne0-clause-have : goal.returns-then-len-ne0-clause-have
 returns-then-len-ne0-clause-have g c =

@@ -1,4 +1,5 @@
 use Rattle.std.proofs.Common.{ℕ, ◌-◌, ◌<◌, ◌≤◌, List, [], ◌∷◌, ◌++◌, length, get_or, take, drop, map, sym, ap, ◌∙◌, arith}
+use Rattle.std.proofs.lemmas.Grind.{common_steps}
 use Rattle.std.proofs.lemmas.List.{length-append, get_or_default}
 use Rattle.nc_list.proofs.Mapped.{mapped_tail, each_from_index}
 use Rattle.nc_list.proofs.starts.split_starts.Goals as goal
@@ -35,3 +36,6 @@ loop-i-preserved c =
           (c.index.ensures ∙ get_or_default all c.loop-i.i here 0 inside)
           ∙ sym (mapped_tail (λ (n : ℕ). n - before) all c.args.cut c.loop-i.i 0 so.from inside)));
     }
+
+pub returns : goal.returns
+returns c = grind (arith, common_steps)

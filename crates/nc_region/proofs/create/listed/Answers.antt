@@ -1,4 +1,5 @@
 use Rattle.std.proofs.Common.{◌≡◌, ◌<◌, ◌++◌, ◌∷◌, [], List, length, take, arith, sym, ap, ◌∙◌, rules}
+use Rattle.std.proofs.lemmas.Grind.{common_steps}
 use Rattle.std.proofs.lemmas.List.{take_more}
 use Rattle.std.proofs.lemmas.Option.{get_or_from_slice_get}
 use Rattle.nc_decode.specs.declared.instruction.Mark.{Mark}
@@ -19,3 +20,6 @@ loop-i-preserved c =
       within = let lt : i < length c.args.vetted.now.code = rw (← c.code-i-end.ensures.value) c.loop-i-test.true in omega (arith, lt);
       room = omega (arith, c.push_reserved.ensures.capacity, c.loop-i.invariant.room);
     }
+
+pub returns : goal.returns
+returns c = grind (arith, common_steps)

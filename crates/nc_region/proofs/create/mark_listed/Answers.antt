@@ -1,4 +1,5 @@
 use Rattle.std.proofs.Common.{◌∙◌, refl, arith}
+use Rattle.std.proofs.lemmas.Grind.{common_steps}
 use Rattle.nc_region.proofs.create.mark_listed.Goals as goal
 
 pub mark_span-requires-2 : goal.mark_span-requires-2
@@ -23,3 +24,6 @@ returns g c =
       keeper = c.mark_span-2.ensures.keeper;
       logged = rw (list, c.requires.as_long) at c.mark_span-2.ensures.logged;
     }
+
+pub mark_span-requires-clause-closed : goal.mark_span-requires-clause-closed
+mark_span-requires-clause-closed g c = grind (arith, common_steps)

@@ -1,4 +1,5 @@
 use Rattle.std.proofs.Common.{◌≡◌, ap, ℕ, ◌+◌, ◌-◌, List, [], ◌∷◌, length, arith, sym, subst, ◌∙◌}
+use Rattle.std.proofs.lemmas.Grind.{common_steps}
 use Rattle.nc_decode.specs.declared.instruction.Mark.{Mark}
 use Rattle.nc_text.specs.Marks.{IsClosed}
 use Rattle.nc_text.specs.Places.{limit_of}
@@ -48,6 +49,9 @@ marks_then g c =
     ∙ ap (λ (marks : List Mark). with_span marks (c.args.base - 65536) c.args.vetted.now.marks)
     (ap (λ (m : MarkedText). m.marks) c.settle.ensures.marked ∙ c.put_where.ensures.marks)
 
+pub mark_listed-requires-clause-as_long : goal.mark_listed-requires-clause-as_long
+mark_listed-requires-clause-as_long g c = grind (arith, common_steps)
+
 pub mark_listed-requires-clause-ready : goal.mark_listed-requires-clause-ready
 mark_listed-requires-clause-ready g c = rw (c.settle.ensures.made, c.put_where.ensures.made, ← c.requires.code) c.requires.can.ready
 
@@ -68,6 +72,9 @@ mark_listed-requires-clause-closed g c =
     (final_but_closed (with_span old.bytes (c.args.base - 65536) c.args.code.now) now.bytes
     (with_span old.marks (c.args.base - 65536) c.args.vetted.now.marks) c.args.base (c.args.base + length c.args.code.now) (omega arith)
     (chunk_joins old c.args.base c.args.code.now c.args.vetted.now.marks j) (almost g (goal.at.mark_listed-requires-clause-closed g c).After-put_where)))
+
+pub put_where-requires-2-clause-inside : goal.put_where-requires-2-clause-inside
+put_where-requires-2-clause-inside g c = grind (arith, common_steps)
 
 pub put_where-requires-2-clause-ready : goal.put_where-requires-2-clause-ready
 put_where-requires-2-clause-ready g c =

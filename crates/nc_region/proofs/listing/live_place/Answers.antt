@@ -1,4 +1,5 @@
 use Rattle.std.proofs.Common.{Option, IfSome, sym, ap, subst, ◌∙◌, arith}
+use Rattle.std.proofs.lemmas.Grind.{common_steps}
 use Rattle.nc_list.specs.declared.chunk.Chunk.{Chunk}
 use Rattle.nc_list.specs.Chunks.{IsNextChunk}
 use Rattle.nc_list.proofs.Offered.{rises_lower}
@@ -10,6 +11,9 @@ use Rattle.nc_region.proofs.listing.live_place.Goals.{else-is_live-via-then-is_l
 
 pub find-next-requires : goal.find-next-requires
 find-next-requires c = rises_lower 0 65536 c.args.chunks.now (omega arith) c.requires.rising
+
+pub returns-in_default-clause-none : goal.returns-in_default-clause-none
+returns-in_default-clause-none c = grind (arith, common_steps)
 
 pub returns-then-chunk-base-clause-some : goal.returns-then-chunk-base-clause-some
 returns-then-chunk-base-clause-some c = (

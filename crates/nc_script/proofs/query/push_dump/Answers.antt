@@ -1,10 +1,14 @@
 use Rattle.std.proofs.Common.{◌∙◌, sym, arith}
+use Rattle.std.proofs.lemmas.Grind.{elements}
 use Rattle.nc_script.specs.machinery.Session.{script_chunk}
 use Rattle.nc_script.specs.Replies.{chunk_words}
 use Rattle.std.specs.Prelude.{codes}
 use Rattle.nc_script.proofs.chunks.DumpReply.{dump_more, dump_whole}
 use Rattle.nc_script.proofs.chunks.RetiredChunks.{placed_at}
 use Rattle.nc_script.proofs.query.push_dump.Goals as goal
+
+pub unwrap-chunk-requires : goal.unwrap-chunk-requires
+unwrap-chunk-requires c = grind (arith, elements)
 
 pub loop-i-preserved : goal.loop-i-preserved
 loop-i-preserved c =

@@ -1,5 +1,6 @@
 -- What the session answers is what the script answers.
-use Rattle.std.proofs.Common.{ℕ, List, length, replicate, inr, ap, ◌∙◌}
+use Rattle.std.proofs.Common.{arith, ℕ, List, length, replicate, inr, ap, ◌∙◌}
+use Rattle.std.proofs.lemmas.Grind.{common_steps}
 use Rattle.std.proofs.lemmas.Result.{on_ok_weaker}
 use Rattle.nc_lines.specs.Lines.{lines_of, ended_lines}
 use Rattle.nc_lines.specs.Answering.{IsAnswered, IsBegun, IsCutShort}
@@ -10,6 +11,9 @@ use Rattle.nc_script.specs.Script.{ScriptSeat, Staying}
 use Rattle.nc_script.specs.machinery.Session.{FollowsLine}
 use Rattle.nc_script.proofs.serving.Carried.{answered_script, begun_script, cut_script}
 use Rattle.nc_script.proofs.replay.run_new.Goals as goal
+
+pub new-requires-2-clause-seats : goal.new-requires-2-clause-seats
+new-requires-2-clause-seats g c = grind (arith, common_steps)
 
 pub returns-in-Ok-new-clause-ok : goal.returns-in-Ok-new-clause-ok
 returns-in-Ok-new-clause-ok g c =
@@ -67,3 +71,6 @@ returns-in-Ok-new-clause-out_of_memory g c = λ e.
     cut_script c.in-Ok-new.session seats 0 (new_script c.args.bundles c.args.seats) c.in-Ok-new.ensures.fits begins before after
     (lines_of input) s)
     (c.answer_gathered.ensures.out_of_memory e))
+
+pub returns-clause-read_failed : goal.returns-clause-read_failed
+returns-clause-read_failed g c = grind (arith, common_steps)

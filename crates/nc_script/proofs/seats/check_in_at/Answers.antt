@@ -1,8 +1,20 @@
 use Rattle.std.proofs.Common.{arith, refl, sym, ◌∙◌}
 use Rattle.std.proofs.lemmas.List.{set-get_or}
-use Rattle.std.proofs.lemmas.Grind.{common_steps}
+use Rattle.std.proofs.lemmas.Grind.{common_steps, elements}
 use Rattle.nc_script.proofs.seating.Passes.{none_there}
 use Rattle.nc_script.proofs.seats.check_in_at.Goals as goal
+
+pub returns-then-seat-passes-clause-checks : goal.returns-then-seat-passes-clause-checks
+returns-then-seat-passes-clause-checks c = grind (arith, elements)
+
+pub check_in_pass-requires-clause-table : goal.check_in_pass-requires-clause-table
+check_in_pass-requires-clause-table c = grind (arith, elements)
+
+pub returns-in-Some-clause-checks : goal.returns-in-Some-clause-checks
+returns-in-Some-clause-checks c = grind (arith, elements)
+
+pub returns-in-Some-clause-seated : goal.returns-in-Some-clause-seated
+returns-in-Some-clause-seated c = grind (arith, elements)
 
 pub returns-clause-checks : goal.returns-clause-checks
 returns-clause-checks c = (

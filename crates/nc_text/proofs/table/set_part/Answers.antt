@@ -1,4 +1,5 @@
 use Rattle.std.proofs.Common.{◌/◌, ◌%◌, Some, length, arith, ◌∙◌}
+use Rattle.std.proofs.lemmas.Grind.{common_steps}
 use Rattle.std.specs.Box.{with_value}
 use Rattle.nc_text.specs.machinery.Pages.{mark_if_made}
 use Rattle.nc_text.proofs.Tables.{IsLentPage, lent_page, made_within, byte_kept, made_kept, mark_kept, on_page, out_on_page}
@@ -8,6 +9,9 @@ use Rattle.nc_text.proofs.table.set_part.Goals as goal
 lent_of : (c : goal.After-pages-1) → IsLentPage c.args.pages.now (c.args.at / 4096) c.in-Some.page c.deref_mut.result.now
 lent_of c = lent_page c.index-pages-at.result (made_within c.args.pages.now (c.args.at / 4096) c.requires.ready) c.in-Some.is
     c.deref_mut.ensures.value
+
+pub bounds-pages-at : goal.bounds-pages-at
+bounds-pages-at c = grind (arith, common_steps)
 
 pub returns-in-Some-clause-within : goal.returns-in-Some-clause-within
 returns-in-Some-clause-within c =

@@ -1,4 +1,5 @@
 use Rattle.std.proofs.Common.{◌≡◌, ℕ, ◌+◌, ◌/◌, ◌%◌, Some, arith, ap, ◌∙◌}
+use Rattle.std.proofs.lemmas.Grind.{common_steps}
 use Rattle.std.specs.Box.{with_value}
 use Rattle.nc_text.specs.MarkedText.{unused_mark}
 use Rattle.nc_text.specs.machinery.Pages.{mark_if_made}
@@ -26,3 +27,9 @@ returns-in-Some-clause-bytes c = λ k. byte_kept (lent_of c) c.unmark.new.self k
 
 pub returns-in-Some-clause-made : goal.returns-in-Some-clause-made
 returns-in-Some-clause-made c = made_kept (lent_of c) c.unmark.new.self
+
+pub returns-in_default-clause-others : goal.returns-in_default-clause-others
+returns-in_default-clause-others c = grind (arith, common_steps)
+
+pub returns-in_default-clause-made : goal.returns-in_default-clause-made
+returns-in_default-clause-made c = grind (arith, common_steps)

@@ -1,4 +1,5 @@
 use Rattle.std.proofs.Common.{◌≡◌, ◌+◌, ◌*◌, [], ◌∷◌, get_or, arith, refl}
+use Rattle.std.proofs.lemmas.Grind.{common_steps}
 use Rattle.nc_decode.specs.declared.automaton.TheConstants.{END}
 use Rattle.nc_decode.specs.Automaton.{next_state}
 use Rattle.nc_vet.proofs.EightRuns.{eight_each, put_at, next_by, have_stepped}
@@ -14,6 +15,12 @@ loop-i-init c = record {
     long = c.told-states;
   };
 }
+
+pub step_at-f-requires : goal.step_at-f-requires
+step_at-f-requires c = grind (arith, common_steps)
+
+pub overflow_add-place-in-loop-i-6 : goal.overflow_add-place-in-loop-i-6
+overflow_add-place-in-loop-i-6 c = grind (arith, common_steps)
 
 pub loop-i-preserved : goal.loop-i-preserved
 loop-i-preserved c = record {

@@ -1,4 +1,5 @@
 use Rattle.std.proofs.Common.{ℕ, ◌<◌, length, take, get_or, subst, arith, rules}
+use Rattle.std.proofs.lemmas.Grind.{common_steps}
 use Rattle.std.proofs.lemmas.List.{get_or-take, length-take}
 use Rattle.nc_vet.specs.machinery.Judged.{IsGoodEnd}
 use Rattle.nc_vet.specs.machinery.Lists.{AreBelow}
@@ -18,6 +19,9 @@ overflow_add-n c = omega (arith, c.loop-n.invariant.within, c.requires.each, c.r
 pub list_transfers-count-requires-clause-small : goal.list_transfers-count-requires-clause-small
 list_transfers-count-requires-clause-small c =
     subst (λ (bound : ℕ). AreBelow bound c.loop-n.list) c.requires.each c.loop-n.invariant.small
+
+pub are_good-requires-clause-small : goal.are_good-requires-clause-small
+are_good-requires-clause-small c = grind (arith, common_steps)
 
 pub loop-n-preserved : goal.loop-n-preserved
 loop-n-preserved c =

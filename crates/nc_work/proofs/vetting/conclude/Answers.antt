@@ -1,9 +1,13 @@
 use Rattle.std.proofs.Common.{None, arith, sym, add-one, ◌∙◌}
+use Rattle.std.proofs.lemmas.Grind.{common_steps}
 use Rattle.std.proofs.lemmas.List.{length-set}
 use Rattle.std.proofs.lemmas.Slice.Zip.{all_zipped_more}
 use Rattle.nc_work.specs.Verdicts.{IsVerdictOn}
 use Rattle.nc_work.proofs.Places.{next_at, found_fits, answers_set}
 use Rattle.nc_work.proofs.vetting.conclude.Goals as goal
+
+pub bounds-answers-number : goal.bounds-answers-number
+bounds-answers-number g c = grind (arith, common_steps)
 
 pub answer_of-answer-requires : goal.answer_of-answer-requires
 answer_of-answer-requires g c =
@@ -14,6 +18,9 @@ answer_of-answer-requires g c =
           (omega (arith, next.below, c.loop-job.invariant.len)) c.index-answers-number.is (c.take.ensures.value
           ∙ sym c.index-answers-number.is) next.here,
     )
+
+pub push_reserved-requires : goal.push_reserved-requires
+push_reserved-requires g c = grind (arith, common_steps)
 
 pub loop-job-preserved : goal.loop-job-preserved
 loop-job-preserved g c =
@@ -31,3 +38,6 @@ loop-job-preserved g c =
 
 pub verdict-requires : goal.verdict-requires
 verdict-requires g c = c.answer_of-answer.ensures
+
+pub returns : goal.returns
+returns g c = grind (arith, common_steps)

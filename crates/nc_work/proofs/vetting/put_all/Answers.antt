@@ -1,5 +1,10 @@
+use Rattle.std.proofs.Common.{arith}
+use Rattle.std.proofs.lemmas.Grind.{common_steps}
 use Rattle.nc_work.proofs.Places.{done_head, done_tail}
 use Rattle.nc_work.proofs.vetting.put_all.Goals as goal
+
+pub loop-one-init : goal.loop-one-init
+loop-one-init c = grind (arith, common_steps)
 
 pub put-requires-clause-done : goal.put-requires-clause-done
 put-requires-clause-done c = done_head c.args.jobs.now _ c.in-Some.one _ c.in-Some.ensures.steps.0 c.loop-one.invariant.done

@@ -1,4 +1,5 @@
 use Rattle.std.proofs.Common.{◌≡◌, Bool, true, false, ap, List, Option, Result, Ok, Err, arith, subst, sym, ◌∙◌, refl}
+use Rattle.std.proofs.lemmas.Grind.{common_steps}
 use Rattle.std.specs.Prelude.{All}
 use Rattle.nc_work.specs.declared.job.Job.{Job}
 use Rattle.nc_vet.specs.declared.marks.Marks.{Marks}
@@ -24,6 +25,9 @@ no_memory {V} {J} jobs e =
 -- verdicts are no fault
 an_answer : {V J : Type 0} (verdicts : V) (jobs : J) → ◌≡◌ {A = Result V (J × WorkFault)} (Ok verdicts) (Err (jobs, BadWorkers)) → ⊥
 an_answer verdicts jobs e = absurd (cc)
+
+pub work_all-requires : goal.work_all-requires
+work_all-requires g c = grind (arith, common_steps)
 
 pub gather-requires-clause-lists : goal.gather-requires-clause-lists
 gather-requires-clause-lists g c =

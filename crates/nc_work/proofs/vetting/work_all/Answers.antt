@@ -1,4 +1,5 @@
-use Rattle.std.proofs.Common.{subst, sym, rules}
+use Rattle.std.proofs.Common.{arith, subst, sym, rules}
+use Rattle.std.proofs.lemmas.Grind.{common_steps}
 use Rattle.std.specs.Global.{Vec}
 use Rattle.nc_work.specs.declared.work.Done.{Done}
 use Rattle.nc_work.specs.Answers.{AreDone}
@@ -9,3 +10,6 @@ for_each_mut-requires-clause-accepts g c = λ κs κ i p below is. (
   subst (λ (h : Vec Done). AreDone c.args.jobs.now h.items) (sym is) (c.requires i p.now below),
   search rules,
 )
+
+pub returns : goal.returns
+returns g c = grind (arith, common_steps)

@@ -1,4 +1,5 @@
 use Rattle.std.proofs.Common.{◌≡◌, ◌+◌, ◌*◌, ◌==◌, ◌<◌, ◌≤◌, ℕ, length, replicate, sym, subst, arith, ◌∙◌}
+use Rattle.std.proofs.lemmas.Grind.{common_steps}
 use Rattle.std.specs.Int.{bit_at}
 use Rattle.nc_handle.specs.machinery.Writing.{HasPutUpTo, marks_if}
 use Rattle.nc_handle.proofs.writing.MarkReads.{mark_read}
@@ -24,6 +25,9 @@ write_places-count-requires-clause-room g c =
     bundle_fits (marks_if c.args.marked (g.C.ReadChunk.marks c.args.chunk.now) c.args.base) c.places_of-places.result c.args.base c.loop-n.n
     (length (g.C.ReadChunk.code c.args.chunk.now)) c.args.acts.now c.args.from c.loop-n.acts c.loop-n.count (fits g at) (agree g at)
     c.loop-n.invariant c.requires.room
+
+pub loop-n-smaller : goal.loop-n-smaller
+loop-n-smaller g c = grind (arith, common_steps)
 
 pub loop-n-preserved : goal.loop-n-preserved
 loop-n-preserved g c =

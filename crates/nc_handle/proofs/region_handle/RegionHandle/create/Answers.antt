@@ -1,4 +1,5 @@
-use Rattle.std.proofs.Common.{ap, subst}
+use Rattle.std.proofs.Common.{arith, ap, subst}
+use Rattle.std.proofs.lemmas.Grind.{common_steps}
 use Rattle.std.specs.Prelude.{◌≡◌}
 use Rattle.nc_text.specs.Places.{limit_of}
 use Rattle.nc_region.specs.Region.{IsCreated}
@@ -8,6 +9,12 @@ use Rattle.nc_handle.specs.RegionHandle.{RegionHandleState}
 use Rattle.nc_handle.proofs.Reporting.{loads}
 use Rattle.nc_handle.proofs.SpanReads.{created_reported}
 use Rattle.nc_handle.proofs.region_handle.RegionHandle.create.Goals as goal
+
+pub invariant_of-span : goal.invariant_of-span
+invariant_of-span c = grind (arith, common_steps)
+
+pub returns-clause-reported : goal.returns-clause-reported
+returns-clause-reported c = grind (arith, common_steps)
 
 pub returns-clause-call : goal.returns-clause-call
 returns-clause-call c = λ seats.

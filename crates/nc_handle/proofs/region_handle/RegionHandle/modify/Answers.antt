@@ -1,4 +1,5 @@
-use Rattle.std.proofs.Common.{refl, length, ap, subst, ◌∙◌}
+use Rattle.std.proofs.Common.{arith, refl, length, ap, subst, ◌∙◌}
+use Rattle.std.proofs.lemmas.Grind.{common_steps}
 use Rattle.nc_region.specs.Patch.{IsPatch, MayRefusePatch}
 use Rattle.nc_calls.specs.Calls.{no_details}
 use Rattle.nc_calls.specs.Histories.{LogsCall}
@@ -7,6 +8,18 @@ use Rattle.nc_handle.specs.Pending.{ReportsPending}
 use Rattle.nc_handle.proofs.Reporting.{patches}
 use Rattle.nc_handle.proofs.PatchPlaces.{patch_lies, window_stands}
 use Rattle.nc_handle.proofs.region_handle.RegionHandle.modify.Goals as goal
+
+pub invariant_of-self : goal.invariant_of-self
+invariant_of-self c = grind (arith, common_steps)
+
+pub slice_bounds-report_patch-end : goal.slice_bounds-report_patch-end
+slice_bounds-report_patch-end c = grind (arith, common_steps)
+
+pub report_patch-requires-clause-long : goal.report_patch-requires-clause-long
+report_patch-requires-clause-long c = grind (arith, common_steps)
+
+pub invariant_of-self-2 : goal.invariant_of-self-2
+invariant_of-self-2 c = grind (arith, common_steps)
 
 pub returns-clause-lawful : goal.returns-clause-lawful
 returns-clause-lawful c =

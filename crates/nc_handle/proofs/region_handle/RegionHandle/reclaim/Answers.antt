@@ -17,6 +17,9 @@ all_keepers [] = All-nil IsKeepers
 all_keepers (p ∷ rest) =
     All-cons IsKeepers (Looks p.seat) (Looks p.seat ∷ meetings rest) tt (All-cons IsKeepers (Looks p.seat) (meetings rest) tt (all_keepers rest))
 
+pub invariant_of-self : goal.invariant_of-self
+invariant_of-self c = grind (arith, common_steps)
+
 pub returns-clause-reclaimed : goal.returns-clause-reclaimed
 returns-clause-reclaimed c =
     let same : c.attend.new.region ≡ record c.args.self.now.region { keeper = c.attend.new.region.keeper } = search rules in

@@ -1,6 +1,10 @@
 use Rattle.std.proofs.Common.{arith, ◌∙◌}
+use Rattle.std.proofs.lemmas.Grind.{common_steps}
 use Rattle.nc_handle.proofs.SpanReads.{span_long, span_byte}
 use Rattle.nc_handle.proofs.span.SpanReadChunk.byte.Goals as goal
+
+pub overflow_cast-i : goal.overflow_cast-i
+overflow_cast-i c = grind (arith, common_steps)
 
 pub overflow_add-self : goal.overflow_add-self
 overflow_add-self c =

@@ -1,8 +1,12 @@
 use Rattle.std.proofs.Common.{ℕ, ◌+◌, arith, ap, ◌∙◌}
+use Rattle.std.proofs.lemmas.Grind.{common_steps}
 use Rattle.nc_text.specs.Places.{byte_at}
 use Rattle.nc_text.specs.MarkedText.{MarkedText}
 use Rattle.nc_handle.proofs.SpanReads.{span_long, span_high, span_byte}
 use Rattle.nc_handle.proofs.span.SpanReadChunk.bytes.Goals as goal
+
+pub overflow_cast-i : goal.overflow_cast-i
+overflow_cast-i c = grind (arith, common_steps)
 
 pub overflow_add-self : goal.overflow_add-self
 overflow_add-self c =

@@ -1,4 +1,5 @@
-use Rattle.std.proofs.Common.{◌≡◌, ℕ, Bool, true, not, if◌then◌else◌, List, take, drop, sym, ap, ◌∙◌, subst}
+use Rattle.std.proofs.Common.{arith, ◌≡◌, ℕ, Bool, true, not, if◌then◌else◌, List, take, drop, sym, ap, ◌∙◌, subst}
+use Rattle.std.proofs.lemmas.Grind.{common_steps}
 use Rattle.std.specs.Result.{is_ok}
 use Rattle.std.specs.List.{insert}
 use Rattle.nc_list.specs.declared.chunk.Chunk.{Chunk}
@@ -22,6 +23,9 @@ put c =
     c.insert.ensures.items ∙ (ap (λ (b : Bool). if b then insert items k c.live.result else items) done
     ∙ ap (λ (d : Chunk). insert items k d) c.live.ensures) in
     rw (now, ← c.self.view_is) (put_at items k c.args.base c.args.len c.requires.some to above free)
+
+pub invariant_of-self-else-k-eq0 : goal.invariant_of-self-else-k-eq0
+invariant_of-self-else-k-eq0 c = grind (arith, common_steps)
 
 pub returns-then-k-eq0-clause-ok : goal.returns-then-k-eq0-clause-ok
 returns-then-k-eq0-clause-ok c = put (goal.at.returns-then-k-eq0-clause-ok c).Else-is_err

@@ -1,4 +1,5 @@
 use Rattle.std.proofs.Common.{ℕ, ◌<◌, List, length, get_or, map, sym, ap, ◌∙◌, arith, subst}
+use Rattle.std.proofs.lemmas.Grind.{common_steps}
 use Rattle.std.proofs.lemmas.List.{length-map}
 use Rattle.nc_list.specs.declared.chunk.Chunk.{Chunk}
 use Rattle.nc_list.proofs.Pieces.{starts_get}
@@ -41,6 +42,9 @@ index-requires g c =
       ap (λ (z : List ℕ). length z) c.deref.ensures.value,
       c.self.inside.parts.ok.0,
     )
+
+pub overflow_sub-i : goal.overflow_sub-i
+overflow_sub-i g c = grind (arith, common_steps)
 
 pub at-requires : goal.at-requires
 at-requires g c =

@@ -1,4 +1,5 @@
 use Rattle.std.proofs.Common.{◌≡◌, ℕ, ◌+◌, ◌<◌, List, [], ◌++◌, length, get_or, set, take, drop, map, sym, ap, ◌∙◌, arith, subst}
+use Rattle.std.proofs.lemmas.Grind.{common_steps}
 use Rattle.std.proofs.lemmas.List.{length-map, length-set, map-set}
 use Rattle.std.proofs.lemmas.Result.{err_from_is_err_and}
 use Rattle.nc_list.specs.declared.chunk.Chunk.{Chunk}
@@ -29,6 +30,9 @@ inside g c = omega (arith, c.in_ok-k.ensures.part.inside, length-map c.part_for_
 -- the chunks of that part
 part : (g : Over) (c : After-index_mut g) → g.T.Part.items c.index_mut.result.now ≡ get_or (parts_of g c) c.in_ok-k.k []
 part g c = part_is g.T.Part.items c.part_for_new.new.parts.items c.in_ok-k.k c.index_mut.result.now (inside g c) c.index_mut.ensures.value
+
+pub index_mut-requires : goal.index_mut-requires
+index_mut-requires g c = grind (arith, common_steps)
 
 pub insert-requires-clause-rising : goal.insert-requires-clause-rising
 insert-requires-clause-rising g c =
@@ -86,6 +90,9 @@ raise-requires-clause-few g c =
     subst (Each (λ (n : ℕ). n < 4294967295)) (sym c.deref_mut.ensures.value)
     (starts_few (parts_of g at) c.part_for_new.new.starts.items 4294967295 c.part_for_new.ensures.starts
     (omega (arith, c.requires.few, ap (λ (z : List Chunk). length z) (whole g at))))
+
+pub index-requires : goal.index-requires
+index-requires g c = grind (arith, common_steps)
 
 pub invariant_of-self-2 : goal.invariant_of-self-2
 invariant_of-self-2 g c =

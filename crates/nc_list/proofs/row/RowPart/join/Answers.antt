@@ -1,4 +1,5 @@
 use Rattle.std.proofs.Common.{◌≡◌, ◌<◌, List, ◌++◌, length, map, ap, ◌∙◌, arith, Bool, true, if◌then◌else◌, Result, Ok, Err, OnOk, is_ok}
+use Rattle.std.proofs.lemmas.Grind.{common_steps}
 use Rattle.std.proofs.lemmas.Bool.{false≢true}
 use Rattle.std.proofs.lemmas.List.{map-append}
 use Rattle.nc_list.specs.declared.chunk.Chunk.{Chunk}
@@ -17,6 +18,9 @@ join_starts-requires g c = record {
       c.upper.invariant.starts_are
       (omega (arith, c.if-self-gt-MOST.false, c.if-upper-gt-MOST.false, c.upper.invariant.count_is));
 }
+
+pub invariant_of-upper : goal.invariant_of-upper
+invariant_of-upper g c = grind (arith, common_steps)
 
 pub invariant_of-self-2 : goal.invariant_of-self-2
 invariant_of-self-2 g c =
@@ -37,3 +41,6 @@ invariant_of-self-2 g c =
     c.self.invariant c.upper.invariant some also
     (omega (arith, c.min-self-inside.ensures)) (omega (arith, c.min-self-inside.ensures))
     (each_some lower c.self.invariant.some some) (each_some upper c.upper.invariant.some also))
+
+pub returns-clause-joined : goal.returns-clause-joined
+returns-clause-joined g c = grind (arith, common_steps)

@@ -1,10 +1,14 @@
 use Rattle.std.proofs.Common.{◌≡◌, ◌+◌, ◌<◌, List, length, get_or, map, refl, sym, ap, ◌∙◌, arith, subst, Option, IfSome}
+use Rattle.std.proofs.lemmas.Grind.{common_steps}
 use Rattle.std.proofs.lemmas.List.{length-map}
 use Rattle.nc_list.specs.declared.chunk.Chunk.{Chunk}
 use Rattle.nc_list.specs.Chunks.{IsRising, IsAboveAll, IsNextChunk}
 use Rattle.nc_list.proofs.Pieces.{part_is, some_at}
 use Rattle.nc_list.proofs.Rows.{found, rise_here, next_all, next_first, next_none}
 use Rattle.nc_list.proofs.row.RowPart.next.Goals as goal
+
+pub index-requires : goal.index-requires
+index-requires g c = grind (arith, common_steps)
 
 pub next-found-requires : goal.next-found-requires
 next-found-requires g c =
@@ -21,6 +25,9 @@ returns-in-Some-clause-found g c =
     subst (λ (z : List Chunk). IsNextChunk z c.args.at c.in-Some.chunk) c.self.view_is
     (next_all (map g.T.Part.items c.self.inside.parts.items) c.part_near-k.result c.args.at c.in-Some.chunk is.for
     (subst (λ (z : List Chunk). IsNextChunk z c.args.at c.in-Some.chunk) is.part next))
+
+pub overflow_add-k : goal.overflow_add-k
+overflow_add-k g c = grind (arith, common_steps)
 
 pub at-requires : goal.at-requires
 at-requires g c =

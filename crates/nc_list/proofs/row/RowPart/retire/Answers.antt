@@ -1,10 +1,17 @@
 use Rattle.std.proofs.Common.{List, map, sym, arith, subst}
+use Rattle.std.proofs.lemmas.Grind.{common_steps}
 use Rattle.std.proofs.lemmas.List.{map-set}
 use Rattle.nc_list.specs.declared.chunk.Chunk.{Chunk}
 use Rattle.nc_list.specs.Chunks.{IsRising, IsRetired, HasBase}
 use Rattle.nc_list.specs.Parts.{IsRow}
 use Rattle.nc_list.proofs.Rows.{found, rise_here, has_here, retired_all, retired_row}
 use Rattle.nc_list.proofs.row.RowPart.retire.Goals as goal
+
+pub part_near-k-requires-clause-some : goal.part_near-k-requires-clause-some
+part_near-k-requires-clause-some g c = grind (arith, common_steps)
+
+pub index_mut-requires : goal.index_mut-requires
+index_mut-requires g c = grind (arith, common_steps)
 
 pub retire-requires-clause-rising : goal.retire-requires-clause-rising
 retire-requires-clause-rising g c =

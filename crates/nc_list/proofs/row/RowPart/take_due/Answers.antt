@@ -1,4 +1,5 @@
 use Rattle.std.proofs.Common.{◌≡◌, ℕ, ◌+◌, ◌-◌, ◌<◌, ◌≤◌, List, [], ◌++◌, length, get_or, take, drop, map, sym, ap, ◌∙◌, arith, subst}
+use Rattle.std.proofs.lemmas.Grind.{common_steps, elements}
 use Rattle.std.proofs.lemmas.List.{length-map, length-set, length-take-le}
 use Rattle.nc_list.specs.declared.chunk.Chunk.{Chunk}
 use Rattle.nc_list.specs.Each.{Each}
@@ -31,6 +32,9 @@ many g c = length-take-le c.in-Some.taken.count c.take_one.new.room c.in-Some.en
 inside : (g : Over) (c : In-Some g) → c.in-Some.taken.part < length (old g c)
 inside g c = taken_inside c.args.least (old g c) (new g c) (due g c) c.in-Some.taken.part c.in-Some.ensures.some
 
+pub overflow_add-is_last : goal.overflow_add-is_last
+overflow_add-is_last g c = grind (arith, common_steps)
+
 pub lower-requires-clause-inside : goal.lower-requires-clause-inside
 lower-requires-clause-inside g c =
     let at = (goal.at.lower-requires-clause-inside g c).In-Some in
@@ -58,6 +62,9 @@ overflow_sub-self g c =
       c.self.invariant.count_is,
       taken_long c.args.least (all_of (old g at)) (all_of (new g at)) (due g at) (taken_from c.args.least (old g at) (new g at) (due g at) c.in-Some.taken.part c.in-Some.ensures.some),
     )
+
+pub close_up-requires-clause-inside : goal.close_up-requires-clause-inside
+close_up-requires-clause-inside g c = grind (arith, elements)
 
 pub close_up-requires-clause-starts : goal.close_up-requires-clause-starts
 close_up-requires-clause-starts g c =

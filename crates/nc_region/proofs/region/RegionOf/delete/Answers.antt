@@ -1,4 +1,5 @@
 use Rattle.std.proofs.Common.{◌≡◌, ℕ, ◌-◌, ◌<◌, List, set, replicate, Contains, Some, sym, subst, ap, ◌∙◌, refl, arith}
+use Rattle.std.proofs.lemmas.Grind.{elements, common_steps}
 use Rattle.std.proofs.lemmas.Option.{slice_get-get_or}
 use Rattle.nc_text.specs.Places.{limit_of}
 use Rattle.nc_text.proofs.Offered.{confined_if_closed}
@@ -14,6 +15,9 @@ use Rattle.nc_region.proofs.chunks.ReadyPlaces.{ready_held, ready_set}
 use Rattle.nc_region.proofs.deleting.Deleted.{retired_set, deleted_is, region_deleted}
 use Rattle.nc_region.proofs.RegionParts.{region_of}
 use Rattle.nc_region.proofs.region.RegionOf.delete.Goals as goal
+
+pub live_place-requires-clause-some : goal.live_place-requires-clause-some
+live_place-requires-clause-some g c = grind (arith, elements)
 
 pub returns-in_default-clause-confined : goal.returns-in_default-clause-confined
 returns-in_default-clause-confined g c = rw (← c.self.view_is) (confined_if_closed _ _ c.self.invariant.0.whole.closed)
@@ -42,6 +46,9 @@ pub put_stops-stamp-requires-clause-ready : goal.put_stops-stamp-requires-clause
 put_stops-stamp-requires-clause-ready g c =
     let f = c.in-Some.ensures.some in
     rw (← f.2) (ready_held (g.A.Acts.made c.self.inside.acts) c.self.inside.chunks c.in-Some.chunk c.self.invariant.1 f.0)
+
+pub retire-requires-clause-rising : goal.retire-requires-clause-rising
+retire-requires-clause-rising g c = grind (arith, common_steps)
 
 pub retire-requires-clause-base : goal.retire-requires-clause-base
 retire-requires-clause-base g c =

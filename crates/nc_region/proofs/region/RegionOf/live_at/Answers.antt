@@ -1,4 +1,5 @@
-use Rattle.std.proofs.Common.{◌≡◌, ℕ, List, Option, Some, None, IfSome, Contains}
+use Rattle.std.proofs.Common.{arith, ◌≡◌, ℕ, List, Option, Some, None, IfSome, Contains}
+use Rattle.std.proofs.lemmas.Grind.{elements}
 use Rattle.nc_text.specs.Places.{limit_of}
 use Rattle.nc_list.specs.declared.chunk.Chunk.{Chunk}
 use Rattle.nc_list.specs.declared.chunk.ChunkState.TheVariants.{Live}
@@ -12,6 +13,9 @@ placed : (limit base : ℕ) (chunks : List Chunk) (found : Option Chunk) → Eac
     → IfSome found (λ c. Contains chunks c × (c.state ≡ Live) × (c.base ≡ base)) → IfSome found (λ c. HasGoodSpan c.base limit c.length)
 placed limit base chunks None all is = tt
 placed limit base chunks (Some c) all is = each_contains (λ (d : Chunk). HasGoodSpan d.base limit d.length) chunks c all is.0
+
+pub live_at-requires-clause-some : goal.live_at-requires-clause-some
+live_at-requires-clause-some g c = grind (arith, elements)
 
 pub returns-clause-placed : goal.returns-clause-placed
 returns-clause-placed g c =

@@ -1,5 +1,9 @@
-use Rattle.std.proofs.Common.{rules}
+use Rattle.std.proofs.Common.{rules, arith}
+use Rattle.std.proofs.lemmas.Grind.{common_steps}
 use Rattle.nc_region.proofs.region.RegionOf.meet.Goals as goal
+
+pub invariant_of-self : goal.invariant_of-self
+invariant_of-self g c = grind (arith, common_steps)
 
 pub returns-clause-met : goal.returns-clause-met
 returns-clause-met g c = search rules

@@ -1,4 +1,5 @@
 use Rattle.std.proofs.Common.{ap, subst, sym, ◌∙◌, arith}
+use Rattle.std.proofs.lemmas.Grind.{common_steps}
 use Rattle.nc_text.specs.Places.{limit_of}
 use Rattle.nc_text.specs.MarkedText.{MarkedText}
 use Rattle.nc_text.proofs.Offered.{confined_if_closed}
@@ -10,6 +11,9 @@ use Rattle.nc_region.proofs.deleting.Due.{few, reclaimed_is}
 use Rattle.nc_region.proofs.deleting.Least.{least_below}
 use Rattle.nc_region.proofs.RegionParts.{region_of}
 use Rattle.nc_region.proofs.region.RegionOf.reclaim.Goals as goal
+
+pub free_due-requires-clause-region : goal.free_due-requires-clause-region
+free_due-requires-clause-region g c = grind (arith, common_steps)
 
 pub invariant_of-self : goal.invariant_of-self
 invariant_of-self g c =

@@ -1,10 +1,14 @@
-use Rattle.std.proofs.Common.{List, length, map, Some, replicate, sym, ap, ◌∙◌, subst}
+use Rattle.std.proofs.Common.{arith, List, length, map, Some, replicate, sym, ap, ◌∙◌, subst}
+use Rattle.std.proofs.lemmas.Grind.{common_steps}
 use Rattle.nc_gens.specs.Seen.{PassState}
 use Rattle.nc_region.specs.Region.{Region}
 use Rattle.nc_script.specs.Script.{Staying}
 use Rattle.nc_script.specs.machinery.Session.{SessionState, SeatsState, FitsSession}
 use Rattle.nc_script.proofs.seating.FirstState.{first_fits}
 use Rattle.nc_script.proofs.session.Session.new.Goals as goal
+
+pub returns-in-Ok-clause-script : goal.returns-in-Ok-clause-script
+returns-in-Ok-clause-script c = grind (arith, common_steps)
 
 pub returns-in-Ok-clause-fits : goal.returns-in-Ok-clause-fits
 returns-in-Ok-clause-fits c =

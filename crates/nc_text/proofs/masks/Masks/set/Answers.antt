@@ -1,4 +1,5 @@
 use Rattle.std.proofs.Common.{◌≡◌, ℕ, zero, suc, ◌+◌, ◌*◌, ◌/◌, ◌%◌, ◌==◌, ◌<◌, false, if◌then◌else◌, Bool, refl, ap, sym, ◌∙◌, arith, rules}
+use Rattle.std.proofs.lemmas.Grind.{common_steps}
 use Rattle.std.specs.Int.{bit_at}
 use Rattle.nc_decode.specs.declared.instruction.Mark.{Mark}
 use Rattle.nc_decode.specs.declared.instruction.Mark.TheVariants.{After}
@@ -31,6 +32,9 @@ second_half m at r lt s t l i h = rw (s, t, l, i, h) (ap after (by_bits r lt))
   where
     after : ℕ → Mark
     after k = After k
+
+pub returns-in_default : goal.returns-in_default
+returns-in_default c = grind (arith, common_steps)
 
 pub returns-clause-same : goal.returns-clause-same
 returns-clause-same c =

@@ -1,4 +1,5 @@
 use Rattle.std.proofs.Common.{◌-◌, ◌<◌, ◌∙◌, length, arith, refl}
+use Rattle.std.proofs.lemmas.Grind.{common_steps}
 use Rattle.std.proofs.lemmas.Bool.Decides.{nat_tests}
 use Rattle.nc_text.specs.MarkedText.{with_marks}
 use Rattle.nc_text.proofs.Putting.{marks_spanned}
@@ -9,6 +10,12 @@ use Rattle.nc_text.proofs.text.Text.mark_span.Goals as goal
 -- the table of the text was lent
 lent_of : (c : After-deref_mut) → IsLent c.self.inside.pages.items c.deref_mut.result.now c.self.inside.size c.args.self.now
 lent_of c = record { loan = c.deref_mut.ensures.value; view = c.self.view_is; kept = c.self.invariant }
+
+pub returns-then-is_empty-clause-marked : goal.returns-then-is_empty-clause-marked
+returns-then-is_empty-clause-marked c = grind (arith, common_steps)
+
+pub returns-then-is_empty-clause-whole : goal.returns-then-is_empty-clause-whole
+returns-then-is_empty-clause-whole c = grind (arith, common_steps)
 
 pub set_span-requires-clause-ready : goal.set_span-requires-clause-ready
 set_span-requires-clause-ready c =

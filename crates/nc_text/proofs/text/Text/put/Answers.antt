@@ -1,4 +1,5 @@
 use Rattle.std.proofs.Common.{◌-◌, ◌∙◌, arith}
+use Rattle.std.proofs.lemmas.Grind.{common_steps}
 use Rattle.nc_text.specs.MarkedText.{with_byte}
 use Rattle.nc_text.proofs.Putting.{byte_put}
 use Rattle.nc_text.proofs.Views.{IsLent, IsSeenAs, state, put_back, changed, lent_made, same_marks}
@@ -17,6 +18,9 @@ seen_of c =
     (byte_put lent c.put.new.pages (c.args.at - 65536) c.args.byte (omega (arith, c.requires.inside.0, c.requires.inside.1)) c.put.ensures.same
     c.put.ensures.other)
     (same_marks lent c.put.new.pages c.put.ensures.marks) (c.put.ensures.made ∙ lent_made lent) c.requires.closed
+
+pub put-requires : goal.put-requires
+put-requires c = grind (arith, common_steps)
 
 pub invariant_of-self : goal.invariant_of-self
 invariant_of-self c = let seen = seen_of c in (seen.whole, seen.long)

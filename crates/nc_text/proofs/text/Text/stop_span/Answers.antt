@@ -1,4 +1,5 @@
 use Rattle.std.proofs.Common.{ℕ, ◌-◌, ◌∙◌, replicate, arith, sym}
+use Rattle.std.proofs.lemmas.Grind.{common_steps, rows}
 use Rattle.std.proofs.lemmas.List.{get_or-replicate, length-replicate}
 use Rattle.nc_text.specs.machinery.Pages.{mark_in_pages}
 use Rattle.nc_text.specs.MarkedText.{with_stops}
@@ -10,6 +11,12 @@ use Rattle.nc_text.proofs.text.Text.stop_span.Goals as goal
 -- the table of the text was lent
 lent_of : (c : After-deref_mut) → IsLent c.self.inside.pages.items c.deref_mut.result.now c.self.inside.size c.args.self.now
 lent_of c = record { loan = c.deref_mut.ensures.value; view = c.self.view_is; kept = c.self.invariant }
+
+pub returns-then-len-eq0-clause-marked : goal.returns-then-len-eq0-clause-marked
+returns-then-len-eq0-clause-marked c = grind (arith, common_steps, rows)
+
+pub returns-then-len-eq0-clause-whole : goal.returns-then-len-eq0-clause-whole
+returns-then-len-eq0-clause-whole c = grind (arith, common_steps)
 
 pub change-requires-clause-ready : goal.change-requires-clause-ready
 change-requires-clause-ready c =

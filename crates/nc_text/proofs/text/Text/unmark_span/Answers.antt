@@ -1,4 +1,5 @@
 use Rattle.std.proofs.Common.{◌∙◌, ◌+◌, ◌-◌, arith, sym}
+use Rattle.std.proofs.lemmas.Grind.{common_steps}
 use Rattle.std.proofs.lemmas.List.FromFn.{length-map-range_with_len, get_or-map-range_with_len}
 use Rattle.nc_decode.specs.declared.instruction.Mark.TheVariants.{Unmarked}
 use Rattle.nc_text.specs.MarkedText.{unused_mark, unused_marks, with_marks}
@@ -10,6 +11,12 @@ use Rattle.nc_text.proofs.text.Text.unmark_span.Goals as goal
 -- the table of the text was lent
 lent_of : (c : After-deref_mut) → IsLent c.self.inside.pages.items c.deref_mut.result.now c.self.inside.size c.args.self.now
 lent_of c = record { loan = c.deref_mut.ensures.value; view = c.self.view_is; kept = c.self.invariant }
+
+pub returns-then-len-eq0-clause-marked : goal.returns-then-len-eq0-clause-marked
+returns-then-len-eq0-clause-marked c = grind (arith, common_steps)
+
+pub returns-then-len-eq0-clause-whole : goal.returns-then-len-eq0-clause-whole
+returns-then-len-eq0-clause-whole c = grind (arith, common_steps)
 
 pub unmark-requires-clause-inside : goal.unmark-requires-clause-inside
 unmark-requires-clause-inside c = λ k lt.
