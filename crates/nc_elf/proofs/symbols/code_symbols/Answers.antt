@@ -1,10 +1,14 @@
 use Rattle.std.proofs.Common.{List, rules, subst}
 use Rattle.std.proofs.lemmas.List.Sorted.{IsNonDecreasingBy-from_sort_by_key, All-permutation, answers_always}
+use Rattle.std.proofs.lemmas.Result.{IfOk-from_err}
 use Rattle.nc_elf.specs.declared.sections.SymbolSections.{SymbolSections}
 use Rattle.nc_elf.specs.declared.symbols.Symbol.{Symbol}
 use Rattle.nc_elf.specs.Symbols.{symbols_of, AreSorted, IsNamed}
 use Rattle.nc_elf.proofs.OneTable.{same_sections}
 use Rattle.nc_elf.proofs.symbols.code_symbols.Goals as goal
+
+pub returns-in_err-sort_by_key-clause-ascending : goal.returns-in_err-sort_by_key-clause-ascending
+returns-in_err-sort_by_key-clause-ascending c = IfOk-from_err _ _ c.from_residual-in_err-sort_by_key.ensures.0
 
 pub returns-clause-symbols : goal.returns-clause-symbols
 returns-clause-symbols c =

@@ -1,5 +1,6 @@
 use Rattle.std.proofs.Common.{◌≡◌, List, [], ◌∷◌, ◌++◌, true, false, All, ap, sym, ◌∙◌, subst}
 use Rattle.std.proofs.lemmas.List.Elements.{All-push}
+use Rattle.std.proofs.lemmas.Result.{IfOk-from_err}
 use Rattle.nc_elf.specs.declared.entries.SymbolEntry.{SymbolEntry}
 use Rattle.nc_elf.specs.declared.symbols.Symbol.{Symbol}
 use Rattle.nc_elf.specs.Symbols.{symbol_entry, is_listed, symbol_of, IsNamed}
@@ -7,6 +8,12 @@ use Rattle.nc_elf.specs.machinery.Pass.{first_symbols}
 use Rattle.nc_elf.proofs.Listed.{more_listed, more_unlisted}
 use Rattle.nc_elf.proofs.symbols.list_symbols.Goals as goal
 use Rattle.nc_elf.proofs.symbols.list_symbols.Goals.{in-Some+in_ok-push, in_default}
+
+pub returns-in_err-push-clause-listed : goal.returns-in_err-push-clause-listed
+returns-in_err-push-clause-listed c = IfOk-from_err _ _ c.from_residual.ensures.0
+
+pub returns-in_err-push-clause-named : goal.returns-in_err-push-clause-named
+returns-in_err-push-clause-named c = IfOk-from_err _ _ c.from_residual.ensures.0
 
 pub loop-number-preserved : goal.loop-number-preserved
 loop-number-preserved c =

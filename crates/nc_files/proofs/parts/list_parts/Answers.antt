@@ -1,6 +1,7 @@
 use Rattle.nc_elf.specs.Segments.{IsPlaced, bytes_of}
 use Rattle.std.proofs.Common.{arith, map}
 use Rattle.std.proofs.lemmas.Grind.{common_steps}
+use Rattle.std.proofs.lemmas.Result.{IfOk-from_err}
 use Rattle.nc_files.specs.Parts.{code_in, part_name, named, labels_of}
 use Rattle.nc_files.proofs.Listed.{made_more, all_after, all_first}
 use Rattle.nc_files.proofs.parts.list_parts.Goals as goal
@@ -23,6 +24,9 @@ loop-segment-preserved c =
           pushed c.in_ok-part_of.ensures.name,
       all_after (IsPlaced file) _ _ _ placed next,
     )
+
+pub returns-in_err-push-clause-names : goal.returns-in_err-push-clause-names
+returns-in_err-push-clause-names c = IfOk-from_err _ _ c.from_residual-in_err-push.ensures.0
 
 pub returns-clause-bases : goal.returns-clause-bases
 returns-clause-bases c = grind (arith, common_steps)

@@ -1,4 +1,5 @@
 use Rattle.std.proofs.Common.{rules, arith, ◌≡◌, All, length, sym, ap, ◌∙◌, subst}
+use Rattle.std.proofs.lemmas.Result.{IfOk-from_err}
 use lib.ListN.{length-replicate}
 use Rattle.nc_gens.proofs.FirstTable.{length-new_passes, tables-new_passes}
 use Rattle.nc_gens.proofs.HandingOver.{gives_pass}
@@ -12,6 +13,21 @@ split_seat-token-requires c =
     ∙ length-replicate c.args.seats 0 in
     let given : c.loop-seat.keeper.me.0.given ≡ c.loop-seat.seat = ap (λ m. m.0.given) me in
     (search rules, search rules, gives_pass _ _ (ap (λ m. m.0.is_pass) me) (ap (λ m. m.0.is_keeper) me) (omega arith))
+
+pub returns-in_err-push-clause-passes : goal.returns-in_err-push-clause-passes
+returns-in_err-push-clause-passes c = IfOk-from_err _ _ c.from_residual-in_err-push.ensures.0
+
+pub returns-in_err-push-clause-count : goal.returns-in_err-push-clause-count
+returns-in_err-push-clause-count c = IfOk-from_err _ _ c.from_residual-in_err-push.ensures.0
+
+pub returns-in_err-push-clause-tables : goal.returns-in_err-push-clause-tables
+returns-in_err-push-clause-tables c = IfOk-from_err _ _ c.from_residual-in_err-push.ensures.0
+
+pub returns-in_err-push-clause-table : goal.returns-in_err-push-clause-table
+returns-in_err-push-clause-table c = IfOk-from_err _ _ c.from_residual-in_err-push.ensures.0
+
+pub returns-in_err-push-clause-view : goal.returns-in_err-push-clause-view
+returns-in_err-push-clause-view c = IfOk-from_err _ _ c.from_residual-in_err-push.ensures.0
 
 pub returns-clause-count : goal.returns-clause-count
 returns-clause-count c =

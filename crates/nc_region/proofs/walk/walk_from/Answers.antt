@@ -1,5 +1,6 @@
 use Rattle.std.proofs.Common.{◌<◌, List, ℕ, [], length, get_or, take, arith, refl}
 use Rattle.std.proofs.lemmas.List.{take_more}
+use Rattle.std.proofs.lemmas.Result.{IfOk-from_err}
 use Rattle.nc_text.specs.Machine.{state}
 use Rattle.nc_region.specs.declared.trace.End.{End}
 use Rattle.nc_region.specs.declared.trace.End.TheVariants.{More}
@@ -31,6 +32,15 @@ step-requires-clause-safe g c =
     let marked = g.A.Acts.marked c.args.acts.now in
     way_is_safe marked.bytes marked.marks c.args.start _ _
     (state c.loop-choice.now.place c.loop-choice.now.masked) c.requires.whole.closed c.loop-choice.invariant
+
+pub returns-in_err-push-in-Ok-clause-trace : goal.returns-in_err-push-in-Ok-clause-trace
+returns-in_err-push-in-Ok-clause-trace g c = IfOk-from_err _ _ c.from_residual-in_err-push-in-Ok.ensures.0
+
+pub returns-in_err-push-in-Ok-clause-only : goal.returns-in_err-push-in-Ok-clause-only
+returns-in_err-push-in-Ok-clause-only g c = IfOk-from_err _ _ c.from_residual-in_err-push-in-Ok.ensures.0
+
+pub returns-in_err-push-in-Ok-clause-safe : goal.returns-in_err-push-in-Ok-clause-safe
+returns-in_err-push-in-Ok-clause-safe g c = IfOk-from_err _ _ c.from_residual-in_err-push-in-Ok.ensures.0
 
 pub instruction_or_end-requires-clause-safe : goal.instruction_or_end-requires-clause-safe
 instruction_or_end-requires-clause-safe g c =

@@ -1,10 +1,14 @@
 use Rattle.std.proofs.Common.{◌∷◌, [], ◌++◌, ℕ, ap, ◌∙◌, arith}
+use Rattle.std.proofs.lemmas.Result.{IfOk-from_err}
 use Rattle.hex.specs.Hex.{encode_lower}
 use Rattle.nc_script.proofs.chunks.SpanDigits.{digits_none, digits_more}
 use Rattle.nc_script.proofs.answer.push_span.Goals as goal
 
 pub loop-at-init : goal.loop-at-init
 loop-at-init c = digits_none c.args.region.now.marked.bytes c.args.out.now.items c.args.base
+
+pub returns-in_err-push_byte : goal.returns-in_err-push_byte
+returns-in_err-push_byte c = IfOk-from_err _ _ c.from_residual.ensures.0
 
 pub loop-at-preserved : goal.loop-at-preserved
 loop-at-preserved c =

@@ -3,12 +3,16 @@ use Rattle.std.proofs.lemmas.Grind.{elements}
 use Rattle.nc_script.specs.machinery.Session.{script_chunk}
 use Rattle.nc_script.specs.Replies.{chunk_words}
 use Rattle.std.specs.Prelude.{codes}
+use Rattle.std.proofs.lemmas.Result.{IfOk-from_err}
 use Rattle.nc_script.proofs.chunks.DumpReply.{dump_more, dump_whole}
 use Rattle.nc_script.proofs.chunks.RetiredChunks.{placed_at}
 use Rattle.nc_script.proofs.query.push_dump.Goals as goal
 
 pub unwrap-chunk-requires : goal.unwrap-chunk-requires
 unwrap-chunk-requires c = grind (arith, elements)
+
+pub returns-in_err-push_chunk : goal.returns-in_err-push_chunk
+returns-in_err-push_chunk c = IfOk-from_err _ _ c.from_residual-in_err-push_chunk.ensures.0
 
 pub loop-i-preserved : goal.loop-i-preserved
 loop-i-preserved c =

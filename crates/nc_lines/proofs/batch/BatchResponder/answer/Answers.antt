@@ -1,7 +1,14 @@
 use Rattle.std.proofs.Common.{◌≡◌, [], Some, None, sym, append-nil, rules}
+use Rattle.std.proofs.lemmas.Result.{IfOk-from_err}
 use Rattle.nc_lines.specs.Words.{chunk_in}
 use Rattle.nc_lines.proofs.Gathering.{gathers_chunk, gathers_none}
 use Rattle.nc_lines.proofs.batch.BatchResponder.answer.Goals as goal
+
+pub returns-in_err-push-in-Some-2 : goal.returns-in_err-push-in-Some-2
+returns-in_err-push-in-Some-2 c = IfOk-from_err _ _ c.from_residual-in_err-push-in-Some-2.ensures.0
+
+pub returns-in_err-push-in-None : goal.returns-in_err-push-in-None
+returns-in_err-push-in-None c = IfOk-from_err _ _ c.from_residual-in_err-push-in-None.ensures.0
 
 pub returns-in_ok-push-in-Some-2 : goal.returns-in_ok-push-in-Some-2
 returns-in_ok-push-in-Some-2 c = λ line e.
