@@ -1,5 +1,5 @@
 -- Rows cut in two and joined.
-use Rattle.std.proofs.Common.{◌≡◌, ℕ, ◌+◌, ◌-◌, ◌<◌, ◌≤◌, List, [], ◌∷◌, ◌++◌, length, get_or, take, drop, map, sym, ap, ◌∙◌, arith, subst}
+use Rattle.std.proofs.Common.{◌≡◌, ℕ, ◌+◌, ◌-◌, ◌<◌, ◌≤◌, List, [], ◌∷◌, ◌++◌, length, get_or, take, drop, map, refl, sym, ap, ◌∙◌, arith, subst}
 use Rattle.std.proofs.lemmas.List.{length-append, length-take-le, length-drop, take_at, drop_at, take-append-drop}
 use Rattle.nc_list.specs.declared.chunk.Chunk.{Chunk}
 use Rattle.nc_list.specs.Each.{Each}
@@ -148,3 +148,7 @@ pub each_some : (parts : List (List Chunk)) → HaveSome parts → 0 < length (a
 each_some [] have some = tt
 each_some (p ∷ []) have some = (omega (arith, some, length-append p []), tt)
 each_some (p ∷ (q ∷ parts)) have some = have (omega arith)
+
+-- a row without a part
+pub no_row : (first oldest : ℕ) → IsRow [] [] 0 first oldest
+no_row first oldest = record { starts_are = refl; some = λ several. absurd (omega (arith, several)); count_is = refl; begins = tt; since = tt }

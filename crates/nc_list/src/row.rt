@@ -1,6 +1,6 @@
 //! A row of parts.
 
-ghost use Rattle.std.specs.Prelude.{◌≡◌, ◌<◌, length};
+ghost use Rattle.std.specs.Prelude.{◌≡◌, ◌+◌, ◌<◌, ◌≤◌, ◌^◌, length, vec_len, vec_capacity, IsTrue};
 
 use crate::chunk::Chunk;
 use crate::entry::Entry;
@@ -59,6 +59,30 @@ fn cut_at<T: Part>(parts: &[T], base: u32) -> usize
     } else {
         parts.len() / 2
     }
+}
+
+/// Whether a row with these parts, which have `count` chunks, can take `more` parts, which have `added` chunks: both rows are small,
+/// and there is room.
+fn may_join<T: Part>(
+    parts: &Vec<T>,
+    starts: &Vec<u32>,
+    count: usize,
+    more: &Vec<T>,
+    added: usize,
+) -> bool
+    ensures parts { IsTrue result → vec_len parts.now + vec_len more.now ≤ vec_capacity parts.now }
+    ensures starts { IsTrue result → vec_len parts.now + vec_len more.now ≤ vec_capacity starts.now }
+    ensures count { IsTrue result → count < 2 ^ 30 }
+    ensures added { IsTrue result → (0 < added) × (added < 2 ^ 30) }
+{
+    let len = parts.len() + more.len();
+    // Far more chunks than a region has. Numbers up to `MOST` don't overflow.
+    len <= SMALL
+        && len <= parts.capacity()
+        && len <= starts.capacity()
+        && count <= MOST
+        && added <= MOST
+        && added != 0
 }
 
 impl<T: Part> Part for Row<T> {
@@ -146,24 +170,21 @@ impl<T: Part> Part for Row<T> {
     }
 
     fn join(&mut self, upper: &mut Row<T>) -> bool {
-        let len = self.parts.len() + upper.parts.len();
-        if SMALL < len || self.parts.capacity() < len || self.starts.capacity() < len {
+        if !may_join(
+            &self.parts,
+            &self.starts,
+            self.count,
+            &upper.parts,
+            upper.count,
+        ) {
             return false;
         }
-        // Far more chunks than a region has. Numbers up to here don't overflow.
-        if MOST < self.count || MOST < upper.count || upper.count == 0 {
-            return false;
-        }
-        if join_starts(&mut self.starts, &upper.starts, self.count as u32).is_err() {
-            return false;
-        }
-        if self.parts.append(&mut upper.parts).is_err() {
-            self.starts.truncate(self.parts.len());
-            return false;
-        }
+        join_starts(&mut self.starts, &upper.starts, self.count as u32);
+        // There is room, so it can't fail.
+        let _ = self.parts.append(&mut upper.parts);
+        upper.starts.clear();
         self.count += upper.count;
         self.oldest = self.oldest.min(upper.oldest);
-        upper.starts.clear();
         upper.count = 0;
         true
     }

@@ -1,6 +1,6 @@
 //! How many chunks stand before each part of a row.
 
-ghost use Rattle.std.specs.Prelude.{◌≡◌, ◌+◌, ◌-◌, ◌<◌, ◌≤◌, ◌^◌, ◌++◌, ℕ, length, take, drop, map, slice_index_or, IfOk, OnOk, OnErr};
+ghost use Rattle.std.specs.Prelude.{◌≡◌, ◌+◌, ◌-◌, ◌<◌, ◌≤◌, ◌^◌, ◌++◌, ℕ, length, take, drop, map, vec_len, vec_capacity, slice_index_or, IfOk};
 ghost use Rattle.nc_list.specs.Each.{Each};
 
 use std::alloc::AllocError;
@@ -41,21 +41,15 @@ pub(crate) fn split_starts(starts: &Vec<u32>, cut: usize) -> Result<Vec<u32>, Al
     Ok(upper)
 }
 
-/// Adds the numbers of more parts, behind `count` chunks.
-pub(crate) fn join_starts(
-    starts: &mut Vec<u32>,
-    upper: &Vec<u32>,
-    count: u32,
-) -> Result<(), AllocError>
+/// Adds the numbers of more parts, behind `count` chunks. There is room for them.
+pub(crate) fn join_starts(starts: &mut Vec<u32>, upper: &Vec<u32>, count: u32)
     requires few { Each (λ (n : ℕ). n + count < 2 ^ 32) upper.now.items }
-    ensures ok { OnOk result (starts.new.items ≡ starts.old.items ++ map (λ (n : ℕ). n + count) upper.now.items) }
-    ensures err { OnErr result (starts.new.items ≡ starts.old.items) }
+    requires room { vec_len starts.old + vec_len upper.now ≤ vec_capacity starts.old }
+    ensures { starts.new.items ≡ starts.old.items ++ map (λ (n : ℕ). n + count) upper.now.items }
 {
-    starts.reserve(upper.len())?;
     for i in 0..upper.len() {
         starts.push_reserved(upper[i] + count);
     }
-    Ok(())
 }
 
 /// The part that has the chunk at an index.
