@@ -1,6 +1,6 @@
 //! A leaf of the list: chunks in one piece of memory.
 
-ghost use Rattle.std.specs.Prelude.{◌≡◌, ◌+◌, ◌-◌, ◌<◌, ◌≤◌, ◌^◌, [], ◌++◌, length, take, drop, IsTrue};
+ghost use Rattle.std.specs.Prelude.{◌≡◌, ◌+◌, ◌-◌, ◌<◌, ◌≤◌, ◌^◌, [], ◌++◌, length, take, drop, IsTrue, IfOk};
 ghost use Rattle.nc_list.specs.Chunks.{IsRising, AreTaken, freed};
 ghost use Rattle.nc_list.specs.Stamps.{AreSince, BeginsAt};
 ghost use Rattle.nc_list.specs.Parts.{BeginTo, BeginAbove};
@@ -151,6 +151,36 @@ fn take_from(entries: &mut Vec<Entry>, least: u64, room: &mut [Entry]) -> (usize
     (count, low)
 }
 
+/// The number of chunks that stay in a leaf that is split: all but one if the new chunk comes behind all others, one if it comes
+/// before them.
+fn cut_at(entries: &[Entry], first: u32, base: u32) -> usize
+    requires { 1 < length entries.now }
+    ensures { (0 < result) × (result < length entries.now) }
+{
+    let last = entries.len() - 1;
+    if entries[last].base() < base {
+        last
+    } else if base < first {
+        1
+    } else {
+        entries.len() / 2
+    }
+}
+
+/// A leaf of these chunks.
+fn leaf_of(alloc: Global, chunks: &[Entry]) -> Result<Leaf, AllocError>
+    ensures { IfOk result (λ leaf. leaf ≡ chunks.now) }
+{
+    // Room for a full leaf, so that any two small leaves can become one.
+    let mut entries = Vec::with_capacity(alloc, FULL)?;
+    entries.extend_from_slice(chunks)?;
+    Ok(Leaf {
+        entries,
+        first: first_base(chunks),
+        oldest: oldest_in(chunks),
+    })
+}
+
 impl Part for Leaf {
     ghost items = { λ l. l };
 
@@ -213,29 +243,14 @@ impl Part for Leaf {
     }
 
     fn split(&mut self, base: u32) -> Result<Option<Leaf>, AllocError> {
-        let len = self.entries.len();
-        if len < FULL {
+        if self.entries.len() < FULL {
             return Ok(None);
         }
-        let cut = if self.entries[len - 1].base() < base {
-            len - 1
-        } else if base < self.first {
-            1
-        } else {
-            len / 2
-        };
-        // Room for a full leaf, so that any two small leaves can become one.
-        let mut entries = Vec::with_capacity(*self.entries.allocator(), FULL)?;
-        entries.extend_from_slice(&self.entries[cut..])?;
+        let cut = cut_at(&self.entries, self.first, base);
+        let upper = leaf_of(*self.entries.allocator(), &self.entries[cut..])?;
         self.entries.truncate(cut);
         self.oldest = oldest_in(&self.entries);
-        let first = first_base(&entries);
-        let oldest = oldest_in(&entries);
-        Ok(Some(Leaf {
-            entries,
-            first,
-            oldest,
-        }))
+        Ok(Some(upper))
     }
 
     fn join(&mut self, upper: &mut Leaf) -> bool {
@@ -243,9 +258,8 @@ impl Part for Leaf {
         if SMALL < len || self.entries.capacity() < len {
             return false;
         }
-        if self.entries.append(&mut upper.entries).is_err() {
-            return false;
-        }
+        // There is room, so it can't fail.
+        let _ = self.entries.append(&mut upper.entries);
         self.oldest = self.oldest.min(upper.oldest);
         true
     }
