@@ -2,7 +2,7 @@
 use Rattle.std.proofs.Common.{◌≡◌, ℕ, suc, ◌+◌, ◌<◌, ◌≤◌, List, [], ◌∷◌, ◌++◌, length, get_or, set, take, drop, map, refl, sym, ap, ◌∙◌, arith, subst, append_assoc, drop-cons, inl, inr, Option, Some, None, MatchOption}
 use Rattle.std.specs.List.{insert, remove}
 use Rattle.std.proofs.lemmas.Bool.{cases_lt}
-use Rattle.std.proofs.lemmas.List.{length-append, length-map, length-take-le, take_at, drop_at, take_more_set, drop-set-lt, drop_all, map-append, map-set, take-map, drop-map}
+use Rattle.std.proofs.lemmas.List.{length-append, length-map, length-take-le, take_at, drop_at, take_more_set, drop-set-lt, drop_all, map-append, map-set, take-map, drop-map, get_or-set_same, get_or_default}
 use Rattle.nc_list.specs.declared.chunk.Chunk.{Chunk}
 use Rattle.nc_list.specs.Each.{Each}
 use Rattle.nc_list.specs.Parts.{HaveSome, OthersHaveSome, AreParted, all_of, starts_of}
@@ -289,3 +289,47 @@ others_and_one parts k lt some others = λ several.
     subst (Each (λ (p : List Chunk). 0 < length p)) (sym (around parts k [] lt))
     (each_append (λ (p : List Chunk). 0 < length p) (take k parts) (get_or parts k [] ∷ drop (suc k) parts) o.0
     (some, subst (λ (n : ℕ). Each (λ (p : List Chunk). 0 < length p) (drop n parts)) next o.1))
+
+-- a part set in a list is read back
+set_read : {X : Type 0} (f : X → List Chunk) (xs : List X) (k : ℕ) (q : X) → k < length xs → get_or (map f (set xs k q)) k [] ≡ f q
+set_read f xs k q lt =
+    ap (λ (z : List (List Chunk)). get_or z k []) (map-set f xs k q)
+    ∙ get_or-set_same (map f xs) k (f q) [] (omega (arith, lt, length-map xs f))
+
+-- the numbers of chunks that were read before a part and in it
+pub start_read : {X : Type 0} (f : X → List Chunk) (xs : List X) (starts : List ℕ) (k n m : ℕ) (p : X) → k < length xs
+    → k < length starts → n ≡ get_or starts k n → p ≡ get_or xs k p → m ≡ length (f p)
+    → n + m ≡ get_or starts k 0 + length (get_or (map f xs) k [])
+start_read f xs starts k n m p lt inside is read long =
+    omega (arith, is, get_or_default starts k n 0 inside, long, ap (λ (z : List Chunk). length z) (part_is f xs k p lt read))
+
+-- the number of chunks before the upper part of one that was split fits
+pub split_few : {X : Type 0} (f : X → List Chunk) (xs : List X) (starts : List ℕ) (k most : ℕ) (p q u : X) → k < length xs
+    → starts ≡ starts_of 0 (map f xs) → length (all_of (map f xs)) < most → p ≡ get_or xs k p → AreParted (f p) (f q) (f u)
+    → get_or starts k 0 + length (get_or (map f (set xs k q)) k []) < most
+split_few f xs starts k most p q u lt are few is so =
+    omega (
+      arith,
+      few,
+      starts_bound (map f xs) starts k (get_or starts k 0) (omega (arith, lt, length-map xs f)) are refl,
+      ap (λ (z : List Chunk). length z) (set_read f xs k q lt),
+      ap (λ (z : List Chunk). length z) (sym (part_is f xs k p lt is) ∙ so.was),
+      length-append (f q) (f u),
+    )
+
+-- a row of which a part was split
+pub split_row : {X : Type 0} (f : X → List Chunk) (xs news : List X) (starts now : List ℕ) (k : ℕ) (p q u : X) → k < length xs
+    → starts ≡ starts_of 0 (map f xs) → HaveSome (map f xs) → p ≡ get_or xs k p → AreParted (f p) (f q) (f u)
+    → news ≡ insert (set xs k q) (k + 1) u
+    → now ≡ insert starts (k + 1) (get_or starts k 0 + length (get_or (map f (set xs k q)) k []))
+    → (all_of (map f news) ≡ all_of (map f xs)) × (now ≡ starts_of 0 (map f news)) × HaveSome (map f news)
+split_row f xs news starts now k p q u lt are have is so news_are now_is =
+    let parts = map f xs in
+    let inside : k < length parts = omega (arith, lt, length-map xs f) in
+    let here : get_or parts k [] ≡ f q ++ f u = sym (part_is f xs k p lt is) ∙ so.was in
+    let form : map f news ≡ insert (set parts k (f q)) (k + 1) (f u) = ap (map f) news_are ∙ split_parts f xs k q u in
+    let many = ap (λ (z : List Chunk). insert starts (k + 1) (get_or starts k 0 + length z)) (set_read f xs k q lt) in (
+      ap all_of form ∙ split_all parts k (f q) (f u) inside here,
+      now_is ∙ (many ∙ (split_starts_are parts starts k (get_or starts k 0) (f q) (f u) inside here are refl ∙ ap (starts_of 0) (sym form))),
+      subst HaveSome (sym form) (split_have parts k (f q) (f u) inside have so.lower_some so.upper_some),
+    )
