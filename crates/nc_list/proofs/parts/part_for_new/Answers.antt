@@ -1,19 +1,81 @@
-use Rattle.std.proofs.Common.{arith, List, map, sym, ap, ◌∙◌, subst}
-use Rattle.std.proofs.lemmas.Grind.{common_steps}
+use Rattle.std.proofs.Common.{◌<◌, arith, List, length, map, sym, ap, ◌∙◌, subst}
+use Rattle.std.proofs.lemmas.List.{length-map}
+use Rattle.std.proofs.lemmas.Result.{IfOk-from_err}
 use Rattle.nc_list.specs.declared.chunk.Chunk.{Chunk}
-use Rattle.nc_list.specs.Parts.{IsPartFor}
+use Rattle.nc_list.specs.Chunks.{IsRising}
+use Rattle.nc_list.specs.Parts.{HaveSome, IsPartFor, all_of}
 use Rattle.nc_list.proofs.parts.part_for_new.Goals as goal
 
-pub split_part-requires-clause-inside : goal.split_part-requires-clause-inside
-split_part-requires-clause-inside g c = grind (arith, common_steps)
+pub part_near-k-requires : goal.part_near-k-requires
+part_near-k-requires g c =
+    let same = sym c.deref.ensures.value in
+    record {
+      some = subst (λ (z : List g.row.T.Denot). 0 < length z) same c.requires.some;
+      have = subst (λ (z : List g.row.T.Denot). HaveSome (map g.T.Part.items z)) same c.requires.have;
+      rising = subst (λ (z : List g.row.T.Denot). IsRising 0 (all_of (map g.T.Part.items z))) same c.requires.rising;
+    }
 
-pub returns-then-not-branch-clause-part : goal.returns-then-not-branch-clause-part
-returns-then-not-branch-clause-part g c =
-    subst (λ (z : List (List Chunk)). IsPartFor z c.part_near-k.result c.args.base)
-    (ap (map g.T.Part.items) c.deref.ensures.value ∙ sym (c.in_ok-split_part.ensures.stay c.if-not-branch.true)) c.part_near-k.ensures
+pub split_part-requires : goal.split_part-requires
+split_part-requires g c = record {
+  inside = omega (
+    arith,
+    c.part_near-k.ensures.inside,
+    ap (λ (z : List g.row.T.Denot). length z) c.deref.ensures.value,
+    length-map c.args.parts.now.items g.T.Part.items,
+    length-map c.deref.result.now g.T.Part.items,
+  );
+  few = c.requires.few;
+  starts = c.requires.starts;
+  have = c.requires.have;
+}
+
+pub returns-in_err-split_part : goal.returns-in_err-split_part
+returns-in_err-split_part g c = record {
+  all = c.split_part.ensures.all;
+  starts = c.split_part.ensures.starts;
+  have = c.split_part.ensures.have;
+  part = IfOk-from_err _ _ c.from_residual.ensures.0;
+}
+
+pub returns-then-not-branch : goal.returns-then-not-branch
+returns-then-not-branch g c = record {
+  all = c.split_part.ensures.all;
+  starts = c.split_part.ensures.starts;
+  have = c.split_part.ensures.have;
+  part = subst (λ (z : List (List Chunk)). IsPartFor z c.part_near-k.result c.args.base)
+      (ap (map g.T.Part.items) c.deref.ensures.value ∙ sym (c.in_ok-split_part.ensures.stay c.if-not-branch.true)) c.part_near-k.ensures;
+}
 
 pub overflow_add-k : goal.overflow_add-k
-overflow_add-k g c = grind (arith, common_steps)
+overflow_add-k g c =
+    omega (
+      arith,
+      c.part_near-k.ensures.inside,
+      ap (λ (z : List g.row.T.Denot). length z) c.deref.ensures.value,
+      length-map c.deref.result.now g.T.Part.items,
+      c.args.parts.now.ok.0,
+    )
 
-pub returns-clause-part : goal.returns-clause-part
-returns-clause-part g c = grind (arith, common_steps)
+pub part_near-requires : goal.part_near-requires
+part_near-requires g c =
+    let same = sym c.deref-2.ensures.value in
+    record {
+      some = omega (
+        arith,
+        c.requires.some,
+        c.split_part.ensures.some,
+        ap (λ (z : List g.row.T.Denot). length z) c.deref-2.ensures.value,
+      );
+      have = subst (λ (z : List g.row.T.Denot). HaveSome (map g.T.Part.items z)) same c.split_part.ensures.have;
+      rising = subst (λ (z : List g.row.T.Denot). IsRising 0 (all_of (map g.T.Part.items z))) same
+          (subst (IsRising 0) (sym c.split_part.ensures.all) c.requires.rising);
+    }
+
+pub returns : goal.returns
+returns g c = record {
+  all = c.split_part.ensures.all;
+  starts = c.split_part.ensures.starts;
+  have = c.split_part.ensures.have;
+  part = subst (λ (z : List g.row.T.Denot). IsPartFor (map g.T.Part.items z) c.part_near.result c.args.base) c.deref-2.ensures.value
+      c.part_near.ensures;
+}

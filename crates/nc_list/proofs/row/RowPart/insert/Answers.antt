@@ -31,6 +31,44 @@ inside g c = omega (arith, c.in_ok-k.ensures.part.inside, length-map c.part_for_
 part : (g : Over) (c : After-index_mut g) → g.T.Part.items c.index_mut.result.now ≡ get_or (parts_of g c) c.in_ok-k.k []
 part g c = part_is g.T.Part.items c.part_for_new.new.parts.items c.in_ok-k.k c.index_mut.result.now (inside g c) c.index_mut.ensures.value
 
+pub make_first-requires : goal.make_first-requires
+make_first-requires g c = record { starts = c.self.invariant.starts_are; have = c.self.invariant.some }
+
+pub invariant_of-self : goal.invariant_of-self
+invariant_of-self g c =
+    row_same (map g.T.Part.items c.self.inside.parts.items) (map g.T.Part.items c.make_first.new.parts.items) c.self.inside.starts.items
+    c.make_first.new.starts.items c.self.inside.count c.self.inside.first c.self.inside.oldest c.self.invariant
+    c.make_first.ensures.all c.make_first.ensures.starts c.make_first.ensures.have
+
+pub returns-in_err-make_first : goal.returns-in_err-make_first
+returns-in_err-make_first g c =
+    let same = c.make_first.ensures.all ∙ c.self.view_is in
+    let p = err_from_is_err_and c.from_residual.result c.from_residual.ensures.1 in
+    rw p.1 (record { ok = tt; err = same })
+
+pub part_for_new-requires : goal.part_for_new-requires
+part_for_new-requires g c =
+    let same = c.make_first.ensures.all ∙ c.self.view_is in
+    record {
+      some = c.in_ok-make_first.ensures.some;
+      few = omega (arith, c.requires.few, ap (λ (z : List Chunk). length z) same);
+      starts = c.make_first.ensures.starts;
+      have = c.make_first.ensures.have;
+      rising = subst (IsRising 0) (sym same) c.requires.rising;
+    }
+
+pub invariant_of-self-in_err-k : goal.invariant_of-self-in_err-k
+invariant_of-self-in_err-k g c =
+    row_same (map g.T.Part.items c.self.inside.parts.items) (map g.T.Part.items c.part_for_new.new.parts.items) c.self.inside.starts.items
+    c.part_for_new.new.starts.items c.self.inside.count c.self.inside.first c.self.inside.oldest c.self.invariant
+    (c.part_for_new.ensures.all ∙ c.make_first.ensures.all) c.part_for_new.ensures.starts c.part_for_new.ensures.have
+
+pub returns-in_err-k : goal.returns-in_err-k
+returns-in_err-k g c =
+    let same = c.part_for_new.ensures.all ∙ (c.make_first.ensures.all ∙ c.self.view_is) in
+    let p = err_from_is_err_and c.from_residual-in_err-k.result c.from_residual-in_err-k.ensures.1 in
+    rw p.1 (record { ok = tt; err = same })
+
 pub index_mut-requires : goal.index_mut-requires
 index_mut-requires g c = grind (arith, common_steps)
 
@@ -73,6 +111,9 @@ returns-in_err-insert-clause-err g c =
     c.in_err-insert.ensures.err) ∙ whole g at in
     let p = err_from_is_err_and c.from_residual-in_err-insert.result c.from_residual-in_err-insert.ensures.1 in
     rw p.1 same
+
+pub overflow_add-self : goal.overflow_add-self
+overflow_add-self g c = omega (arith, c.requires.few, c.self.invariant.count_is, ap (λ (z : List Chunk). length z) c.self.view_is)
 
 pub raise-requires-clause-inside : goal.raise-requires-clause-inside
 raise-requires-clause-inside g c =
