@@ -276,9 +276,9 @@ read_there {X = X} f xs olds k p lt same is =
     part_is f olds k p lt (is ∙ ap (λ (z : List X). get_or z k p) same)
 
 -- a list without a member
-pub no_chunk : (cs : List Chunk) → length cs ≡ 0 → cs ≡ []
-no_chunk [] is = refl
-no_chunk (c ∷ cs) is = absurd (omega (arith, is))
+pub no_member : {X : Type 0} (xs : List X) → length xs ≡ 0 → xs ≡ []
+no_member [] is = refl
+no_member (x ∷ xs) is = absurd (omega (arith, is))
 
 -- where the others and this one have chunks, all have
 pub others_and_one : (parts : List (List Chunk)) (k : ℕ) → k < length parts → 0 < length (get_or parts k []) → OthersHaveSome parts k

@@ -82,27 +82,21 @@ pub(crate) fn raised<T: Part>(parts: &[T], oldest: u64, anew: bool) -> u64
     if anew { oldest_of(parts) } else { oldest }
 }
 
-/// Makes a part if there is none.
-pub(crate) fn make_first<T: Part>(
-    parts: &mut Vec<T>,
-    starts: &mut Vec<u32>,
-) -> Result<(), AllocError>
-    requires starts { starts.old.items ≡ starts_of 0 (map T.items parts.old.items) }
-    requires have { HaveSome (map T.items parts.old.items) }
-    ensures all { all_of (map T.items parts.new.items) ≡ all_of (map T.items parts.old.items) }
+/// Makes the first part, which has no chunk, and returns its index.
+fn make_first<T: Part>(parts: &mut Vec<T>, starts: &mut Vec<u32>) -> Result<usize, AllocError>
+    requires none { (parts.old.items ≡ []) × (starts.old.items ≡ []) }
+    ensures all { all_of (map T.items parts.new.items) ≡ [] }
     ensures starts { starts.new.items ≡ starts_of 0 (map T.items parts.new.items) }
     ensures have { HaveSome (map T.items parts.new.items) }
-    ensures some { OnOk result (0 < length parts.new.items) }
+    ensures part { IfOk result (λ k. (at : ℕ) → IsPartFor (map T.items parts.new.items) k at) }
 {
-    if parts.is_empty() {
-        starts.reserve(1)?;
-        let part = T::new(*parts.allocator());
-        if parts.push(part).is_err() {
-            return Err(AllocError);
-        }
-        starts.push_reserved(0);
+    starts.reserve(1)?;
+    let part = T::new(*parts.allocator());
+    if parts.push(part).is_err() {
+        return Err(AllocError);
     }
-    Ok(())
+    starts.push_reserved(0);
+    Ok(0)
 }
 
 /// Splits a part if it is full, and returns whether it did.
@@ -134,14 +128,13 @@ pub(crate) fn split_part<T: Part>(
     Ok(true)
 }
 
-/// The part for a new chunk, which isn't full.
+/// The part for a new chunk, which isn't full. It is made if there is none.
 pub(crate) fn part_for_new<T: Part>(
     parts: &mut Vec<T>,
     starts: &mut Vec<u32>,
     base: u32,
     guess: usize,
 ) -> Result<usize, AllocError>
-    requires some { 0 < length parts.old.items }
     requires few { length (all_of (map T.items parts.old.items)) < 2 ^ 32 - 1 }
     requires starts { starts.old.items ≡ starts_of 0 (map T.items parts.old.items) }
     requires have { HaveSome (map T.items parts.old.items) }
@@ -151,6 +144,9 @@ pub(crate) fn part_for_new<T: Part>(
     ensures have { HaveSome (map T.items parts.new.items) }
     ensures part { IfOk result (λ k. IsPartFor (map T.items parts.new.items) k base) }
 {
+    if parts.is_empty() {
+        return make_first(parts, starts);
+    }
     let k = part_near(parts, base, guess);
     if !split_part(parts, starts, k, base)? {
         return Ok(k);

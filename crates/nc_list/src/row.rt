@@ -5,7 +5,7 @@ ghost use Rattle.std.specs.Prelude.{◌≡◌, ◌+◌, ◌<◌, ◌≤◌, ◌^
 use crate::chunk::Chunk;
 use crate::entry::Entry;
 use crate::part::Part;
-use crate::parts::{close_up, make_first, oldest_of, part_for_new, part_near, raised, take_one};
+use crate::parts::{close_up, oldest_of, part_for_new, part_near, raised, take_one};
 use crate::place::Place;
 use crate::starts::{join_starts, lower, part_with, raise, split_starts};
 use std::alloc::{AllocError, Global};
@@ -133,7 +133,6 @@ impl<T: Part> Part for Row<T> {
     }
 
     fn insert(&mut self, base: u32, len: u32, place: Place) -> Result<(), AllocError> {
-        make_first(&mut self.parts, &mut self.starts)?;
         let k = part_for_new(&mut self.parts, &mut self.starts, base, place.outer())?;
         self.parts[k].insert(base, len, place.inner())?;
         raise(&mut self.starts, k);

@@ -1,29 +1,38 @@
-use Rattle.std.proofs.Common.{[], ◌∷◌, ◌++◌, refl, ap, ◌∙◌, arith, Bool, false, not, if◌then◌else◌, ◌≡◌}
+use Rattle.std.proofs.Common.{[], ◌∷◌, ◌++◌, List, ℕ, refl, ap, ◌∙◌, arith, Bool, false, true, not, if◌then◌else◌, ◌≡◌}
 use Rattle.std.specs.Result.{is_ok}
-use Rattle.std.proofs.lemmas.Grind.{common_steps}
-use Rattle.std.proofs.lemmas.Result.{err_from_is_err_and}
+use Rattle.std.proofs.lemmas.Result.{IfOk-from_err}
 use Rattle.nc_list.proofs.parts.make_first.Goals as goal
 
 pub returns-in_err-reserve : goal.returns-in_err-reserve
 returns-in_err-reserve g c =
-    let p = err_from_is_err_and c.from_residual.result c.from_residual.ensures.1 in
-    rw p.1 (record { all = refl; starts = c.reserve.ensures.items ∙ c.requires.starts; have = c.requires.have; some = tt })
+    rw c.requires.none.0 (record {
+      all = refl;
+      starts = c.reserve.ensures.items ∙ c.requires.none.1;
+      have = λ several. absurd (omega (arith, several));
+      part = IfOk-from_err _ _ c.from_residual.ensures.0;
+    })
 
 pub returns-then-is_err : goal.returns-then-is_err
 returns-then-is_err g c =
     let failed : is_ok c.push.result ≡ false = c.is_err.ensures.negation ∙ ap not c.if-is_err.true in
     let same = c.push.ensures.items
-    ∙ ap (λ (b : Bool). if b then c.args.parts.now.items ++ c.new-part.result ∷ [] else c.args.parts.now.items) failed in
-    rw same (record { all = refl; starts = c.reserve.ensures.items ∙ c.requires.starts; have = c.requires.have; some = tt })
+    ∙ (ap (λ (b : Bool). if b then c.args.parts.now.items ++ c.new-part.result ∷ [] else c.args.parts.now.items) failed ∙ c.requires.none.0) in
+    rw same (record {
+      all = refl;
+      starts = c.reserve.ensures.items ∙ c.requires.none.1;
+      have = λ several. absurd (omega (arith, several));
+      part = tt;
+    })
 
-pub returns-else-is_err-clause-all : goal.returns-else-is_err-clause-all
-returns-else-is_err-clause-all g c = grind (arith, common_steps)
-
-pub returns-else-is_err-clause-starts : goal.returns-else-is_err-clause-starts
-returns-else-is_err-clause-starts g c = grind (arith, common_steps)
-
-pub returns-else-is_err-clause-have : goal.returns-else-is_err-clause-have
-returns-else-is_err-clause-have g c = grind (arith, common_steps)
-
-pub returns-else-is_empty : goal.returns-else-is_empty
-returns-else-is_empty g c = record { all = refl; starts = c.requires.starts; have = c.requires.have; some = grind (arith, common_steps) }
+pub returns : goal.returns
+returns g c =
+    let done : is_ok c.push.result ≡ true = c.is_err.ensures.negation ∙ ap not c.if-is_err.false in
+    let one = c.push.ensures.items
+    ∙ (ap (λ (b : Bool). if b then c.args.parts.now.items ++ c.new-part.result ∷ [] else c.args.parts.now.items) done
+    ∙ ap (λ (z : List g.row.T.Denot). z ++ c.new-part.result ∷ []) c.requires.none.0) in
+    rw (one, c.new-part.ensures) (record {
+      all = refl;
+      starts = c.push_reserved.ensures.items ∙ ap (λ (z : List ℕ). z ++ 0 ∷ []) (c.reserve.ensures.items ∙ c.requires.none.1);
+      have = λ several. absurd (omega (arith, several));
+      part = λ at. record { inside = omega arith; below = tt; above = tt };
+    })

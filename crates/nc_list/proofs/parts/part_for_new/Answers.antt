@@ -1,16 +1,49 @@
-use Rattle.std.proofs.Common.{◌<◌, arith, List, length, map, sym, ap, ◌∙◌, subst}
+use Rattle.std.proofs.Common.{arith, List, length, map, sym, ap, ◌∙◌, subst}
+use Rattle.std.proofs.lemmas.Bool.{eqb-true, eqb-false}
 use Rattle.std.proofs.lemmas.List.{length-map}
-use Rattle.std.proofs.lemmas.Result.{IfOk-from_err}
+use Rattle.std.proofs.lemmas.Result.{IfOk-from_err, IfOk-weaker}
 use Rattle.nc_list.specs.declared.chunk.Chunk.{Chunk}
 use Rattle.nc_list.specs.Chunks.{IsRising}
 use Rattle.nc_list.specs.Parts.{HaveSome, IsPartFor, all_of}
+use Rattle.nc_list.proofs.Parting.{starts_many, no_member}
 use Rattle.nc_list.proofs.parts.part_for_new.Goals as goal
+
+pub make_first-requires : goal.make_first-requires
+make_first-requires g c =
+    let none = eqb-true _ 0 (sym c.is_empty.ensures ∙ c.if-is_empty.true) in
+    record {
+      none = (
+        no_member c.args.parts.now.items (omega (arith, none, c.args.parts.now.ok.0)),
+        no_member c.args.starts.now.items (omega (
+          arith,
+          none,
+          c.args.parts.now.ok.0,
+          starts_many g.T.Part.items c.args.parts.now.items c.args.starts.now.items c.requires.starts,
+        )),
+      );
+    }
+
+pub returns-then-is_empty : goal.returns-then-is_empty
+returns-then-is_empty g c =
+    let none = eqb-true _ 0 (sym c.is_empty.ensures ∙ c.if-is_empty.true) in
+    let no_part = no_member c.args.parts.now.items (omega (arith, none, c.args.parts.now.ok.0)) in
+    record {
+      all = c.make_first.ensures.all ∙ sym (ap (λ (z : List g.row.T.Denot). all_of (map g.T.Part.items z)) no_part);
+      starts = c.make_first.ensures.starts;
+      have = c.make_first.ensures.have;
+      part = IfOk-weaker c.make_first.result _ _ (λ k part. part c.args.base) c.make_first.ensures.part;
+    }
 
 pub part_near-k-requires : goal.part_near-k-requires
 part_near-k-requires g c =
     let same = sym c.deref.ensures.value in
     record {
-      some = subst (λ (z : List g.row.T.Denot). 0 < length z) same c.requires.some;
+      some = omega (
+        arith,
+        eqb-false _ 0 (sym c.is_empty.ensures ∙ c.if-is_empty.false),
+        c.args.parts.now.ok.0,
+        ap (λ (z : List g.row.T.Denot). length z) c.deref.ensures.value,
+      );
       have = subst (λ (z : List g.row.T.Denot). HaveSome (map g.T.Part.items z)) same c.requires.have;
       rising = subst (λ (z : List g.row.T.Denot). IsRising 0 (all_of (map g.T.Part.items z))) same c.requires.rising;
     }
@@ -62,7 +95,8 @@ part_near-requires g c =
     record {
       some = omega (
         arith,
-        c.requires.some,
+        eqb-false _ 0 (sym c.is_empty.ensures ∙ c.if-is_empty.false),
+        c.args.parts.now.ok.0,
         c.split_part.ensures.some,
         ap (λ (z : List g.row.T.Denot). length z) c.deref-2.ensures.value,
       );

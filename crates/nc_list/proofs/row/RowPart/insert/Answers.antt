@@ -21,7 +21,7 @@ parts_of g c = map g.T.Part.items c.part_for_new.new.parts.items
 
 -- the parts with one for the new chunk have the chunks of the row
 whole : (g : Over) (c : After-index_mut g) → all_of (parts_of g c) ≡ c.args.self.now
-whole g c = c.part_for_new.ensures.all ∙ (c.make_first.ensures.all ∙ c.self.view_is)
+whole g c = c.part_for_new.ensures.all ∙ c.self.view_is
 
 -- the part for the new chunk is one of the parts
 inside : (g : Over) (c : After-index_mut g) → c.in_ok-k.k < length c.part_for_new.new.parts.items
@@ -31,42 +31,24 @@ inside g c = omega (arith, c.in_ok-k.ensures.part.inside, length-map c.part_for_
 part : (g : Over) (c : After-index_mut g) → g.T.Part.items c.index_mut.result.now ≡ get_or (parts_of g c) c.in_ok-k.k []
 part g c = part_is g.T.Part.items c.part_for_new.new.parts.items c.in_ok-k.k c.index_mut.result.now (inside g c) c.index_mut.ensures.value
 
-pub make_first-requires : goal.make_first-requires
-make_first-requires g c = record { starts = c.self.invariant.starts_are; have = c.self.invariant.some }
+pub part_for_new-requires : goal.part_for_new-requires
+part_for_new-requires g c = record {
+  few = omega (arith, c.requires.few, ap (λ (z : List Chunk). length z) c.self.view_is);
+  starts = c.self.invariant.starts_are;
+  have = c.self.invariant.some;
+  rising = subst (IsRising 0) (sym c.self.view_is) c.requires.rising;
+}
 
 pub invariant_of-self : goal.invariant_of-self
 invariant_of-self g c =
-    row_same (map g.T.Part.items c.self.inside.parts.items) (map g.T.Part.items c.make_first.new.parts.items) c.self.inside.starts.items
-    c.make_first.new.starts.items c.self.inside.count c.self.inside.first c.self.inside.oldest c.self.invariant
-    c.make_first.ensures.all c.make_first.ensures.starts c.make_first.ensures.have
-
-pub returns-in_err-make_first : goal.returns-in_err-make_first
-returns-in_err-make_first g c =
-    let same = c.make_first.ensures.all ∙ c.self.view_is in
-    let p = err_from_is_err_and c.from_residual.result c.from_residual.ensures.1 in
-    rw p.1 (record { ok = tt; err = same })
-
-pub part_for_new-requires : goal.part_for_new-requires
-part_for_new-requires g c =
-    let same = c.make_first.ensures.all ∙ c.self.view_is in
-    record {
-      some = c.in_ok-make_first.ensures.some;
-      few = omega (arith, c.requires.few, ap (λ (z : List Chunk). length z) same);
-      starts = c.make_first.ensures.starts;
-      have = c.make_first.ensures.have;
-      rising = subst (IsRising 0) (sym same) c.requires.rising;
-    }
-
-pub invariant_of-self-in_err-k : goal.invariant_of-self-in_err-k
-invariant_of-self-in_err-k g c =
     row_same (map g.T.Part.items c.self.inside.parts.items) (map g.T.Part.items c.part_for_new.new.parts.items) c.self.inside.starts.items
     c.part_for_new.new.starts.items c.self.inside.count c.self.inside.first c.self.inside.oldest c.self.invariant
-    (c.part_for_new.ensures.all ∙ c.make_first.ensures.all) c.part_for_new.ensures.starts c.part_for_new.ensures.have
+    c.part_for_new.ensures.all c.part_for_new.ensures.starts c.part_for_new.ensures.have
 
 pub returns-in_err-k : goal.returns-in_err-k
 returns-in_err-k g c =
-    let same = c.part_for_new.ensures.all ∙ (c.make_first.ensures.all ∙ c.self.view_is) in
-    let p = err_from_is_err_and c.from_residual-in_err-k.result c.from_residual-in_err-k.ensures.1 in
+    let same = c.part_for_new.ensures.all ∙ c.self.view_is in
+    let p = err_from_is_err_and c.from_residual.result c.from_residual.ensures.1 in
     rw p.1 (record { ok = tt; err = same })
 
 pub index_mut-requires : goal.index_mut-requires
@@ -99,7 +81,7 @@ invariant_of-self-in_err-insert g c =
     let at = (goal.at.invariant_of-self-in_err-insert g c).After-index_mut in
     let row = row_same (map g.T.Part.items c.self.inside.parts.items) (parts_of g at) c.self.inside.starts.items c.part_for_new.new.starts.items
     c.self.inside.count c.self.inside.first c.self.inside.oldest c.self.invariant
-    (c.part_for_new.ensures.all ∙ c.make_first.ensures.all) c.part_for_new.ensures.starts c.part_for_new.ensures.have in
+    c.part_for_new.ensures.all c.part_for_new.ensures.starts c.part_for_new.ensures.have in
     subst (λ (z : List (List Chunk)). IsRow z c.part_for_new.new.starts.items c.self.inside.count c.self.inside.first c.self.inside.oldest)
     (sym (kept_parts g.T.Part.items c.part_for_new.new.parts.items c.in_ok-k.k c.index_mut.result.now c.insert.new.self (inside g at) c.index_mut.ensures.value
     c.in_err-insert.ensures.err)) row
@@ -140,7 +122,7 @@ invariant_of-self-2 g c =
     let at = (goal.at.invariant_of-self-2 g c).After-index_mut in
     let row = row_same (map g.T.Part.items c.self.inside.parts.items) (parts_of g at) c.self.inside.starts.items c.part_for_new.new.starts.items
     c.self.inside.count c.self.inside.first c.self.inside.oldest c.self.invariant
-    (c.part_for_new.ensures.all ∙ c.make_first.ensures.all) c.part_for_new.ensures.starts c.part_for_new.ensures.have in
+    c.part_for_new.ensures.all c.part_for_new.ensures.starts c.part_for_new.ensures.have in
     let free = λ (m : Meets c.args.base c.args.len (all_of (parts_of g at))). c.requires.free (subst (Meets c.args.base c.args.len) (whole g at) m) in
     let put = subst (λ (z : List Chunk). IsPut z (g.T.Part.items c.insert.new.self) (live c.args.base c.args.len)) (part g at) c.in_ok-insert.ensures.ok in
     let starts = c.part_for_new.new.starts.items in
