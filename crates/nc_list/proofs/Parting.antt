@@ -10,7 +10,7 @@ use Rattle.nc_list.proofs.EachMember.{each_append, each_take, each_drop}
 use Rattle.nc_list.proofs.Pieces.{all_append, all_around, around, around_set, starts_append, starts_around, starts_long, starts_get, some_at, part_is}
 
 -- a list with one more element, element by element
-pub map_insert : {X : Type 0} (f : X → List Chunk) (xs : List X) (i : ℕ) (y : X) → map f (insert xs i y) ≡ insert (map f xs) i (f y)
+map_insert : {X : Type 0} (f : X → List Chunk) (xs : List X) (i : ℕ) (y : X) → map f (insert xs i y) ≡ insert (map f xs) i (f y)
 map_insert f xs i y =
     map-append f (take i xs) (y ∷ drop i xs)
     ∙ (ap (λ (z : List (List Chunk)). z ++ f y ∷ map f (drop i xs)) (sym (take-map f i xs))
@@ -30,7 +30,7 @@ set_same parts k p lt is =
     ∙ (ap (λ (z : List Chunk). take k parts ++ z ∷ drop (suc k) parts) is ∙ sym (around parts k [] lt))
 
 -- a part that keeps its chunks
-pub same_parts : {X : Type 0} (f : X → List Chunk) (xs : List X) (k : ℕ) (p : X) → k < length xs → f p ≡ get_or (map f xs) k []
+same_parts : {X : Type 0} (f : X → List Chunk) (xs : List X) (k : ℕ) (p : X) → k < length xs → f p ≡ get_or (map f xs) k []
     → map f (set xs k p) ≡ map f xs
 same_parts f xs k p lt is = map-set f xs k p ∙ set_same (map f xs) k (f p) (omega (arith, lt, length-map xs f)) is
 
@@ -67,7 +67,7 @@ split_form parts k lower upper lt =
     ∙ ap (λ (n : ℕ). drop n parts) next)
     ∙ append_assoc (take k parts) (lower ∷ []) (upper ∷ drop (suc k) parts))
 
-pub split_all : (parts : List (List Chunk)) (k : ℕ) (lower upper : List Chunk) → k < length parts → get_or parts k [] ≡ lower ++ upper
+split_all : (parts : List (List Chunk)) (k : ℕ) (lower upper : List Chunk) → k < length parts → get_or parts k [] ≡ lower ++ upper
     → all_of (insert (set parts k lower) (k + 1) upper) ≡ all_of parts
 split_all parts k lower upper lt is =
     ap all_of (split_form parts k lower upper lt)
@@ -76,7 +76,7 @@ split_all parts k lower upper lt is =
     ∙ (ap (λ (z : List Chunk). all_of (take k parts) ++ (z ++ all_of (drop (suc k) parts))) (sym is)
     ∙ sym (ap all_of (around parts k [] lt) ∙ all_around (take k parts) (get_or parts k []) (drop (suc k) parts)))))
 
-pub split_starts_are : (parts : List (List Chunk)) (starts : List ℕ) (k n : ℕ) (lower upper : List Chunk) → k < length parts
+split_starts_are : (parts : List (List Chunk)) (starts : List ℕ) (k n : ℕ) (lower upper : List Chunk) → k < length parts
     → get_or parts k [] ≡ lower ++ upper → starts ≡ starts_of 0 parts → n ≡ get_or starts k 0
     → insert starts (k + 1) (n + length lower) ≡ starts_of 0 (insert (set parts k lower) (k + 1) upper)
 split_starts_are parts starts k n lower upper lt here are is =
@@ -112,7 +112,7 @@ others_some parts k lt have =
       )
     ]
 
-pub split_have : (parts : List (List Chunk)) (k : ℕ) (lower upper : List Chunk) → k < length parts → HaveSome parts → 0 < length lower
+split_have : (parts : List (List Chunk)) (k : ℕ) (lower upper : List Chunk) → k < length parts → HaveSome parts → 0 < length lower
     → 0 < length upper → HaveSome (insert (set parts k lower) (k + 1) upper)
 split_have parts k lower upper lt have some also = λ several.
     let o = others_some parts k lt have in
@@ -227,7 +227,7 @@ pub kept_parts : {X : Type 0} (f : X → List Chunk) (xs : List X) (k : ℕ) (p 
 kept_parts f xs k p q lt is same = same_parts f xs k q lt (same ∙ part_is f xs k p lt is)
 
 -- a part that was split, between the others
-pub split_parts : {X : Type 0} (f : X → List Chunk) (xs : List X) (k : ℕ) (q u : X)
+split_parts : {X : Type 0} (f : X → List Chunk) (xs : List X) (k : ℕ) (q u : X)
     → map f (insert (set xs k q) (k + 1) u) ≡ insert (set (map f xs) k (f q)) (k + 1) (f u)
 split_parts f xs k q u = map_insert f (set xs k q) (k + 1) u ∙ ap (λ (z : List (List Chunk)). insert z (k + 1) (f u)) (map-set f xs k q)
 
@@ -242,7 +242,7 @@ pub starts_many : {X : Type 0} (f : X → List Chunk) (xs : List X) (starts : Li
 starts_many f xs starts are = ap (λ (z : List ℕ). length z) are ∙ (starts_long 0 (map f xs) ∙ length-map xs f)
 
 -- the chunks before a part and in it are no more than all
-pub starts_bound : (parts : List (List Chunk)) (starts : List ℕ) (k n : ℕ) → k < length parts → starts ≡ starts_of 0 parts
+starts_bound : (parts : List (List Chunk)) (starts : List ℕ) (k n : ℕ) → k < length parts → starts ≡ starts_of 0 parts
     → n ≡ get_or starts k 0 → n + length (get_or parts k []) ≤ length (all_of parts)
 starts_bound parts starts k n lt are is =
     let count : n ≡ length (all_of (take k parts)) =
@@ -268,12 +268,6 @@ parted {X = X} f p q u o is so = subst (λ (z : Option X). MatchOption z (f q �
 pub not_parted : {X : Type 0} (f : X → List Chunk) (p q : X) (o : Option X) → o ≡ None
     → MatchOption o (f q ≡ f p) (λ (v : X). AreParted (f p) (f q) (f v)) → f q ≡ f p
 not_parted {X = X} f p q o is so = subst (λ (z : Option X). MatchOption z (f q ≡ f p) (λ (v : X). AreParted (f p) (f q) (f v))) is so
-
--- the part at an index of a list that stayed
-pub read_there : {X : Type 0} (f : X → List Chunk) (xs olds : List X) (k : ℕ) (p : X) → k < length olds → xs ≡ olds → p ≡ get_or xs k p
-    → f p ≡ get_or (map f olds) k []
-read_there {X = X} f xs olds k p lt same is =
-    part_is f olds k p lt (is ∙ ap (λ (z : List X). get_or z k p) same)
 
 -- a list without a member
 pub no_member : {X : Type 0} (xs : List X) → length xs ≡ 0 → xs ≡ []
