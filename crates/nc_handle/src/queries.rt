@@ -33,7 +33,7 @@ impl RegionHandle {
     fn holds(&self, at: u32) -> bool
         ensures { IsTrue result ↔ InRegion self.now.region.marked.bytes at }
     {
-        START <= at && at < self.region.limit()
+        START <= at && at < self.limit()
     }
 
     /// The byte at an address, if it is one of the region.

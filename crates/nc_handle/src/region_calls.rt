@@ -136,7 +136,7 @@ impl RegionHandle {
         let Some(chunk) = self.region.live_at(base) else {
             return Err(RetireFault::Refused(DeleteFault::NoChunk));
         };
-        if self.region.acts().generation() >= LAST_GENERATION {
+        if self.generation() >= LAST_GENERATION {
             return Err(RetireFault::Refused(DeleteFault::GensFull));
         }
         let wanted = chunk.length as usize + 2;
@@ -245,7 +245,7 @@ impl RegionHandle {
             return None;
         };
         // Called for its postconditions.
-        let _facts = self.region.limit();
+        let _facts = self.chunk_count();
         match nc_calls::delete(&mut self.region, chunk.base) {
             Ok(stamp) => {
                 self.begun = None;

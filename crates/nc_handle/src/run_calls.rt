@@ -88,7 +88,7 @@ impl RegionHandle {
             return Err(RunsFault::NoRoom(wanted));
         }
         // Called for its postconditions.
-        let _facts = self.region.chunk_count();
+        let _facts = self.chunk_count();
         let span = Span {
             region: &self.region,
             base: chunk.base,

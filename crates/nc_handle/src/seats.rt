@@ -78,7 +78,7 @@ impl RegionHandle {
             return None;
         }
         // Called for its postconditions.
-        let _facts = self.region.acts().generation();
+        let _facts = self.generation();
         attend(&mut self.region, &self.gens, &mut self.passes);
         Some(nc_calls::reclaim(&mut self.region))
     }

@@ -1,7 +1,7 @@
-use Rattle.std.proofs.Common.{ℕ, rules, subst, refl}
+use Rattle.std.proofs.Common.{ℕ, rules, subst, sym, refl}
 use Rattle.std.specs.Prelude.{Option, None, Contains}
 use Rattle.nc_list.specs.declared.chunk.Chunk.{Chunk}
-use Rattle.nc_region.specs.Region.{Region}
+use Rattle.nc_region.specs.Region.{Region, IsRegion}
 use Rattle.nc_region.proofs.Offered.{listed_there}
 use Rattle.nc_calls.specs.Calls.{no_details}
 use Rattle.nc_calls.specs.Histories.{LogsCall}
@@ -21,7 +21,8 @@ returns-clause-ended c =
     let live : Contains old.chunks begun = (subst (λ (o : Option Chunk). CanEnd o old) c.in-Some.is c.self.invariant.2).0.0 in
     let deleted = c.in-Ok.ensures.deleted in
     let there = listed_there old.chunks deleted.index deleted.chunk deleted.listed in
-    let whole = c.limit-facts.ensures.region in
+    let whole : IsRegion old.marked old.chunks = subst (λ (h : RegionHandleState). IsRegion h.region.marked h.region.chunks)
+        (sym c.self.view_is) c.chunk_count-facts.ensures.region in
     let call = λ (seats : ℕ).
     let is = c.in-Ok.ensures.call seats in
     subst (λ (d : Chunk). LogsCall seats (record no_details { base = begun.base; len = d.length }) old new)
