@@ -8,6 +8,7 @@ ghost use Rattle.nc_script.specs.Script.{ScriptSeat};
 ghost use Rattle.nc_script.specs.machinery.Session.{FollowsIn, script_chunk, script_of};
 
 use crate::answer::push_chunk;
+use crate::words::is_word;
 use nc_region::Region;
 use std::alloc::{AllocError, Global};
 
@@ -24,7 +25,7 @@ pub(crate) enum Query {
 pub(crate) fn query_of(word: &[u8]) -> Option<Query>
     ensures { result ≡ query_in word.now }
 {
-    if word == b"dump".as_slice() {
+    if is_word(word, b"dump") {
         return Some(Query::Dump);
     }
     None

@@ -9,7 +9,7 @@ ghost use Rattle.nc_script.specs.Requests as spec;
 ghost use Rattle.nc_script.specs.machinery.Shown.{shown};
 
 use crate::query::{Query, query_of};
-use crate::words::seat_of;
+use crate::words::{is_word, seat_of};
 use memchr::memchr;
 use nc_lines::{LINE_LIMIT, address_of, first_address_of, placed_at};
 use std::alloc::{AllocError, Global};
@@ -199,28 +199,28 @@ pub(crate) fn request_of(alloc: Global, line: &[u8]) -> Result<Option<Request>, 
 fn asked_by(alloc: Global, key: &[u8], rest: Option<&[u8]>) -> Result<Option<Request>, AllocError>
     ensures { IfOk result (λ found. option_map shown found ≡ spec.request_of (key.now ∷ words_after (option_copied rest.entry))) }
 {
-    if key == b"create".as_slice() {
+    if is_word(key, b"create") {
         return create_of(alloc, rest);
     }
-    if key == b"modify".as_slice() {
+    if is_word(key, b"modify") {
         return modify_of(alloc, rest);
     }
-    if key == b"delete".as_slice() {
+    if is_word(key, b"delete") {
         return Ok(delete_of(rest));
     }
-    if key == b"checkin".as_slice() {
+    if is_word(key, b"checkin") {
         return Ok(check_in_of(rest));
     }
-    if key == b"leave".as_slice() {
+    if is_word(key, b"leave") {
         return Ok(leave_of(rest));
     }
-    if key == b"reclaim".as_slice() {
+    if is_word(key, b"reclaim") {
         return Ok(single_of(Request::Reclaim, rest));
     }
-    if key == b"walk".as_slice() {
+    if is_word(key, b"walk") {
         return walk_of(alloc, rest);
     }
-    if key == b"chunk".as_slice() {
+    if is_word(key, b"chunk") {
         return Ok(chunk_of(rest));
     }
     Ok(ask_of(key, rest))

@@ -1,7 +1,16 @@
-//! The word of a seat, and its value.
+//! The spelling of a word, and the value of a seat's word.
 
 ghost use Rattle.std.specs.Prelude.{◌≡◌, ◌*◌, ◌<◌, ℕ, IfSome};
+ghost use Rattle.nc_script.specs.Queries.{is_word};
 ghost use Rattle.nc_script.specs.Requests.{digit_in, next_digit, seat_in};
+
+/// Whether a word has this spelling.
+#[inline(always)]
+pub(crate) fn is_word(word: &[u8], spelling: &[u8]) -> bool
+    ensures { result ≡ is_word word.now spelling.now }
+{
+    word == spelling
+}
 
 /// The value of a decimal digit.
 fn digit_of(byte: u8) -> Option<u32>
