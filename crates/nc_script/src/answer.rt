@@ -10,7 +10,9 @@ ghost use Rattle.nc_script.specs.Replies.{places_words, end_word, walk_reply};
 ghost use Rattle.nc_script.specs.Replies.{chunk_words, patch_words, deletion_words, stamp_reply, freed_reply};
 
 use nc_output::{push_address, push_byte};
-use nc_region::{Chunk, ChunkState, CreateFault, DeleteFault, End, ModifyFault, Region, Trace};
+use nc_region::{
+    Acts, Chunk, ChunkState, CreateFault, DeleteFault, End, ModifyFault, RegionOf, Trace,
+};
 use std::alloc::{AllocError, Global};
 
 /// Adds a decimal number.
@@ -113,7 +115,12 @@ pub(crate) fn push_trace(out: &mut Vec<u8>, trace: &Trace) -> Result<(), AllocEr
 }
 
 /// Adds the bytes of a span of the region.
-fn push_span(region: &Region, base: u32, length: u32, out: &mut Vec<u8>) -> Result<(), AllocError>
+fn push_span<A: Acts + Drop>(
+    region: &RegionOf<A>,
+    base: u32,
+    length: u32,
+    out: &mut Vec<u8>,
+) -> Result<(), AllocError>
     requires low { 0x10000 ≤ base }
     requires high { base + length ≤ limit_of region.now.marked.bytes }
     requires fits { base + length < 2 ^ 32 }
@@ -126,9 +133,9 @@ fn push_span(region: &Region, base: u32, length: u32, out: &mut Vec<u8>) -> Resu
 }
 
 /// Adds one chunk of a dump.
-pub(crate) fn push_chunk(
+pub(crate) fn push_chunk<A: Acts + Drop>(
     alloc: Global,
-    region: &Region,
+    region: &RegionOf<A>,
     chunk: Chunk,
     out: &mut Vec<u8>,
 ) -> Result<(), AllocError>

@@ -9,7 +9,7 @@ ghost use Rattle.nc_script.specs.machinery.Session.{FollowsIn, script_chunk, scr
 
 use crate::answer::push_chunk;
 use crate::words::is_word;
-use nc_region::Region;
+use nc_region::{Acts, RegionOf};
 use std::alloc::{AllocError, Global};
 
 /// A query: a request that changes nothing.
@@ -32,9 +32,9 @@ pub(crate) fn query_of(word: &[u8]) -> Option<Query>
 }
 
 /// Answers a query.
-pub(crate) fn answer_query(
+pub(crate) fn answer_query<A: Acts + Drop>(
     alloc: Global,
-    region: &Region,
+    region: &RegionOf<A>,
     query: Query,
     out: &mut Vec<u8>,
 ) -> Result<(), AllocError>
@@ -47,9 +47,9 @@ pub(crate) fn answer_query(
 }
 
 /// Adds the reply to a query, without its line end.
-fn push_reply(
+fn push_reply<A: Acts + Drop>(
     alloc: Global,
-    region: &Region,
+    region: &RegionOf<A>,
     query: Query,
     out: &mut Vec<u8>,
 ) -> Result<(), AllocError>
@@ -63,7 +63,11 @@ fn push_reply(
 }
 
 /// Adds every chunk of the region.
-fn push_dump(alloc: Global, region: &Region, out: &mut Vec<u8>) -> Result<(), AllocError>
+fn push_dump<A: Acts + Drop>(
+    alloc: Global,
+    region: &RegionOf<A>,
+    out: &mut Vec<u8>,
+) -> Result<(), AllocError>
     ensures { OnOk result (out.new.items
         ≡ out.old.items ++ dump_reply (map (script_chunk region.now.marked.bytes) region.now.chunks)) }
 {
@@ -76,9 +80,9 @@ fn push_dump(alloc: Global, region: &Region, out: &mut Vec<u8>) -> Result<(), Al
 }
 
 /// Adds the chunk that has an address, or else the first one above it.
-fn push_chunk_at(
+fn push_chunk_at<A: Acts + Drop>(
     alloc: Global,
-    region: &Region,
+    region: &RegionOf<A>,
     at: u32,
     out: &mut Vec<u8>,
 ) -> Result<(), AllocError>

@@ -10,10 +10,12 @@ ghost use Rattle.nc_script.specs.Answers.{AnswersOnly, new_script};
 ghost use Rattle.nc_script.specs.Laws.{BeginsAll, HasOneReply, FreesByLeast, LeavesOpen};
 ghost use Rattle.nc_script.specs.Run.{HasAnswered, HasRun};
 
+use crate::seats::Seats;
 use crate::session::Session;
 use nc_decode::is_region_size;
 use nc_gens::{Gens, MOST_SEATS};
 use nc_lines::{ReplayFault, answer_gathered};
+use nc_region::Region;
 use std::alloc::Global;
 use std::io::{Read, Write};
 
@@ -94,8 +96,14 @@ fn run_new<R: Read, W: Write>(
     let Ok((gens, keeper, passes)) = Gens::new(alloc, seats) else {
         return Err(ReplayFault::OutOfMemory);
     };
-    match Session::new(alloc, bundles, &gens, keeper, passes) {
-        Ok(mut session) => answer_gathered(alloc, &mut session, reader, writer, most),
+    let Ok(threads) = Seats::new(alloc, &gens, passes) else {
+        return Err(ReplayFault::OutOfMemory);
+    };
+    match Region::new(alloc, bundles, &gens, keeper) {
+        Ok(region) => {
+            let mut session = Session::new(alloc, region, threads);
+            answer_gathered(alloc, &mut session, reader, writer, most)
+        }
         Err(_) => Err(ReplayFault::OutOfMemory),
     }
 }

@@ -6,7 +6,7 @@ ghost use Rattle.nc_script.specs.machinery.Session.{AreSeated};
 ghost use Rattle.nc_script.specs.machinery.Seats.{HasChecked, ChecksIn, Leaves, HasNoPass, IsTaken, HasMetOne, HaveMet, IsOnlyKeeper};
 
 use nc_gens::{Gens, Pass};
-use nc_region::Region;
+use nc_region::{Acts, RegionOf};
 use std::alloc::{AllocError, Global};
 use std::marker::Model;
 
@@ -29,7 +29,7 @@ impl<'g> Model for Seats<'g> {
 
 /// A pass checks in. The region's keeper meets it before and after, so that the pass's own word and the keeper's bound for it
 /// are known.
-fn check_in_pass(gens: &Gens, region: &mut Region<'_>, pass: &mut Pass)
+fn check_in_pass<A: Acts + Drop>(gens: &Gens, region: &mut RegionOf<A>, pass: &mut Pass)
     requires table { pass.old.table ≡ gens.now }
     requires keeper { region.old.keeper.table ≡ gens.now }
     ensures checked { HasChecked pass.old region.old.keeper pass.new region.new.keeper }
@@ -41,9 +41,9 @@ fn check_in_pass(gens: &Gens, region: &mut Region<'_>, pass: &mut Pass)
 }
 
 /// The pass of a seat checks in, if it is there; returns whether it is.
-fn check_in_at(
+fn check_in_at<A: Acts + Drop>(
     gens: &Gens,
-    region: &mut Region<'_>,
+    region: &mut RegionOf<A>,
     passes: &mut [Option<Pass>],
     seat: usize,
 ) -> bool
@@ -73,7 +73,7 @@ fn take_pass(passes: &mut [Option<Pass>], seat: usize) -> Option<Pass>
 }
 
 /// The region's keeper meets the pass of a seat, if it is there.
-fn meet_at(region: &mut Region<'_>, passes: &mut [Option<Pass>], seat: usize)
+fn meet_at<A: Acts + Drop>(region: &mut RegionOf<A>, passes: &mut [Option<Pass>], seat: usize)
     requires inside { seat < length passes.old }
     requires seated { AreSeated region.old.keeper.table passes.old }
     ensures seated { AreSeated region.old.keeper.table passes.new }
@@ -86,7 +86,7 @@ fn meet_at(region: &mut Region<'_>, passes: &mut [Option<Pass>], seat: usize)
 }
 
 /// The region's keeper meets each pass.
-fn meet_each(region: &mut Region<'_>, passes: &mut [Option<Pass>])
+fn meet_each<A: Acts + Drop>(region: &mut RegionOf<A>, passes: &mut [Option<Pass>])
     requires seated { AreSeated region.old.keeper.table passes.old }
     ensures seated { AreSeated region.old.keeper.table passes.new }
     ensures met { HaveMet passes.old region.old.keeper.numbers.bounds passes.new region.new.keeper.numbers.bounds }
@@ -119,7 +119,7 @@ impl<'g> Seats<'g> {
     }
 
     /// The thread of a seat checks in, if there is such a seat and it hasn't left; returns whether it did.
-    pub fn check_in(&mut self, region: &mut Region<'_>, seat: usize) -> bool
+    pub fn check_in<A: Acts + Drop>(&mut self, region: &mut RegionOf<A>, seat: usize) -> bool
         requires { region.old.keeper.table ≡ self.old.table }
         ensures checks { ChecksIn result seat self.old.passes region.old self.new.passes region.new }
         ensures table { self.new.table ≡ self.old.table }
@@ -142,7 +142,7 @@ impl<'g> Seats<'g> {
     }
 
     /// The region's keeper meets each pass.
-    pub fn meet(&mut self, region: &mut Region<'_>)
+    pub fn meet<A: Acts + Drop>(&mut self, region: &mut RegionOf<A>)
         requires { region.old.keeper.table ≡ self.old.table }
         ensures table { self.new.table ≡ self.old.table }
         ensures met { HaveMet self.old.passes region.old.keeper.numbers.bounds self.new.passes region.new.keeper.numbers.bounds }

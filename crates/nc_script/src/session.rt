@@ -1,12 +1,9 @@
 //! Answering a script's lines by the calls of a region.
 
-ghost use Rattle.std.specs.Prelude.{◌≡◌, ◌++◌, List, ℕ, OnOk, IfOk, ◌<◌, replicate, length};
-ghost use Rattle.nc_gens.specs.Seen.{AreSeats, first_keeper, new_passes};
-ghost use Rattle.nc_region.specs.Region.{IsRegion};
+ghost use Rattle.std.specs.Prelude.{◌≡◌, ◌++◌, List, ℕ, OnOk, ◌<◌};
+ghost use Rattle.nc_region.specs.Region.{IsRegion, Region};
 ghost use Rattle.nc_script.specs.Requests.{Create, Modify, Delete, CheckIn, Leave, Reclaim, Walk};
-ghost use Rattle.nc_script.specs.Answers.{new_script};
-ghost use Rattle.nc_script.specs.Script.{Staying};
-ghost use Rattle.nc_script.specs.machinery.Session.{script_of, FitsSession, Follows, FollowsIn, FollowsLine};
+ghost use Rattle.nc_script.specs.machinery.Session.{Follows, FollowsIn, FollowsLine};
 ghost use Rattle.nc_script.specs.machinery.Shown.{shown};
 
 use crate::answer::{
@@ -15,10 +12,9 @@ use crate::answer::{
 use crate::query::answer_query;
 use crate::request::{Request, request_of};
 use crate::seats::Seats;
-use nc_gens::{Gens, Keeper, Pass};
 use nc_lines::Responder;
 use nc_output::push_fault;
-use nc_region::{Region, WalkFault};
+use nc_region::{Acts, Region, RegionOf, WalkFault};
 use nc_vet::vet;
 use std::alloc::{AllocError, Global};
 use std::marker::Model;
@@ -43,30 +39,15 @@ impl<'g> Model for Session<'g> {
 }
 
 impl<'g> Session<'g> {
-    /// A session over a new region of `bundles` bundles, whose deletions draw their stamps from this table, and whose threads
-    /// hold these passes.
-    pub fn new(
-        alloc: Global,
-        bundles: u32,
-        gens: &'g Gens,
-        keeper: Keeper,
-        passes: Vec<Pass>,
-    ) -> Result<Session<'g>, AllocError>
-        requires seats { AreSeats (length passes.items) }
-        requires keeper { keeper ≡ first_keeper gens.now (length passes.items) }
-        requires passes { passes.items ≡ new_passes gens.now (length passes.items) }
-        ensures script { IfOk result (λ s. script_of s.region (replicate (length passes.items) (Staying 0)) 0
-            ≡ new_script bundles (length passes.items)) }
-        ensures fits { IfOk result (λ s. FitsSession s (replicate (length passes.items) (Staying 0)) 0) }
+    /// A session over a region and its threads' seats, whose passes belong to the region's table.
+    pub fn new(alloc: Global, region: Region<'g>, seats: Seats<'g>) -> Session<'g>
+        requires { region.keeper.table ≡ seats.table }
+        ensures { result ≡ record { region = region.entry; seats = seats.entry } }
     {
-        let seats = Seats::new(alloc, gens, passes)?;
-        match Region::new(alloc, bundles, gens, keeper) {
-            Ok(region) => Ok(Session {
-                alloc,
-                region,
-                seats,
-            }),
-            Err(_) => Err(AllocError),
+        Session {
+            alloc,
+            region,
+            seats,
         }
     }
 }
@@ -85,9 +66,9 @@ impl<'g> Responder for Session<'g> {
 }
 
 /// Answers a request.
-fn serve(
+fn serve<A: Acts + Drop>(
     alloc: Global,
-    region: &mut Region,
+    region: &mut RegionOf<A>,
     seats: &mut Seats<'_>,
     request: Request,
     out: &mut Vec<u8>,
@@ -104,7 +85,7 @@ fn serve(
         Request::Modify { at, bytes } => answer_modify(region, at, &bytes, out),
         Request::Delete { base } => answer_delete(alloc, region, base, out),
         Request::CheckIn { seat } => answer_check_in(region, seats, seat, out),
-        Request::Leave { seat } => answer_leave(region, seats, seat, out),
+        Request::Leave { seat } => answer_leave(seats, seat, out),
         Request::Reclaim => answer_reclaim(alloc, region, seats, out),
         Request::Walk { start, choices } => answer_walk(region, start, &choices, out),
         Request::Ask { query } => answer_query(alloc, region, query, out),
@@ -112,8 +93,8 @@ fn serve(
 }
 
 /// Vets a chunk for the region's limit and creates it.
-fn answer_create(
-    region: &mut Region,
+fn answer_create<A: Acts + Drop>(
+    region: &mut RegionOf<A>,
     base: u32,
     bytes: Vec<u8>,
     out: &mut Vec<u8>,
@@ -134,8 +115,8 @@ fn answer_create(
 }
 
 /// Replaces instructions of a live chunk.
-fn answer_modify(
-    region: &mut Region,
+fn answer_modify<A: Acts + Drop>(
+    region: &mut RegionOf<A>,
     at: u32,
     bytes: &[u8],
     out: &mut Vec<u8>,
@@ -152,9 +133,9 @@ fn answer_modify(
 }
 
 /// Deletes a live chunk.
-fn answer_delete(
+fn answer_delete<A: Acts + Drop>(
     alloc: Global,
-    region: &mut Region,
+    region: &mut RegionOf<A>,
     base: u32,
     out: &mut Vec<u8>,
 ) -> Result<(), AllocError>
@@ -170,8 +151,8 @@ fn answer_delete(
 }
 
 /// A seat checks in.
-fn answer_check_in(
-    region: &mut Region,
+fn answer_check_in<A: Acts + Drop>(
+    region: &mut RegionOf<A>,
     seats: &mut Seats<'_>,
     seat: u32,
     out: &mut Vec<u8>,
@@ -190,15 +171,9 @@ fn answer_check_in(
 }
 
 /// A seat leaves for good.
-fn answer_leave(
-    region: &Region,
-    seats: &mut Seats<'_>,
-    seat: u32,
-    out: &mut Vec<u8>,
-) -> Result<(), AllocError>
-    ensures follows { OnOk result ((reply : List ℕ) × (out.new.items ≡ out.old.items ++ reply)
-        × Follows (Leave seat) (record { region = region.now; seats = seats.old }) reply
-        (record { region = region.now; seats = seats.new })) }
+fn answer_leave(seats: &mut Seats<'_>, seat: u32, out: &mut Vec<u8>) -> Result<(), AllocError>
+    ensures follows { (region : Region) → OnOk result ((reply : List ℕ) × (out.new.items ≡ out.old.items ++ reply)
+        × Follows (Leave seat) (record { region = region; seats = seats.old }) reply (record { region = region; seats = seats.new })) }
     ensures table { seats.new.table ≡ seats.old.table }
 {
     if seats.leave(seat as usize) {
@@ -210,9 +185,9 @@ fn answer_leave(
 
 /// Frees the spans of deleted chunks, as far as the seats allow. The keeper meets every seat afterwards, which shows the
 /// number by which it freed.
-fn answer_reclaim(
+fn answer_reclaim<A: Acts + Drop>(
     alloc: Global,
-    region: &mut Region,
+    region: &mut RegionOf<A>,
     seats: &mut Seats<'_>,
     out: &mut Vec<u8>,
 ) -> Result<(), AllocError>
@@ -227,8 +202,8 @@ fn answer_reclaim(
 }
 
 /// Walks through the region.
-fn answer_walk(
-    region: &Region,
+fn answer_walk<A: Acts + Drop>(
+    region: &RegionOf<A>,
     start: u32,
     choices: &[u32],
     out: &mut Vec<u8>,

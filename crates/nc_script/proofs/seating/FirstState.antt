@@ -1,14 +1,18 @@
 -- A new session stands for the first state of a script.
 use Rattle.std.proofs.Common.{◌≡◌, ℕ, zero, suc, ◌<◌, ◌≤◌, ◌+◌, Bool, List, [], ◌∷◌, ◌++◌, length, map, get_or, replicate}
 use Rattle.std.proofs.Common.{Option, Some, None}
-use Rattle.std.proofs.Common.{refl, sym, ◌∙◌}
-use Rattle.std.proofs.Common.{subst, arith}
+use Rattle.std.proofs.Common.{refl, sym, ap, ◌∙◌}
+use Rattle.std.proofs.Common.{subst, arith, ◌*◌}
+use Rattle.std.proofs.lemmas.Grind.{common_steps}
 use Rattle.std.proofs.lemmas.List.{map-append, length-map, length-replicate, get_or-replicate}
 use Rattle.atomic_table.specs.Seated.{TableId}
-use Rattle.nc_gens.specs.Seen.{PassState, first_pass, new_passes, first_keeper}
-use Rattle.nc_text.specs.MarkedText.{MarkedText}
+use Rattle.nc_gens.specs.Seen.{PassState, KeeperState, first_pass, new_passes, first_keeper}
+use Rattle.nc_text.specs.MarkedText.{MarkedText, unused_text}
+use Rattle.nc_text.specs.Ready.{unmade_pages}
+use Rattle.nc_region.specs.Region.{Region}
+use Rattle.nc_script.specs.Answers.{new_script}
 use Rattle.nc_script.specs.Script.{ScriptSeat, Staying, Left}
-use Rattle.nc_script.specs.machinery.Session.{SessionState, FitsSession, SeatFits}
+use Rattle.nc_script.specs.machinery.Session.{SeatsState, SessionState, FitsSession, SeatFits, script_of}
 use Rattle.nc_gens.proofs.Offered.{length-new_passes}
 
 -- what holds of each member and of one more
@@ -60,3 +64,39 @@ first_fits marked made table n some =
             (sym (get_or-replicate n i (Staying 0) (Left 0) inside)) (first_words table n i inside));
       };
     }
+
+-- a region without chunks
+abbrev new_region : MarkedText → List Bool → KeeperState → Region
+new_region marked made keeper = record { marked = marked; made = made; chunks = []; keeper = keeper; logged = [] }
+
+-- the seats of these passes
+abbrev new_seats : TableId → List PassState → SeatsState
+new_seats table passes = record { table = table; passes = map (λ (p : PassState). Some p) passes }
+
+-- a session over a new region, whose keeper and passes were made with its table
+module _ (region : Region) (seats : SeatsState) (bundles n : ℕ) (table : TableId) (keeper : KeeperState) (passes : List PassState)
+    (some : 1 ≤ n) (keeper_is : keeper ≡ first_keeper table n) (passes_are : passes ≡ new_passes table n)
+    (region_is : region ≡ new_region (unused_text (0x10000 + 32 * bundles)) (unmade_pages (0x10000 + 32 * bundles)) keeper)
+    (seats_are : seats ≡ new_seats table passes) where
+  -- it stands for the first state of a script
+  first_script : script_of region (replicate n (Staying 0)) 0 ≡ new_script bundles n
+  first_script = grind (arith, common_steps, region_is, keeper_is)
+
+  -- all seats are there, with the number 0
+  first_session : FitsSession (record { region = region; seats = seats }) (replicate n (Staying 0)) 0
+  first_session =
+      let marked = unused_text (0x10000 + 32 * bundles) in
+      let made = unmade_pages (0x10000 + 32 * bundles) in
+      let region_at = region_is
+      ∙ ap (λ (k : KeeperState). new_region marked made k) keeper_is in
+      let seats_at = seats_are
+      ∙ ap (λ (ps : List PassState). new_seats table ps) passes_are in
+      subst (λ (s : SessionState). FitsSession s (replicate n (Staying 0)) 0)
+      (λ j. record { region = sym region_at j; seats = sym seats_at j }) (first_fits marked made table n some)
+
+  -- the session begins a run of a script
+  pub begins_run : (session : SessionState) → session ≡ record { region = region; seats = seats }
+      → (script_of session.region (replicate n (Staying 0)) 0 ≡ new_script bundles n) × FitsSession session (replicate n (Staying 0)) 0
+  begins_run session is =
+      subst (λ (s : SessionState). (script_of s.region (replicate n (Staying 0)) 0 ≡ new_script bundles n)
+      × FitsSession s (replicate n (Staying 0)) 0) (sym is) (first_script, first_session)

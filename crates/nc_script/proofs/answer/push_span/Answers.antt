@@ -5,13 +5,13 @@ use Rattle.nc_script.proofs.chunks.SpanDigits.{digits_none, digits_more}
 use Rattle.nc_script.proofs.answer.push_span.Goals as goal
 
 pub loop-at-init : goal.loop-at-init
-loop-at-init c = digits_none c.args.region.now.marked.bytes c.args.out.now.items c.args.base
+loop-at-init g c = digits_none c.args.region.now.marked.bytes c.args.out.now.items c.args.base
 
 pub returns-in_err-push_byte : goal.returns-in_err-push_byte
-returns-in_err-push_byte c = IfOk-from_err _ _ c.from_residual.ensures.0
+returns-in_err-push_byte g c = IfOk-from_err _ _ c.from_residual.ensures.0
 
 pub loop-at-preserved : goal.loop-at-preserved
-loop-at-preserved c =
+loop-at-preserved g c =
     digits_more c.args.region.now.marked.bytes c.args.out.now.items c.loop-at.out.items c.push_byte.new.out.items c.args.base c.loop-at.at
     c.requires.low (omega arith) (omega (arith, c.requires.high))
     c.loop-at.invariant

@@ -8,7 +8,7 @@ use Rattle.nc_script.proofs.chunks.Fitting.{follows_same}
 use Rattle.nc_script.proofs.query.answer_query.Goals as goal
 
 pub returns : goal.returns
-returns c =
+returns g c =
     let query = c.args.query in
     let region = c.args.region.now in
     let before = c.args.out.now.items in

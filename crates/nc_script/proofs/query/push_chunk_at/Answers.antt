@@ -9,7 +9,7 @@ use Rattle.nc_script.proofs.chunks.NextChunk.{next_found, none_found}
 use Rattle.nc_script.proofs.query.push_chunk_at.Goals as goal
 
 pub returns-in_default : goal.returns-in_default
-returns-in_default c =
+returns-in_default g c =
     let region = c.args.region.now in
     subst (λ (found : Option ScriptChunk). OnOk c.extend_from_slice.result
     (c.extend_from_slice.new.self.items ≡ c.args.out.now.items ++ chunk_reply found))
@@ -17,7 +17,7 @@ returns-in_default c =
     (added_all c.extend_from_slice.result _ _ (codes "none") c.extend_from_slice.ensures.items)
 
 pub returns : goal.returns
-returns c =
+returns g c =
     let region = c.args.region.now in
     let old = c.args.out.now.items in
     let words = chunk_words (script_chunk region.marked.bytes c.in-Some.chunk) in

@@ -6,5 +6,5 @@ use Rattle.nc_script.specs.Replies.{chunk_words}
 use Rattle.nc_script.proofs.query.push_dump.Given as goal
 
 abbrev pub invariant-loop-i : goal.invariant-loop-i
-invariant-loop-i l =
+invariant-loop-i g l =
     l.out.items ≡ l.initial.out.items ++ flat_map chunk_words (map (script_chunk l.region.marked.bytes) (take l.i l.region.chunks))

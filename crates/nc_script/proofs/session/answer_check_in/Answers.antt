@@ -7,7 +7,7 @@ use Rattle.nc_script.proofs.serving.SeatRequests.{checked_follows, no_seat_check
 use Rattle.nc_script.proofs.session.answer_check_in.Goals as goal
 
 pub returns-then-check_in-clause-follows : goal.returns-then-check_in-clause-follows
-returns-then-check_in-clause-follows c =
+returns-then-check_in-clause-follows g c =
     added c.extend_from_slice.result _ _ (with_line_end (codes "ok"))
     (λ reply. Follows (CheckIn c.args.seat) (record { region = c.args.region.now; seats = c.args.seats.now }) reply
     (record { region = c.check_in.new.region; seats = c.check_in.new.self }))
@@ -15,7 +15,7 @@ returns-then-check_in-clause-follows c =
     (checked_follows c.args.seat c.args.seats.now c.args.region.now c.check_in.new.self c.check_in.new.region c.if-check_in.ensures.checks)
 
 pub returns-else-check_in-clause-follows : goal.returns-else-check_in-clause-follows
-returns-else-check_in-clause-follows c =
+returns-else-check_in-clause-follows g c =
     let old : SessionState = record { region = c.args.region.now; seats = c.args.seats.now } in
     added c.extend_from_slice-else-check_in.result _ _ (with_line_end (refused_words (codes "NoSeat")))
     (λ reply. Follows (CheckIn c.args.seat) old reply (record { region = c.check_in.new.region; seats = c.check_in.new.self }))

@@ -23,7 +23,7 @@ keeper_stays old new v Occupied same = ap (λ (r : Region). r.keeper) same
 keeper_stays old new v OutOfMemory h = ap (λ (r : Region). r.keeper) h.0
 
 pub returns-in-Err-clause-follows : goal.returns-in-Err-clause-follows
-returns-in-Err-clause-follows c =
+returns-in-Err-clause-follows g c =
     let region = c.args.region.now in
     let fault = c.in-Err.fault in
     on_ok_weaker c.push_fault.result
@@ -38,7 +38,7 @@ returns-in-Err-clause-follows c =
     c.push_fault.ensures
 
 pub returns-clause-follows : goal.returns-clause-follows
-returns-clause-follows c =
+returns-clause-follows g c =
     let (base_is, limit_is, code_is, valid) = c.in-Ok.ensures.vetted in
     let old = c.args.region.now in
     let new = c.create.new.self in
@@ -74,7 +74,7 @@ returns-clause-follows c =
     ]
 
 pub returns-clause-keeper : goal.returns-clause-keeper
-returns-clause-keeper c =
+returns-clause-keeper g c =
     let old = c.args.region.now in
     let new = c.create.new.self in
     elim c.match-create.branch [

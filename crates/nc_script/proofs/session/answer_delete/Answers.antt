@@ -5,7 +5,7 @@ use Rattle.nc_script.proofs.serving.ChunkRequests.{deleted_follows, undeleted_fo
 use Rattle.nc_script.proofs.session.answer_delete.Goals as goal
 
 pub returns-in-Ok-clause-follows : goal.returns-in-Ok-clause-follows
-returns-in-Ok-clause-follows c =
+returns-in-Ok-clause-follows g c =
     on_ok_weaker c.push_stamp.result
     (λ e. (
       with_line_end (stamp_reply c.in-Ok.stamp),
@@ -15,7 +15,7 @@ returns-in-Ok-clause-follows c =
     c.push_stamp.ensures
 
 pub returns-in-Err-clause-follows : goal.returns-in-Err-clause-follows
-returns-in-Err-clause-follows c =
+returns-in-Err-clause-follows g c =
     on_ok_weaker c.push_delete_fault.result
     (λ e. (
       with_line_end (refused_words (deletion_words c.in-Err.fault)),

@@ -9,7 +9,7 @@ use Rattle.nc_script.proofs.serving.ChunkRequests.{modified_follows, unmodified_
 use Rattle.nc_script.proofs.session.answer_modify.Goals as goal
 
 pub returns-in-Ok-clause-follows : goal.returns-in-Ok-clause-follows
-returns-in-Ok-clause-follows c =
+returns-in-Ok-clause-follows g c =
     let old = c.args.region.now in
     added c.extend_from_slice.result _ _ (with_line_end (codes "ok"))
     (λ reply. FollowsIn (Modify c.args.at c.args.bytes.now) old reply c.modify.new.self)
@@ -18,7 +18,7 @@ returns-in-Ok-clause-follows c =
     c.in-Ok.ensures.lawful)
 
 pub returns-in-Err-clause-follows : goal.returns-in-Err-clause-follows
-returns-in-Err-clause-follows c =
+returns-in-Err-clause-follows g c =
     on_ok_weaker c.push_patch_fault.result
     (λ e. (
       with_line_end (refused_words (patch_words c.in-Err.fault)),

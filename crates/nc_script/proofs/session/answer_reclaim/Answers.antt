@@ -5,7 +5,7 @@ use Rattle.nc_script.proofs.seating.Reclaimed.{reclaimed_follows}
 use Rattle.nc_script.proofs.session.answer_reclaim.Goals as goal
 
 pub returns-clause-follows : goal.returns-clause-follows
-returns-clause-follows c =
+returns-clause-follows g c =
     on_ok_weaker c.push_freed.result
     (λ e. (
       with_line_end (freed_reply c.reclaim-count.result),

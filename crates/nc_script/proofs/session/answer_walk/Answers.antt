@@ -12,7 +12,7 @@ use Rattle.nc_output.proofs.Offered.{added}
 use Rattle.nc_script.proofs.session.answer_walk.Goals as goal
 
 pub returns-in-Ok : goal.returns-in-Ok
-returns-in-Ok c =
+returns-in-Ok g c =
     on_ok_weaker c.push_trace.result
     (λ e. (
       with_line_end (walk_reply c.in-Ok.trace.places.items c.in-Ok.trace.end),
@@ -26,7 +26,7 @@ returns-in-Ok c =
     c.push_trace.ensures
 
 pub returns-in-Err-NotBundle : goal.returns-in-Err-NotBundle
-returns-in-Err-NotBundle c =
+returns-in-Err-NotBundle g c =
     let region = c.args.region.now in
     let request = Walk c.args.start c.args.choices.now in
     let reply = with_line_end (refused_words (codes "NotBundle")) in

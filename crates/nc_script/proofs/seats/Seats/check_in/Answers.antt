@@ -3,7 +3,7 @@ use Rattle.std.proofs.lemmas.Grind.{common_steps}
 use Rattle.nc_script.proofs.seats.Seats.check_in.Goals as goal
 
 pub invariant_of-self : goal.invariant_of-self
-invariant_of-self c = grind (arith, common_steps)
+invariant_of-self g c = grind (arith, common_steps)
 
 pub returns-clause-checks : goal.returns-clause-checks
-returns-clause-checks c = grind (arith, common_steps)
+returns-clause-checks g c = grind (arith, common_steps)
