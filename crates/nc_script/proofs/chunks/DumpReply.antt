@@ -1,9 +1,16 @@
 -- The words of a dump, one chunk more at a time.
-use Rattle.std.proofs.Common.{◌≡◌, ℕ, ◌+◌, ◌≤◌, length, List, [], ◌∷◌, ◌++◌, take, map, Some, sym, ap, ◌∙◌, append_assoc, append-nil}
+use Rattle.std.proofs.Common.{◌≡◌, ℕ, zero, suc, ◌+◌, ◌<◌, ◌≤◌, length, List, [], ◌∷◌, ◌++◌, take, map, Some, sym, ap, ◌∙◌, append_assoc, append-nil, arith, rules}
 use Rattle.std.specs.List.{flat_map, slice_get}
+use Rattle.std.specs.Option.{IsSome}
 use Rattle.std.proofs.lemmas.Grind.{flat_map-append}
 use Rattle.std.proofs.lemmas.List.{map-append, take_more, take_all}
 use Rattle.std.proofs.lemmas.Option.{get_or_from_slice_get, slice_get_within}
+
+-- there is an element at each index below the length
+pub element_there : {X : Type 0} (xs : List X) (i : ℕ) → i < length xs → IsSome (slice_get xs i)
+element_there [] i l = absurd (omega (arith, l))
+element_there (x ∷ xs) zero l = search rules
+element_there (x ∷ xs) (suc i) l = element_there xs i (omega (arith, l))
 
 -- the words of the next element comes after those of the elements before
 pub dump_more : {X Y : Type 0} (shown : X → Y) (words : Y → List ℕ) (xs : List X) (i : ℕ) (x : X) (start now new : List ℕ)

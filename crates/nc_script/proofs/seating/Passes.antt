@@ -1,16 +1,18 @@
 -- Lists of passes, each at its seat's place.
-use Rattle.std.proofs.Common.{◌≡◌, ◌≢◌, ℕ, zero, suc, ◌+◌, ◌<◌, ◌≤◌, ◌⊎◌, inl, inr, List, [], ◌∷◌, ◌++◌, length, map, get_or, set, Option}
+use Rattle.std.proofs.Common.{◌≡◌, ◌≢◌, ℕ, zero, suc, ◌+◌, ◌<◌, ◌≤◌, ◌⊎◌, inl, inr, List, [], ◌∷◌, ◌++◌, length, map, get_or, set, take, drop, Option}
 use Rattle.std.proofs.Common.{Some, None, refl, sym, ap, ◌∙◌, subst, ⊎_elim, arith}
 use Rattle.std.specs.List.{slice_get}
 use Rattle.std.proofs.lemmas.List.{map-append, length-map, set-get_or}
 use Rattle.std.proofs.lemmas.Option.{slice_get-get_or}
+use Rattle.std.proofs.lemmas.Grind.{elements}
+use Rattle.std.proofs.Math.Seq.{take-append_seam}
 use Rattle.std.specs.Prelude.{MatchOption}
 use Rattle.std.proofs.lemmas.Bool.{cases_lt}
 use Rattle.atomic_table.specs.Seated.{TableId}
 use Rattle.nc_gens.proofs.Offered.{length-new_passes}
-use Rattle.nc_gens.specs.Seen.{PassState, first_pass, new_passes}
+use Rattle.nc_gens.specs.Seen.{PassState, KeeperState, HasMet, first_pass, new_passes}
 use Rattle.nc_script.specs.machinery.Session.{AreSeated}
-use Rattle.nc_script.specs.machinery.Seats.{HasMetAt, HasMetOne, HaveMetBelow, HaveMet, HasNoPass, IsTaken}
+use Rattle.nc_script.specs.machinery.Seats.{HasMetAt, HasMetOne, HaveMetBelow, HaveMet, HasPass, HasNoPass, IsTaken}
 
 -- what stands in a list of which one member was set
 pub get_set : {X : Type 0} (xs : List X) (k i : ℕ) (y z : X) → slice_get (set xs k y) i ≡ Some z
@@ -30,6 +32,16 @@ get_push [] (suc i) y z h = absurd cc
 get_push (x ∷ xs) zero y z h = inr h
 get_push (x ∷ xs) (suc i) y z h = ⊎_elim (λ e. inl (ap (λ (n : ℕ). suc n) e.0, e.1)) (λ g. inr g) (get_push xs i y z h)
 
+-- the pass that stands at a seat's place
+pub there_at : (passes : List (Option PassState)) (seat : ℕ) (d : Option PassState) (p : PassState) → seat < length passes
+    → get_or passes seat d ≡ Some p → HasPass passes seat p
+there_at passes seat d p l is = slice_get-get_or passes seat d l ∙ ap (λ (o : Option PassState). Some o) is
+
+-- a list that was lent whole holds what was written to the loan
+pub written_back : {X : Type 0} (new old : List X) (len : ℕ) → len ≡ length new → take len (new ++ drop (length new) old) ≡ new
+written_back new old len is =
+    ap (λ (n : ℕ). take n (new ++ drop (length new) old)) is ∙ take-append_seam new (drop (length new) old)
+
 -- a pass put at its seat's place
 pub seated_set : (table : TableId) (passes : List (Option PassState)) (k : ℕ) (q : PassState) → AreSeated table passes
     → q.table ≡ table → q.seat ≡ k → AreSeated table (set passes k (Some q))
@@ -42,10 +54,21 @@ seated_set table passes k q seated t s i p h =
     ))
     (λ g. seated i p g) (get_set passes k i (Some q) (Some p) h)
 
+-- passes are still seated with one put where it stood
+pub seated_same : (table : TableId) (passes : List (Option PassState)) (k : ℕ) (d : Option PassState) → AreSeated table passes
+    → AreSeated table (set passes k (get_or passes k d))
+seated_same table passes k d = subst (AreSeated table) (sym (set-get_or passes k d))
+
 -- passes are still seated with one taken away
 pub seated_clear : (table : TableId) (passes : List (Option PassState)) (k : ℕ) → AreSeated table passes
     → AreSeated table (set passes k None)
 seated_clear table passes k seated i p h = ⊎_elim (λ e. absurd cc) (λ g. seated i p g) (get_set passes k i None (Some p) h)
+
+-- passes are still seated without what was taken from a seat's place
+pub seated_taken : (table : TableId) (old new : List (Option PassState)) (seat : ℕ) (r : Option PassState)
+    → MatchOption r (HasNoPass old seat × (new ≡ old)) (IsTaken seat old new) → AreSeated table old → AreSeated table new
+seated_taken table old new seat None h seated = subst (AreSeated table) (sym h.1) seated
+seated_taken table old new seat (Some p) h seated = subst (AreSeated table) (sym h.1) (seated_clear table old seat seated)
 
 -- the first passes stand at their seats' places
 pub seated_first : (table : TableId) (n : ℕ) → AreSeated table (map Some (new_passes table n))
@@ -60,6 +83,12 @@ seated_first table (suc n) i p h =
     (get_push (map Some first) i (Some (first_pass table n)) (Some p)
     (subst (λ (xs : List (Option PassState)). slice_get xs i ≡ Some (Some p)) (map-append (λ (q : PassState). Some q) first
     (first_pass table n ∷ [])) h))
+
+-- a pass met the keeper, and stands where it stood
+pub met_here : (passes : List (Option PassState)) (seat : ℕ) (d : Option PassState) (old new : PassState) (before after : KeeperState)
+    → seat < length passes → get_or passes seat d ≡ Some old → old.seat ≡ seat → HasMet old before new after
+    → HasMetOne seat passes before.numbers.bounds (set passes seat (Some new)) after.numbers.bounds
+met_here passes seat d old new before after l is seated met = grind (arith, elements)
 
 -- at the beginning no pass has met the keeper
 pub met_none : (passes : List (Option PassState)) (bounds : List ℕ) → HaveMetBelow 0 passes bounds passes bounds

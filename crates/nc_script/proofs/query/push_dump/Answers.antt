@@ -1,15 +1,15 @@
-use Rattle.std.proofs.Common.{◌∙◌, sym, arith}
-use Rattle.std.proofs.lemmas.Grind.{elements}
+use Rattle.std.proofs.Common.{◌∙◌, sym, subst, arith}
+use Rattle.std.specs.Option.{IsSome}
 use Rattle.nc_script.specs.machinery.Session.{script_chunk}
 use Rattle.nc_script.specs.Replies.{chunk_words}
 use Rattle.std.specs.Prelude.{codes}
 use Rattle.std.proofs.lemmas.Result.{IfOk-from_err}
-use Rattle.nc_script.proofs.chunks.DumpReply.{dump_more, dump_whole}
+use Rattle.nc_script.proofs.chunks.DumpReply.{dump_more, dump_whole, element_there}
 use Rattle.nc_script.proofs.chunks.RetiredChunks.{placed_at}
 use Rattle.nc_script.proofs.query.push_dump.Goals as goal
 
 pub unwrap-chunk-requires : goal.unwrap-chunk-requires
-unwrap-chunk-requires g c = grind (arith, elements)
+unwrap-chunk-requires g c = subst IsSome (sym c.chunk.ensures) (element_there c.args.region.now.chunks c.loop-i.i (omega arith))
 
 pub returns-in_err-push_chunk : goal.returns-in_err-push_chunk
 returns-in_err-push_chunk g c = IfOk-from_err _ _ c.from_residual-in_err-push_chunk.ensures.0
