@@ -64,18 +64,39 @@ fn first_bundle(code: &[u8]) -> &[u8] {
 
 /// Whether there is code, and all of it is hexadecimal text, as `xxd -p` writes it.
 pub fn is_hexadecimal(code: &[u8]) -> bool {
-    !code.is_empty() && code.iter().all(|byte| is_of_digits(*byte))
+    for byte in code {
+        if !is_of_digits(*byte) {
+            return false;
+        }
+    }
+    !code.is_empty()
 }
 
 /// There is code, and its first 32 bytes, or all if there are fewer, are text.
 fn is_text(code: &[u8]) -> bool {
-    !code.is_empty() && first_bundle(code).iter().all(|byte| is_of_text(*byte))
+    for byte in first_bundle(code) {
+        if !is_of_text(*byte) {
+            return false;
+        }
+    }
+    !code.is_empty()
+}
+
+/// The words about the first of these forms whose first bytes are those of the code, if there is one.
+fn words_in(forms: &[Form], code: &[u8]) -> Option<&'static [u8]> {
+    for form in forms {
+        if code.starts_with(form.first) {
+            return Some(form.words);
+        }
+    }
+    None
 }
 
 /// The words about a file that isn't raw code, if it is known by its bytes.
 pub(crate) fn form_words(code: &[u8]) -> Option<&'static [u8]> {
-    if let Some(form) = FORMS.iter().find(|form| code.starts_with(form.first)) {
-        return Some(form.words);
+    let known = words_in(&FORMS, code);
+    if known.is_some() {
+        return known;
     }
     if is_windows(code) {
         Some(WINDOWS)
