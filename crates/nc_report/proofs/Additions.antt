@@ -1,6 +1,5 @@
 -- Texts that are added one after the other, and prefixes of them that are written.
-use Rattle.std.proofs.Common.{◌≡◌, ℕ, Bool, true, List, [], ◌∷◌, ◌++◌, take, drop, refl, sym, subst, ◌∙◌, ap, append_assoc, append-nil, Option, inl, inr}
-use Rattle.std.specs.Prelude.{◌&&◌, ◌⊎◌}
+use Rattle.std.proofs.Common.{◌≡◌, ℕ, Bool, true, List, [], ◌∷◌, ◌++◌, take, drop, refl, sym, subst, ◌∙◌, ap, append_assoc, append-nil, Option, inl, inr, ◌&&◌, ◌⊎◌}
 use Rattle.std.specs.List.{flat_map, list_all}
 use Rattle.std.specs.Io.KnownBytes.{Appends}
 use Rattle.std.proofs.KnownBytes.{Appends-trans, Appends-nil}
@@ -43,6 +42,10 @@ two_details a b d e = record {
 
 pub details_both : (old mid new : List ℕ) → Adds old mid AreDetails → Adds mid new AreDetails → Adds old new AreDetails
 details_both old mid new = adds_both AreDetails AreDetails AreDetails old mid new two_details
+
+-- shown text after other shown text
+pub shown_both : (old mid new : List ℕ) → Adds old mid IsShown → Adds mid new IsShown → Adds old new IsShown
+shown_both old mid new = adds_both IsShown IsShown IsShown old mid new (all_both is_shown)
 
 -- a line
 pub line_details : (old start mid new : List ℕ) → start ≡ old ++ 32 ∷ 32 ∷ [] → Adds start mid IsShown → new ≡ mid ++ 10 ∷ []

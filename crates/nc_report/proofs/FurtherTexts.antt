@@ -1,6 +1,5 @@
 -- The text about the places of a chunk, one place after the other.
-use Rattle.std.proofs.Common.{◌≡◌, ℕ, ◌+◌, ◌-◌, ◌≤◌, cond, List, [], ◌∷◌, ◌++◌, length, refl, sym, subst, ◌∙◌, ap, append_assoc, append-nil, Option, arith}
-use Rattle.std.specs.Prelude.{codes, ◌==◌}
+use Rattle.std.proofs.Common.{◌≡◌, ℕ, ◌+◌, ◌-◌, ◌≤◌, cond, List, [], ◌∷◌, ◌++◌, length, refl, sym, subst, ◌∙◌, ap, append_assoc, append-nil, Option, arith, codes, ◌==◌}
 use Rattle.std.specs.List.{flat_map, range_with_len}
 use Rattle.nc_vet.proofs.Offered.{flat_map-append}
 use Rattle.nc_vet.specs.declared.fault.VetFault.{VetFault}

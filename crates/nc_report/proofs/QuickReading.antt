@@ -1,7 +1,6 @@
 -- A bundle that the automaton reads to its end is read by the same steps.
-use Rattle.std.proofs.Common.{◌≡◌, ◌≢◌, ℕ, zero, suc, ◌+◌, ◌-◌, ◌/◌, ◌%◌, ◌<◌, ◌≤◌, Bool, true, false, List, [], ◌∷◌, ◌++◌, length, take, drop, get_or}
+use Rattle.std.proofs.Common.{◌≡◌, ◌≢◌, ℕ, zero, suc, ◌+◌, ◌-◌, ◌/◌, ◌%◌, ◌<◌, ◌≤◌, Bool, true, false, List, [], ◌∷◌, ◌++◌, length, take, drop, get_or, slice_index, replicate, nat_lt}
 use Rattle.std.proofs.Common.{refl, sym, subst, ◌∙◌, ap, arith, inl, inr, append_assoc, append-nil, Option, Some, None, ◌==◌, cond, All, eqb-true, ne_eqb, eq-eqb}
-use Rattle.std.specs.Prelude.{slice_index, replicate, nat_lt}
 use Rattle.std.proofs.lemmas.Bool.{cases_lt, le-ltb, lt-ltb}
 use Rattle.std.proofs.lemmas.List.{length-append, length-drop, length-take-le, drop-drop, drop_at, get_or_default, get_or_append_left}
 use Rattle.std.proofs.lemmas.List.{get_or-append-add, get_or-take, get_or-drop, take-append-drop}

@@ -1,6 +1,5 @@
 -- The places so far are quiet.
-use Rattle.std.proofs.Common.{◌≡◌, ℕ, ◌-◌, ◌<◌, ◌≤◌, true, length, get_or}
-use Rattle.std.specs.Prelude.{slice_index}
+use Rattle.std.proofs.Common.{◌≡◌, ℕ, ◌-◌, ◌<◌, ◌≤◌, true, length, get_or, slice_index}
 use Rattle.nc_report.specs.declared.class.Class.TheVariants.{Inside}
 use Rattle.nc_report.specs.machinery.Seen.{is_quiet}
 use Rattle.nc_report.proofs.candidates.next_candidate.Given as goal

@@ -1,6 +1,5 @@
 -- The first places are marked.
-use Rattle.std.proofs.Common.{◌≡◌, ℕ, ◌+◌, ◌<◌, length, get_or, if◌then◌else◌}
-use Rattle.std.specs.Prelude.{slice_index}
+use Rattle.std.proofs.Common.{◌≡◌, ℕ, ◌+◌, ◌<◌, length, get_or, if◌then◌else◌, slice_index}
 use Rattle.nc_report.specs.declared.class.Class.TheVariants.{Inside}
 use Rattle.nc_report.specs.machinery.Seen.{is_quiet}
 use Rattle.nc_report.proofs.candidates.quiet_marks.Given as goal

@@ -1,6 +1,5 @@
 -- The bundles so far are counted.
-use Rattle.std.proofs.Common.{◌≡◌, ◌≤◌, ◌*◌, take}
-use Rattle.std.specs.List.{sum_by}
+use Rattle.std.proofs.Common.{◌≡◌, ◌≤◌, ◌*◌, take, sum_by}
 use Rattle.nc_report.specs.machinery.Counts.{begun_in}
 use Rattle.nc_report.proofs.counting.count_bits.Given as goal
 

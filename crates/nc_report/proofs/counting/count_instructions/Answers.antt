@@ -1,5 +1,4 @@
-use Rattle.std.proofs.Common.{List, length, sym, ap, ◌∙◌}
-use Rattle.std.specs.List.{sum_by}
+use Rattle.std.proofs.Common.{List, length, sym, ap, ◌∙◌, sum_by}
 use Rattle.nc_decode.specs.declared.instruction.Mark.{Mark}
 use Rattle.nc_report.specs.machinery.Counts.{one}
 use Rattle.nc_report.proofs.Counted.{counted}

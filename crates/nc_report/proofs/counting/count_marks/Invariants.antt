@@ -1,6 +1,5 @@
 -- The places so far are counted.
-use Rattle.std.proofs.Common.{◌≡◌, ◌≤◌, take}
-use Rattle.std.specs.List.{sum_by}
+use Rattle.std.proofs.Common.{◌≡◌, ◌≤◌, take, sum_by}
 use Rattle.nc_report.specs.machinery.Counts.{one}
 use Rattle.nc_report.proofs.counting.count_marks.Given as goal
 

@@ -1,5 +1,4 @@
-use Rattle.std.proofs.Common.{◌≡◌, ◌++◌, sym, subst, append_assoc}
-use Rattle.std.specs.Prelude.{codes}
+use Rattle.std.proofs.Common.{◌≡◌, ◌++◌, sym, subst, append_assoc, codes}
 use Rattle.nc_report.specs.Objects.{InArray, IsJson, Element, Braced, object_of}
 use Rattle.nc_report.proofs.json.with_object.Goals as goal
 

@@ -1,6 +1,4 @@
-use Rattle.std.proofs.Common.{◌++◌, [], ℕ, List, ap, ◌∙◌}
-use Rattle.std.specs.Prelude.{codes}
-use Rattle.std.specs.Fmt.{decimal}
+use Rattle.std.proofs.Common.{◌++◌, [], ℕ, List, ap, ◌∙◌, codes, decimal}
 use Rattle.std.proofs.lemmas.Result.{on_ok_weaker}
 use Rattle.nc_output.specs.Verdicts.{address_digits}
 use Rattle.nc_report.specs.Objects.{file_member, string_member}

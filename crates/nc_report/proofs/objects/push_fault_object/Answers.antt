@@ -1,5 +1,4 @@
-use Rattle.std.proofs.Common.{◌≡◌, ◌++◌, refl, append_assoc}
-use Rattle.std.specs.Prelude.{codes}
+use Rattle.std.proofs.Common.{◌≡◌, ◌++◌, refl, append_assoc, codes}
 use Rattle.std.proofs.lemmas.Result.{on_ok_weaker}
 use Rattle.nc_report.specs.Objects.{fault_object}
 use Rattle.nc_report.proofs.objects.push_fault_object.Goals as goal

@@ -1,6 +1,5 @@
 -- The first classes of a bundle that a lane has read are written.
-use Rattle.std.proofs.Common.{◌≡◌, ◌-◌, ◌++◌, ℕ, List, length, take}
-use Rattle.std.specs.Prelude.{replicate}
+use Rattle.std.proofs.Common.{◌≡◌, ◌-◌, ◌++◌, ℕ, List, length, take, replicate}
 use Rattle.nc_decode.specs.declared.automaton.TheConstants.{END}
 use Rattle.nc_report.specs.declared.class.Class.{Class}
 use Rattle.nc_report.specs.declared.class.Class.TheVariants.{Inside}

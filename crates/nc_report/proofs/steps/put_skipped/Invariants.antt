@@ -1,6 +1,5 @@
 -- The first classes are written.
-use Rattle.std.proofs.Common.{◌≡◌, ◌-◌, ◌++◌, List, length}
-use Rattle.std.specs.Prelude.{replicate}
+use Rattle.std.proofs.Common.{◌≡◌, ◌-◌, ◌++◌, List, length, replicate}
 use Rattle.nc_report.specs.declared.class.Class.{Class}
 use Rattle.nc_report.specs.declared.class.Class.TheVariants.{Inside, Skipped}
 use Rattle.nc_report.proofs.steps.put_skipped.Given as goal

@@ -1,10 +1,14 @@
-use Rattle.std.proofs.Common.{◌++◌, [], List, ℕ, take, sym, subst, append-nil}
+use Rattle.std.proofs.Common.{arith, ◌++◌, [], List, ℕ, take, sym, subst, append-nil}
+use Rattle.std.proofs.lemmas.Grind.{common_steps}
 use Rattle.std.proofs.lemmas.Result.{on_ok_weaker, on_err_weaker}
 use Rattle.std.specs.Io.KnownBytes.{Appends}
 use Rattle.nc_report.specs.Report.{end_of, TellsRefused}
 use Rattle.nc_report.proofs.Additions.{begun_alone, begun_later, cut_here, cut_in, written_alone, writes_more}
 use Rattle.nc_report.proofs.RefusedTexts.{TellsOpen, open_text, told_open, end_added, whole}
 use Rattle.nc_report.proofs.telling.tell_refused.Goals as goal
+
+pub push_refused-requires : goal.push_refused-requires
+push_refused-requires g c = grind (arith, common_steps)
 
 pub returns-in-Err-write_more-clause-cut : goal.returns-in-Err-write_more-clause-cut
 returns-in-Err-write_more-clause-cut g c =
