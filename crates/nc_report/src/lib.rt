@@ -7,8 +7,8 @@
 //!
 //! `telling` writes the report, and `counting` counts the instructions in a valid chunk. A `finding` is what is shown about a
 //! fault: its bundle, the target of a refused transfer by `targets`, and what the fault means by `advice`. `explaining` writes it
-//! as lines, and `listing` its bundle as code. No clause says which words these are; each line passes through `shown`, which leaves
-//! no control byte in it.
+//! as lines, and `listing` its bundle as code. `saying` adds words that stand alone, as a line or as a member. No clause says which
+//! words these are; each line passes through `shown`, which leaves no control byte in it.
 //!
 //! All faults of a refused chunk are found by one reading of it: `steps` reads it past its faults, with the lengths from
 //! `lengths`, and gives a `class` for each byte; `quick` reads bundles without a fault, four at a time. `candidates` finds the places
@@ -40,6 +40,7 @@ mod others;
 mod outside;
 mod quick;
 mod reporting;
+mod saying;
 mod shown;
 mod source;
 mod steps;

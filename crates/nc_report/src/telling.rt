@@ -17,14 +17,14 @@ use crate::counting::count_instructions;
 use crate::explaining::push_finding;
 use crate::fault::ReportFault;
 use crate::finding::{Finding, own_finding};
-use crate::json::{no_members, push_members, with_string};
+use crate::json::push_members;
 use crate::judged::Judged;
 use crate::labels::Labels;
 use crate::numbers::{push_all, push_text};
 use crate::objects::{finding_members, push_accepted_members, push_refused_members};
 use crate::others::write_others;
 use crate::outside::push_calls;
-use crate::shown::push_detail;
+use crate::saying::push_said;
 use crate::source::Source;
 use nc_output::{Detail, Format, Style, place_of, push_fault, write_out};
 use nc_vet::{VetFault, Vetted, vet};
@@ -170,19 +170,6 @@ fn push_verdict(
     }
 }
 
-/// Adds what a fault without an address means.
-fn push_words(out: &mut Vec<u8>, words: &[u8], format: Format) -> Result<(), AllocError>
-    ensures { OnOk result (Adds out.old.items out.new.items (Shows format)) }
-{
-    match format {
-        Format::Text => push_detail(out, &[words]),
-        Format::Json => {
-            let members = with_string(no_members(*out.allocator()), b"meaning", words)?;
-            push_members(out, members)
-        }
-    }
-}
-
 /// Adds what is shown about a fault at an address.
 fn push_found(
     out: &mut Vec<u8>,
@@ -213,7 +200,7 @@ fn push_explained(
 {
     let Some(at) = place_of(fault) else {
         let words = words_without_place(*out.allocator(), judged, fault)?;
-        return push_words(out, &words, format);
+        return push_said(out, b"meaning", &words, format);
     };
     let place = (at - judged.base) as usize;
     let finding = own_finding(*out.allocator(), judged, fault, place)?;

@@ -10,14 +10,12 @@ ghost use Rattle.nc_report.specs.machinery.Seen.{counted, kind_words};
 
 use crate::class::{Class, class_at};
 use crate::further::is_begun;
-use crate::json::{no_members, push_members as add_members, with_string};
 use crate::numbers::{choose, push_all, push_text};
-use crate::shown::push_detail;
-use crate::words::NOT_IN_BUNDLES;
+use crate::saying::push_said;
 use nc_decode::BUNDLE;
 use nc_output::Format;
 use nc_vet::VetFault;
-use std::alloc::AllocError;
+use std::alloc::{AllocError, Global};
 
 /// The number of faults of each kind.
 #[derive(Clone, Copy)]
@@ -165,6 +163,13 @@ fn push_counts(out: &mut Vec<u8>, counts: Counts, format: Format) -> Result<(), 
     }
 }
 
+/// The words about code that isn't in bundles, since this many of its bundles begin inside an instruction.
+fn adrift_words(alloc: Global, inside: usize, bundles: usize) -> Result<String, AllocError> {
+    format!(in alloc;
+        "the code isn't in bundles: {inside} of {bundles} bundle starts lie inside an instruction; compile with nc-cc, or assemble with .bundle_align_mode 5; see docs/GUIDE.md"
+    )
+}
+
 /// Adds that this many of the bundles begin inside an instruction, so the code isn't in bundles.
 fn push_adrift(
     out: &mut Vec<u8>,
@@ -174,17 +179,8 @@ fn push_adrift(
 ) -> Result<(), AllocError>
     ensures { OnOk result (Adds out.old.items out.new.items (Shows format)) }
 {
-    let alloc = *out.allocator();
-    let share = format!(in alloc; "the code isn't in bundles: {inside} of {bundles}")?;
-    match format {
-        Format::Text => push_detail(out, &[share.as_bytes(), NOT_IN_BUNDLES]),
-        Format::Json => {
-            let mut note = Vec::from_slice(alloc, share.as_bytes())?;
-            note.extend_from_slice(NOT_IN_BUNDLES)?;
-            let members = with_string(no_members(alloc), b"note", &note)?;
-            add_members(out, members)
-        }
-    }
+    let words = adrift_words(*out.allocator(), inside, bundles)?;
+    push_said(out, b"note", words.as_bytes(), format)
 }
 
 /// Adds whether the code is in bundles, if more than half of them begin inside an instruction.

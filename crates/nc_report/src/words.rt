@@ -60,9 +60,6 @@ pub(crate) const OUTSIDE_CODE: &[u8] = b"outside the code, not at a bundle start
 pub(crate) const INSIDE: &[u8] = b"inside the instruction at ";
 /// A target that is a masked transfer. The address of its mask follows these words.
 pub(crate) const SECOND_HALF: &[u8] = b"the second half of the pair whose mask begins at ";
-/// The words after the number of bundles that begin inside an instruction and the number of all bundles.
-pub(crate) const NOT_IN_BUNDLES: &[u8] =
-    b" bundle starts lie inside an instruction; compile with nc-cc, or assemble with .bundle_align_mode 5; see docs/GUIDE.md";
 /// There was no memory.
 pub(crate) const NO_MEMORY: &[u8] = b"there was no memory for vetting";
 
