@@ -1,9 +1,8 @@
 -- Texts that are added one after the other, and prefixes of them that are written.
-use Rattle.std.proofs.Common.{◌≡◌, ℕ, Bool, true, List, [], ◌∷◌, ◌++◌, take, drop, refl, sym, subst, ◌∙◌, ap, append_assoc, append-nil, Option, inl, inr, ◌&&◌, ◌⊎◌}
+use Rattle.std.proofs.Common.{◌≡◌, ℕ, Bool, true, List, [], ◌∷◌, ◌++◌, take, drop, refl, sym, subst, ◌∙◌, ap, append_assoc, append-nil, Option, inl, inr, ◌&&◌, ◌⊎◌, take-append-drop}
 use Rattle.std.specs.List.{flat_map, list_all}
 use Rattle.std.specs.Io.KnownBytes.{Appends}
 use Rattle.std.proofs.KnownBytes.{Appends-trans, Appends-nil}
-use Rattle.std.proofs.lemmas.List.{take-append-drop}
 use Rattle.std.proofs.lemmas.List.Folds.{list_all-append}
 use Rattle.nc_vet.proofs.Offered.{flat_map-append}
 use Rattle.nc_report.specs.Shown.{is_shown, IsShown, detail_line, AreDetails}

@@ -1,6 +1,5 @@
 -- Ascending numbers, and how often each occurs.
-use Rattle.std.proofs.Common.{◌≡◌, ◌≢◌, ℕ, ◌+◌, ◌<◌, ◌≤◌, List, [], ◌∷◌, ◌++◌, length, drop, replicate, refl, sym, subst, ◌∙◌, ap, arith}
-use Rattle.std.proofs.Common.{append_assoc, append-nil, get_or}
+use Rattle.std.proofs.Common.{◌≡◌, ◌≢◌, ℕ, ◌+◌, ◌<◌, ◌≤◌, List, [], ◌∷◌, ◌++◌, length, drop, replicate, refl, sym, subst, ◌∙◌, ap, arith, append_assoc, append-nil, get_or}
 use Rattle.std.specs.List.Sorted.{IsNonDecreasing, IsPermutation}
 use Rattle.std.proofs.lemmas.List.{take-append-drop, length-drop, get_or-drop, flat_map_more}
 use Rattle.std.proofs.lemmas.List.Sorted.{IsNonDecreasingBy-drop}

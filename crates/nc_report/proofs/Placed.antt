@@ -1,6 +1,5 @@
 -- The place of a fault.
-use Rattle.std.proofs.Common.{◌≡◌, ◌≢◌, ℕ, ◌+◌, ◌<◌, List, [], ◌∷◌, length, refl, ◌∙◌, ap, arith, Some}
-use Rattle.std.proofs.lemmas.List.{length-append}
+use Rattle.std.proofs.Common.{◌≡◌, ◌≢◌, ℕ, ◌+◌, ◌<◌, List, [], ◌∷◌, length, refl, ◌∙◌, ap, arith, Some, length-append}
 use Rattle.nc_decode.proofs.Offered.{spells_some}
 use Rattle.nc_vet.specs.Chunk.{code_of, place}
 use Rattle.nc_vet.specs.Faults.{HasFault, IsStuck, HasGoodSpan}

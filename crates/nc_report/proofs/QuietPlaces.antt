@@ -1,8 +1,6 @@
 -- Places that have no fault, by their class and their byte alone.
-use Rattle.std.proofs.Common.{◌≡◌, ℕ, zero, suc, ◌+◌, ◌-◌, ◌<◌, ◌≤◌, Bool, true, false, List, [], ◌∷◌, ◌++◌, length, drop, get_or, cond, refl, sym, subst, ◌∙◌, ap, slice_index, not, ◌==◌}
-use Rattle.std.proofs.Common.{append-nil, Option, Some, None, arith, inl, inr}
+use Rattle.std.proofs.Common.{◌≡◌, ℕ, zero, suc, ◌+◌, ◌-◌, ◌<◌, ◌≤◌, Bool, true, false, List, [], ◌∷◌, ◌++◌, length, drop, get_or, cond, refl, sym, subst, ◌∙◌, ap, slice_index, not, ◌==◌, get_or-drop, append-nil, Option, Some, None, arith, inl, inr}
 use Rattle.std.proofs.lemmas.Bool.{not-true, cond_both, and_left}
-use Rattle.std.proofs.lemmas.List.{get_or-drop}
 use Rattle.nc_decode.specs.declared.instruction.Instr.{Instr}
 use Rattle.nc_decode.specs.Spelling.{Spells, IsAtFront}
 use Rattle.nc_decode.specs.Front.{first_instruction}

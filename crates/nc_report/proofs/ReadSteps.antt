@@ -1,6 +1,5 @@
 -- Code that is read step by step.
-use Rattle.std.proofs.Common.{◌≡◌, ◌≢◌, ℕ, suc, ◌+◌, ◌-◌, ◌%◌, ◌<◌, ◌≤◌, List, [], ◌∷◌, ◌++◌, length, take, drop, set, refl, sym, subst, ◌∙◌, ap, arith, replicate, slice_set}
-use Rattle.std.proofs.Common.{append_assoc, append-nil, Option, None, Some}
+use Rattle.std.proofs.Common.{◌≡◌, ◌≢◌, ℕ, suc, ◌+◌, ◌-◌, ◌%◌, ◌<◌, ◌≤◌, List, [], ◌∷◌, ◌++◌, length, take, drop, set, refl, sym, subst, ◌∙◌, ap, arith, replicate, slice_set, append_assoc, append-nil, Option, None, Some}
 use Rattle.std.proofs.lemmas.List.{length-append, length-replicate, drop-drop, length-drop, drop_all, set_at, replicate-append-replicate}
 use Rattle.std.proofs.Math.Seq.{take-append-add}
 use Rattle.nc_decode.specs.declared.instruction.Instr.{Instr}

@@ -1,6 +1,5 @@
 -- The line of totals, put together.
-use Rattle.std.proofs.Common.{◌≡◌, ℕ, ◌<◌, Bool, true, false, List, [], ◌∷◌, ◌++◌, if◌then◌else◌, refl, sym, ◌∙◌, ap, codes, not, ◌==◌, ◌||◌, decimal}
-use Rattle.std.proofs.Common.{append_assoc, Bor, ◌+◌, length, get_or, drop, map}
+use Rattle.std.proofs.Common.{◌≡◌, ℕ, ◌<◌, Bool, true, false, List, [], ◌∷◌, ◌++◌, if◌then◌else◌, refl, sym, ◌∙◌, ap, codes, not, ◌==◌, ◌||◌, decimal, append_assoc, Bor, ◌+◌, length, get_or, drop, map}
 use Rattle.std.proofs.lemmas.List.{drop_more}
 use Rattle.nc_report.specs.Totals.{kinds_from}
 use Rattle.nc_report.specs.machinery.Seen.{kind_words}

@@ -168,7 +168,12 @@ fn count_prefixes(bytes: &[u8]) -> usize
     ensures value { result ≡ prefix_len (among leading) bytes.now }
     ensures within { result ≤ length bytes.now }
 {
-    bytes.iter().take_while(|b| is_prefix(**b)).count()
+    for count in 0..bytes.len() {
+        if !is_prefix(bytes[count]) {
+            return count;
+        }
+    }
+    bytes.len()
 }
 
 /// The byte is one of these prefixes.

@@ -1,5 +1,4 @@
-use Rattle.std.proofs.Common.{◌≡◌, ◌+◌, ◌<◌, ℕ, length, get_or, set, sym, subst, ◌∙◌, arith, if◌then◌else◌, slice_index}
-use Rattle.std.proofs.lemmas.List.{length-set}
+use Rattle.std.proofs.Common.{◌≡◌, ◌+◌, ◌<◌, ℕ, length, get_or, set, sym, subst, ◌∙◌, arith, if◌then◌else◌, slice_index, length-set}
 use Rattle.std.proofs.lemmas.List.Edits.{fill_by_more}
 use Rattle.nc_report.specs.declared.class.Class.TheVariants.{Inside}
 use Rattle.nc_report.specs.machinery.Seen.{is_quiet}

@@ -1,5 +1,4 @@
-use Rattle.std.proofs.Common.{◌≡◌, ◌+◌, ◌-◌, ◌++◌, ◌∷◌, ◌∙◌, [], ℕ, List, length, take, refl, ap, arith, replicate}
-use Rattle.std.proofs.lemmas.List.{take_all, length-set, length-take-le}
+use Rattle.std.proofs.Common.{◌≡◌, ◌+◌, ◌-◌, ◌++◌, ◌∷◌, ◌∙◌, [], ℕ, List, length, take, refl, ap, arith, replicate, take_all, length-set, length-take-le}
 use Rattle.nc_decode.specs.declared.automaton.TheConstants.{END}
 use Rattle.nc_report.specs.declared.class.Class.{Class}
 use Rattle.nc_report.specs.declared.class.Class.TheVariants.{Inside}

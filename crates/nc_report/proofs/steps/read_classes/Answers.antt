@@ -1,5 +1,4 @@
-use Rattle.std.proofs.Common.{sym, subst, arith}
-use Rattle.std.proofs.lemmas.List.{take_at}
+use Rattle.std.proofs.Common.{sym, subst, arith, take_at}
 use Rattle.nc_report.specs.machinery.Seen.{HasClasses}
 use Rattle.nc_report.proofs.steps.read_classes.Goals as goal
 

@@ -1,7 +1,6 @@
-use Rattle.std.proofs.Common.{length, sym, subst, arith}
+use Rattle.std.proofs.Common.{length, sym, subst, arith, take_all}
 use Rattle.std.specs.Io.KnownBytes.{Appends}
 use Rattle.std.proofs.KnownBytes.{Appends-kept}
-use Rattle.std.proofs.lemmas.List.{take_all}
 use Rattle.nc_report.proofs.telling.write_last.Goals as goal
 
 pub returns-in-Ok-flush-clause-ok : goal.returns-in-Ok-flush-clause-ok
