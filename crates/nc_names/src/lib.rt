@@ -2,8 +2,9 @@
 //!
 //! [`push_instruction`] adds the name and the operands of one instruction to a text. No verdict depends on it.
 //!
-//! `rows` is the table of names by opcode, `row` says what a row has, and `parts` takes an instruction apart. `writing` writes the
-//! name and the operands, and `memory` an operand in memory.
+//! `rows` is the table of names by opcode, `row` says what a row has, and `words` has the letters of the names. `parts` takes an
+//! instruction apart. `writing` writes the name and the operands, `memory` an operand in memory, `registers` has the names of registers,
+//! and `text` adds a piece to a text.
 //!
 //! ```
 //! push_instruction(&mut out, 0x10000, &[0x8B, 0x45, 0xF4])?; // mov -0xc(%ebp),%eax
@@ -15,8 +16,11 @@
 mod memory;
 mod naming;
 mod parts;
+mod registers;
 mod row;
 mod rows;
+mod text;
+mod words;
 mod writing;
 
 pub use naming::push_instruction;

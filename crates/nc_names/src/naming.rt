@@ -7,7 +7,8 @@ ghost use Rattle.nc_decode.specs.declared.instruction.Instr.{Instr};
 ghost use Rattle.nc_names.specs.Names.{is_printable, AddsPrintable};
 
 use crate::parts::Parts;
-use crate::writing::{Text, row_for, write_instruction};
+use crate::text::Text;
+use crate::writing::{push_row, row_for};
 use nc_decode::{Instr, decode};
 use std::alloc::AllocError;
 
@@ -45,8 +46,7 @@ fn text_of(at: u32, bytes: &[u8], instr: &Instr) -> Text {
     let next = at.wrapping_add(u32::from(instr.len));
     let parts = Parts::new(bytes, next.wrapping_add_signed(instr.rel));
     if let Some(row) = row_for(&parts) {
-        // There is room for each name, which is tested.
-        let _ = write_instruction(&mut text, &parts, row);
+        push_row(&mut text, &parts, row);
     }
     text
 }

@@ -63,9 +63,10 @@ impl<'a> Parts<'a> {
         self.modrm() < 0xC0
     }
 
-    /// The opcode and the byte after it, by which rows are found.
+    /// The prefix 66 if there is one, the opcode and the byte after it, by which rows are found.
     pub fn key(&self) -> u32 {
-        u32::from(self.opcode) * 256 + u32::from(self.modrm())
+        let prefix = if self.is_word() { 0x6600_0000 } else { 0 };
+        prefix + u32::from(self.opcode) * 256 + u32::from(self.modrm())
     }
 
     /// The number of this many bytes at the end.

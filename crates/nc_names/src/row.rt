@@ -1,5 +1,7 @@
 //! What a row of the table of names has.
 
+use crate::words::{Group, Word};
+
 /// An operand. The names of most are those of the manual's opcode maps (Intel SDM volume 2, appendix A).
 ///
 /// A `b` at the end means a byte, a `w` 16 bits, and a `v` 32 bits, or 16 after the prefix 66.
@@ -39,17 +41,26 @@ pub(crate) enum Operand {
     Y,
 }
 
+/// The operands of some opcodes in the manual's order, in which the one that is written comes first.
+#[derive(Clone, Copy)]
+pub(crate) enum Operands {
+    None,
+    One(Operand),
+    Two(Operand, Operand),
+    Three(Operand, Operand, Operand),
+}
+
 /// The name of some opcodes.
 #[derive(Clone, Copy)]
 pub(crate) enum Name {
     /// The same for all.
-    Same(&'static str),
+    Same(Word),
     /// By bits 3 to 5 of the opcode.
-    ByOpcode(&'static [&'static str; 8]),
+    ByOpcode(Group),
     /// By the reg field of ModRM, which is bits 3 to 5 of it.
-    ByField(&'static [&'static str; 8]),
+    ByField(Group),
     /// These letters, and then those of the condition in bits 0 to 3 of the opcode.
-    If(&'static str),
+    If(Word),
 }
 
 /// The letter after a name that says how large the operand is. `b` means a byte, `l` 32 bits, and `w` 16.
@@ -72,10 +83,9 @@ pub(crate) enum Suffix {
 pub(crate) struct Row {
     /// The bits of an instruction's key that count.
     pub mask: u32,
-    /// Their values. The key of an instruction is its opcode, with 0F if there is one, and the byte after the opcode.
+    /// Their values. The key of an instruction is the prefix 66 if there is one, the opcode, with 0F if there is one, and the byte after it.
     pub key: u32,
     pub name: Name,
     pub suffix: Suffix,
-    /// The operands in the manual's order, in which the one that is written comes first.
-    pub operands: &'static [Operand],
+    pub operands: Operands,
 }

@@ -1,36 +1,16 @@
 //! The name and the operands of an instruction as text.
 
-use crate::memory::write_memory;
+use crate::memory::push_memory;
 use crate::parts::Parts;
-use crate::row::{Name, Operand, Row, Suffix};
-use crate::rows::{CONDITIONS, ROWS, WORD_ROWS};
-use arrayvec::ArrayString;
-use std::fmt::{self, Write};
-
-/// The text of an instruction.
-pub(crate) type Text = ArrayString<64>;
-
-/// The registers of a byte.
-static BYTES: [&str; 8] = ["al", "cl", "dl", "bl", "ah", "ch", "dh", "bh"];
-
-/// The registers of 16 bits.
-static WORDS: [&str; 8] = ["ax", "cx", "dx", "bx", "sp", "bp", "si", "di"];
-
-/// The registers of 32 bits.
-pub(crate) static LONGS: [&str; 8] = ["eax", "ecx", "edx", "ebx", "esp", "ebp", "esi", "edi"];
-
-/// The registers of the operand's size, 32 bits or 16.
-fn sized(parts: &Parts<'_>) -> &'static [&'static str; 8] {
-    if parts.is_word() { &WORDS } else { &LONGS }
-}
+use crate::registers::{Size, register};
+use crate::row::{Name, Operand, Operands, Row, Suffix};
+use crate::rows::ROWS;
+use crate::text::{Text, push, push_immediate, push_number, push_target};
+use crate::words::{condition, letters, member};
 
 /// The row for an instruction, if there is one.
 pub(crate) fn row_for(parts: &Parts<'_>) -> Option<&'static Row> {
     let key = parts.key();
-    let other = WORD_ROWS.iter().find(|row| key & row.mask == row.key);
-    if parts.is_word() && other.is_some() {
-        return other;
-    }
     ROWS.iter().find(|row| key & row.mask == row.key)
 }
 
@@ -57,78 +37,97 @@ fn suffix(parts: &Parts<'_>, suffix: Suffix) -> &'static str {
     }
 }
 
-/// The name without its suffix, in two parts.
-fn name(parts: &Parts<'_>, name: Name) -> (&'static str, &'static str) {
+/// Adds the name without its suffix.
+fn push_name(text: &mut Text, parts: &Parts<'_>, name: Name) {
     match name {
-        Name::Same(name) => (name, ""),
-        Name::ByOpcode(names) => (names[usize::from(parts.opcode / 8 % 8)], ""),
-        Name::ByField(names) => (names[usize::from(parts.modrm() / 8 % 8)], ""),
-        Name::If(letters) => (letters, CONDITIONS[usize::from(parts.opcode % 16)]),
+        Name::Same(word) => push(text, letters(word)),
+        Name::ByOpcode(group) => push(text, member(group, (parts.opcode / 8 % 8) as u8)),
+        Name::ByField(group) => push(text, member(group, parts.modrm() / 8)),
+        Name::If(word) => {
+            push(text, letters(word));
+            push(text, condition((parts.opcode % 16) as u8));
+        }
     }
 }
 
-/// A register, by the low three bits of a number.
-fn write_register(text: &mut Text, names: &[&str; 8], number: u8) -> fmt::Result {
-    let name = names[usize::from(number % 8)];
-    write!(text, "%{name}")
-}
-
-/// The register or the memory that ModRM names.
-fn write_either(text: &mut Text, names: &[&str; 8], parts: &Parts<'_>) -> fmt::Result {
-    if parts.is_in_memory() {
-        write_memory(text, parts)
+/// The operand's size, 32 bits or 16.
+fn sized(parts: &Parts<'_>) -> Size {
+    if parts.is_word() {
+        Size::Word
     } else {
-        write_register(text, names, parts.modrm())
+        Size::Long
     }
 }
 
-/// An immediate.
-fn write_immediate(text: &mut Text, value: u32) -> fmt::Result {
-    write!(text, "${value:#x}")
-}
-
-/// An operand.
-fn write_operand(text: &mut Text, parts: &Parts<'_>, operand: Operand) -> fmt::Result {
+/// The register of an operand that is always one. Any other operand has AL.
+fn register_of(parts: &Parts<'_>, operand: Operand) -> &'static str {
     let (reg, low) = (parts.modrm() / 8, (parts.opcode % 8) as u8);
     match operand {
-        Operand::Eb => write_either(text, &BYTES, parts),
-        Operand::Ew => write_either(text, &WORDS, parts),
-        Operand::Ev => write_either(text, sized(parts), parts),
-        Operand::Gb => write_register(text, &BYTES, reg),
-        Operand::Gv => write_register(text, sized(parts), reg),
-        Operand::Zb => write_register(text, &BYTES, low),
-        Operand::Zv => write_register(text, sized(parts), low),
-        Operand::Al => write_register(text, &BYTES, 0),
-        Operand::Ax => write_register(text, sized(parts), 0),
-        Operand::Cl => write_register(text, &BYTES, 1),
-        Operand::Ib => write_immediate(text, parts.last(1)),
-        Operand::Is => write_immediate(text, parts.last_signed()),
-        Operand::Iz => write_immediate(text, parts.last(if parts.is_word() { 2 } else { 4 })),
-        Operand::O => {
-            let address = parts.last(4);
-            write!(text, "{address:#x}")
-        }
-        Operand::J => {
-            let target = parts.target;
-            write!(text, "{target:08x}")
-        }
-        Operand::Rt => {
-            text.write_str("*")?;
-            write_register(text, &LONGS, parts.modrm())
-        }
-        Operand::X => text.write_str("%ds:(%esi)"),
-        Operand::Y => text.write_str("%es:(%edi)"),
+        Operand::Gb => register(Size::Byte, reg),
+        Operand::Gv => register(sized(parts), reg),
+        Operand::Zb => register(Size::Byte, low),
+        Operand::Zv => register(sized(parts), low),
+        Operand::Ax => register(sized(parts), 0),
+        Operand::Cl => register(Size::Byte, 1),
+        _ => register(Size::Byte, 0),
     }
 }
 
-/// The instruction.
-pub(crate) fn write_instruction(text: &mut Text, parts: &Parts<'_>, row: &Row) -> fmt::Result {
-    let (front, back) = name(parts, row.name);
-    let (before, after) = (prefix(parts), suffix(parts, row.suffix));
-    write!(text, "{before}{front}{back}{after}")?;
-    for (n, operand) in row.operands.iter().rev().enumerate() {
-        text.write_str(if n == 0 { " " } else { "," })?;
-        write_operand(text, parts, *operand)?;
+/// Adds the register or the memory that ModRM names.
+fn push_either(text: &mut Text, parts: &Parts<'_>, size: Size) {
+    if parts.is_in_memory() {
+        push_memory(text, parts);
+    } else {
+        push(text, register(size, parts.modrm()));
     }
-    Ok(())
+}
+
+/// Adds the register that holds a target.
+fn push_target_register(text: &mut Text, number: u8) {
+    push(text, "*");
+    push(text, register(Size::Long, number));
+}
+
+/// Adds an operand, after what parts it from the text before it.
+fn push_operand(text: &mut Text, parts: &Parts<'_>, before: &str, operand: Operand) {
+    push(text, before);
+    match operand {
+        Operand::Eb => push_either(text, parts, Size::Byte),
+        Operand::Ew => push_either(text, parts, Size::Word),
+        Operand::Ev => push_either(text, parts, sized(parts)),
+        Operand::Ib => push_immediate(text, parts.last(1)),
+        Operand::Is => push_immediate(text, parts.last_signed()),
+        Operand::Iz => push_immediate(text, parts.last(if parts.is_word() { 2 } else { 4 })),
+        Operand::O => push_number(text, parts.last(4)),
+        Operand::J => push_target(text, parts.target),
+        Operand::Rt => push_target_register(text, parts.modrm()),
+        Operand::X => push(text, "%ds:(%esi)"),
+        Operand::Y => push(text, "%es:(%edi)"),
+        _ => push(text, register_of(parts, operand)),
+    }
+}
+
+/// Adds the operands, the last of the manual's order first.
+fn push_operands(text: &mut Text, parts: &Parts<'_>, operands: Operands) {
+    match operands {
+        Operands::None => {}
+        Operands::One(first) => push_operand(text, parts, " ", first),
+        Operands::Two(first, second) => {
+            push_operand(text, parts, " ", second);
+            push_operand(text, parts, ",", first);
+        }
+        Operands::Three(first, second, third) => {
+            push_operand(text, parts, " ", third);
+            push_operand(text, parts, ",", second);
+            push_operand(text, parts, ",", first);
+        }
+    }
+}
+
+/// Adds the instruction.
+pub(crate) fn push_row(text: &mut Text, parts: &Parts<'_>, row: &Row) {
+    push(text, prefix(parts));
+    push_name(text, parts, row.name);
+    push(text, suffix(parts, row.suffix));
+    push_operands(text, parts, row.operands);
 }
