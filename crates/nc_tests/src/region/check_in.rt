@@ -121,11 +121,12 @@ fn are_all_freed<C: Calls>(region: &mut C, before: u32) -> bool {
 fn check_in_and_leave<R: Threads + Wait + Sync, A: Acts + Drop + Send>(
     rt: &R,
     alloc: Global,
-    shared: &SharedOf<'_, A>,
+    shared: SharedOf<'_, A>,
     passes: Vec<Pass>,
 ) -> bool
-    requires { All (λ p. p.table ≡ shared.now) passes.items }
+    requires { All (λ p. p.table ≡ shared) passes.items }
 {
+    let shared = &shared;
     let mut passes = passes;
     let freed = check_in_beside(rt, alloc, shared, passes.as_mut_slice());
     let retired = is_last_retired(alloc, &mut Locked { rt, shared });
@@ -141,7 +142,7 @@ fn check_in_beside_writer(rt: HostRuntime) -> Result<(), Fail> {
     let alloc = rt.alloc();
     let (gens, keeper, passes) = Gens::new(alloc, 4)?;
     let freed = match shared_anew(alloc, 128, &gens, keeper) {
-        Some(shared) => check_in_and_leave(&rt, alloc, &shared, passes),
+        Some(shared) => check_in_and_leave(&rt, alloc, shared, passes),
         None => false,
     };
     right(freed, 1)

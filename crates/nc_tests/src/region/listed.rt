@@ -126,33 +126,41 @@ fn marks_over<A: Acts + Drop>(alloc: Global, acts: A, bundles: usize) -> Option<
     None
 }
 
-/// The marks of such a region whose acts take bits.
-fn from_bits(alloc: Global, bundles: usize) -> Option<Vec<Mark>> {
-    let Ok((gens, keeper, _pass)) = one_seat(alloc) else {
-        return None;
-    };
-    match plain(alloc, BUNDLES, &gens, keeper) {
-        Some(acts) => marks_over(alloc, acts, bundles),
-        None => None,
+/// The marks of such a region, whose acts are these, or these without taking bits.
+fn marks_from<A: Acts + Drop>(
+    alloc: Global,
+    acts: A,
+    bundles: usize,
+    has_bits: bool,
+) -> Option<Vec<Mark>>
+    requires { IsNew (A.marked acts) }
+{
+    if has_bits {
+        marks_over(alloc, acts, bundles)
+    } else {
+        marks_over(alloc, Listing { acts }, bundles)
     }
 }
 
-/// The marks of such a region whose acts take none.
-fn from_list(alloc: Global, bundles: usize) -> Option<Vec<Mark>> {
+/// The marks of such a region whose acts take bits, or take none.
+fn marks(alloc: Global, bundles: usize, has_bits: bool) -> Option<Vec<Mark>> {
     let Ok((gens, keeper, _pass)) = one_seat(alloc) else {
         return None;
     };
     match plain(alloc, BUNDLES, &gens, keeper) {
-        Some(acts) => marks_over(alloc, Listing { acts }, bundles),
+        Some(acts) => marks_from(alloc, acts, bundles, has_bits),
         None => None,
     }
 }
 
 /// The marks of a chunk of this many bundles are the same, whether they are set from bits or from a list.
 fn are_alike(alloc: Global, bundles: usize) -> bool {
-    match (from_bits(alloc, bundles), from_list(alloc, bundles)) {
-        (Some(bits), Some(list)) => bits.as_slice() == list.as_slice(),
-        _ => false,
+    let Some(bits) = marks(alloc, bundles, true) else {
+        return false;
+    };
+    match marks(alloc, bundles, false) {
+        Some(list) => bits.as_slice() == list.as_slice(),
+        None => false,
     }
 }
 

@@ -3,7 +3,8 @@
 ghost use Rattle.std.specs.Prelude.{◌≡◌};
 
 use crate::lower::rows::right;
-use crate::region::fixtures::{chunk, one_seat};
+use crate::region::fixtures::one_seat;
+use crate::region::steps::creates;
 use nc_gens::{Gens, Keeper};
 use nc_region::{Acts, Chunk, ChunkState, Region, RegionOf};
 use std::alloc::Global;
@@ -58,10 +59,7 @@ fn fill<A: Acts + Drop>(
     if place.is_some() {
         return true;
     }
-    let Some(vetted) = chunk(alloc, base(slot), LIMIT, 1, &[]) else {
-        return false;
-    };
-    if region.create(vetted).is_err() {
+    if !creates(alloc, region, LIMIT, base(slot), 1, &[], Ok(())) {
         return false;
     }
     *place = Some(Chunk {
@@ -168,25 +166,35 @@ fn is_found<A: Acts + Drop>(region: &RegionOf<A>, slots: &[Option<Chunk>]) -> bo
     true
 }
 
-/// Each plan's chunks are deleted and reclaimed, and created again.
-fn plans_hold<A: Acts + Drop>(
+/// A plan's chunks are deleted and reclaimed, and created again.
+fn plan_holds<A: Acts + Drop>(
     alloc: Global,
     region: &mut RegionOf<A>,
     slots: &mut [Option<Chunk>],
     order: u32,
+    plan: u32,
 ) -> bool {
+    if !fill_all(alloc, region, slots, order) || !is_listed(region, slots) {
+        return false;
+    }
+    let count = delete_all(region, slots, plan, order);
+    if count.is_none() || !is_listed(region, slots) || Some(region.reclaim()) != count {
+        return false;
+    }
+    forget_retired(slots);
+    is_listed(region, slots) && is_found(region, slots)
+}
+
+/// Each plan holds in a new region.
+fn plans_hold<A: Acts + Drop>(
+    alloc: Global,
+    region: RegionOf<A>,
+    slots: &mut [Option<Chunk>],
+    order: u32,
+) -> bool {
+    let mut region = region;
     for plan in 0..6 {
-        if !fill_all(alloc, region, slots, order) || !is_listed(region, slots) {
-            return false;
-        }
-        let Some(count) = delete_all(region, slots, plan, order) else {
-            return false;
-        };
-        if !is_listed(region, slots) || region.reclaim() != count {
-            return false;
-        }
-        forget_retired(slots);
-        if !is_listed(region, slots) || !is_found(region, slots) {
+        if !plan_holds(alloc, &mut region, slots, order, plan) {
             return false;
         }
     }
@@ -202,7 +210,7 @@ fn hold_in<'g>(alloc: Global, gens: &'g Gens, keeper: Keeper, order: u32) -> boo
         return false;
     }
     match Region::new(alloc, 2 * SLOTS + 1, gens, keeper) {
-        Ok(mut region) => plans_hold(alloc, &mut region, &mut slots, order),
+        Ok(region) => plans_hold(alloc, region, &mut slots, order),
         Err(_) => false,
     }
 }

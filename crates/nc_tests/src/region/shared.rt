@@ -127,11 +127,12 @@ fn calls_are_right<C: Calls, A: Acts + Drop>(
 fn is_shared<R: Threads + Wait + Sync, A: Acts + Drop + Send>(
     rt: &R,
     alloc: Global,
-    shared: &SharedOf<'_, A>,
+    shared: SharedOf<'_, A>,
     pass: Pass,
 ) -> bool
-    requires { pass.table ≡ shared.now }
+    requires { pass.table ≡ shared }
 {
+    let shared = &shared;
     let lengths = run_two(rt, alloc, shared);
     calls_are_right(alloc, &mut Locked { rt, shared }, shared, pass) && one_is_long(lengths)
 }
@@ -141,7 +142,7 @@ fn two_threads(rt: HostRuntime) -> Result<(), Fail> {
     let alloc = rt.alloc();
     let (gens, keeper, pass) = one_seat(alloc)?;
     let found = match shared(alloc, 4, BEFORE, &gens, keeper) {
-        Some(shared) => is_shared(&rt, alloc, &shared, pass),
+        Some(shared) => is_shared(&rt, alloc, shared, pass),
         None => false,
     };
     right(found, 1)

@@ -7,15 +7,17 @@ use nc_text::{Text, TextFault};
 use std::alloc::Global;
 use std::test::Fail;
 
+/// What was made was refused for its size.
+fn is_bad_size<T: Drop, U: Drop>(made: Result<T, (U, RegionFault)>) -> bool {
+    matches!(made, Err((_, RegionFault::BadSize)))
+}
+
 /// A region of this size is refused.
 fn has_no_region(alloc: Global, bundles: u32) -> bool {
-    let Ok((gens, keeper, _pass)) = one_seat(alloc) else {
-        return false;
-    };
-    matches!(
-        Region::new(alloc, bundles, &gens, keeper),
-        Err((_, RegionFault::BadSize))
-    )
+    match one_seat(alloc) {
+        Ok((gens, keeper, _pass)) => is_bad_size(Region::new(alloc, bundles, &gens, keeper)),
+        Err(_) => false,
+    }
 }
 
 /// A text of this size is refused.
