@@ -22,7 +22,7 @@ returns-clause-ended c =
     let deleted = c.in-Ok.ensures.deleted in
     let there = listed_there old.chunks deleted.index deleted.chunk deleted.listed in
     let whole : IsRegion old.marked old.chunks = subst (λ (h : RegionHandleState). IsRegion h.region.marked h.region.chunks)
-        (sym c.self.view_is) c.chunk_count-facts.ensures.region in
+    (sym c.self.view_is) c.chunk_count-facts.ensures.region in
     let call = λ (seats : ℕ).
     let is = c.in-Ok.ensures.call seats in
     subst (λ (d : Chunk). LogsCall seats (record no_details { base = begun.base; len = d.length }) old new)
