@@ -59,7 +59,7 @@ fn sized(parts: &Parts<'_>) -> Size {
     }
 }
 
-/// The register of an operand that is always one. Any other operand has AL.
+/// The register of an operand that is always a register.
 fn register_of(parts: &Parts<'_>, operand: Operand) -> &'static str {
     let (reg, low) = (parts.modrm() / 8, (parts.opcode % 8) as u8);
     match operand {
@@ -69,6 +69,7 @@ fn register_of(parts: &Parts<'_>, operand: Operand) -> &'static str {
         Operand::Zv => register(sized(parts), low),
         Operand::Ax => register(sized(parts), 0),
         Operand::Cl => register(Size::Byte, 1),
+        // AL, the only one left.
         _ => register(Size::Byte, 0),
     }
 }
@@ -88,9 +89,9 @@ fn push_target_register(text: &mut Text, number: u8) {
     push(text, register(Size::Long, number));
 }
 
-/// Adds an operand, after what parts it from the text before it.
-fn push_operand(text: &mut Text, parts: &Parts<'_>, before: &str, operand: Operand) {
-    push(text, before);
+/// Adds a separator and an operand.
+fn push_operand(text: &mut Text, parts: &Parts<'_>, separator: &str, operand: Operand) {
+    push(text, separator);
     match operand {
         Operand::Eb => push_either(text, parts, Size::Byte),
         Operand::Ew => push_either(text, parts, Size::Word),
@@ -103,7 +104,13 @@ fn push_operand(text: &mut Text, parts: &Parts<'_>, before: &str, operand: Opera
         Operand::Rt => push_target_register(text, parts.modrm()),
         Operand::X => push(text, "%ds:(%esi)"),
         Operand::Y => push(text, "%es:(%edi)"),
-        _ => push(text, register_of(parts, operand)),
+        Operand::Gb
+        | Operand::Gv
+        | Operand::Zb
+        | Operand::Zv
+        | Operand::Al
+        | Operand::Ax
+        | Operand::Cl => push(text, register_of(parts, operand)),
     }
 }
 
