@@ -69,21 +69,20 @@ fn live_in<R: Clock, A: Acts + Drop>(
     rt: &R,
     load: Load,
     all: Vec<Vetted>,
-    region: RegionOf<A>,
+    region: &mut RegionOf<A>,
     gens: &Gens,
     pass: &mut Pass,
 ) -> Times
     requires { pass.old.table ≡ gens.now }
 {
-    let mut region = region;
     let start = now(rt);
-    let created = create_all(&mut region, all);
+    let created = create_all(region, all);
     let create = since(rt, start);
     let start = now(rt);
-    let patched = patch_all(&mut region, load);
+    let patched = patch_all(region, load);
     let patch = since(rt, start);
     let start = now(rt);
-    let deleted = delete_all(&mut region, load);
+    let deleted = delete_all(region, load);
     let delete = since(rt, start);
     gens.check_in(pass);
     let start = now(rt);
@@ -107,7 +106,7 @@ fn live_over<R: Clock>(
     requires { (keeper.table ≡ gens.now) × (pass.old.table ≡ gens.now) }
 {
     match Region::new(*all.allocator(), load.region(), gens, keeper) {
-        Ok(region) => live_in(rt, load, all, region, gens, pass),
+        Ok(mut region) => live_in(rt, load, all, &mut region, gens, pass),
         Err(_refused) => Times::worst(),
     }
 }

@@ -101,30 +101,27 @@ fn make_pages<A: Acts + Drop>(region: &mut RegionOf<A>, alloc: Global, places: u
 /// Creates the chunks that are live throughout, and times the turns, or their reclaims alone.
 fn churn_in<R: Clock, A: Acts + Drop>(
     rt: &R,
-    region: RegionOf<A>,
+    region: &mut RegionOf<A>,
     alloc: Global,
     churn: Churn,
     is_clocked: bool,
 ) -> Timed {
-    let mut region = region;
-    make_pages(&mut region, alloc, churn.places());
+    make_pages(region, alloc, churn.places());
     let order = churn.load().order.numbers(alloc, churn.places());
-    let _created = create_all(&mut region, churn.first_chunks(alloc, &order));
+    let _created = create_all(region, churn.first_chunks(alloc, &order));
     let work = churn.work(alloc, &order);
     if is_clocked {
-        reclaims_timed(rt, &mut region, churn, work)
+        reclaims_timed(rt, region, churn, work)
     } else {
-        turns_timed(rt, &mut region, churn, work)
+        turns_timed(rt, region, churn, work)
     }
 }
 
 /// The time of the turns in a new region, or of their reclaims alone, if there is memory for it.
 fn churn_once<R: Clock>(rt: &R, alloc: Global, churn: Churn, is_clocked: bool) -> Option<Timed> {
     let (gens, keeper) = left_table(alloc)?;
-    match Region::new(alloc, churn.load().region(), &gens, keeper) {
-        Ok(region) => Some(churn_in(rt, region, alloc, churn, is_clocked)),
-        Err(_refused) => None,
-    }
+    let mut region = Region::new(alloc, churn.load().region(), &gens, keeper).ok()?;
+    Some(churn_in(rt, &mut region, alloc, churn, is_clocked))
 }
 
 /// Times turns in rounds, once as a whole and once with each reclaim clocked, and bare clockings for comparison, and prints the

@@ -122,31 +122,18 @@ fn jobs(found: &ArgMatches<'_>) -> Jobs {
     }
 }
 
-/// The vetting that is asked for.
-fn vet<'a>(alloc: Global, found: &ArgMatches<'a>) -> io::Result<Ask<'a>> {
-    let source = source(found)?;
-    Ok(Ask::Vet(source, also(alloc, found)?))
-}
-
-/// The measurement of this name that is asked for, other than `vet`.
-fn other<'a>(name: &str, found: &ArgMatches<'a>) -> Ask<'a> {
-    match name {
-        "workers" => Ask::Workers(jobs(found), found.get_one("WORKERS")),
-        "chunks" => Ask::Chunks(load(found)),
-        "reclaim" => Ask::Reclaim(share(found)),
-        "idle" => Ask::Idle(number(found, "COUNT")),
-        "churn" => Ask::Churn(churn(found)),
-        "lookups" => Ask::Lookups(load(found)),
-        _ => Ask::CheckIn(number(found, "TIMES")),
-    }
-}
-
 /// The measurement of this name that is asked for.
 fn named<'a>(alloc: Global, name: &str, found: &ArgMatches<'a>) -> io::Result<Ask<'a>> {
-    if name == "vet" {
-        return vet(alloc, found);
+    match name {
+        "vet" => Ok(Ask::Vet(source(found)?, also(alloc, found)?)),
+        "workers" => Ok(Ask::Workers(jobs(found), found.get_one("WORKERS"))),
+        "chunks" => Ok(Ask::Chunks(load(found))),
+        "reclaim" => Ok(Ask::Reclaim(share(found))),
+        "idle" => Ok(Ask::Idle(number(found, "COUNT"))),
+        "churn" => Ok(Ask::Churn(churn(found))),
+        "lookups" => Ok(Ask::Lookups(load(found))),
+        _ => Ok(Ask::CheckIn(number(found, "TIMES"))),
     }
-    Ok(other(name, found))
 }
 
 /// The measurement that is asked for, and its number of rounds. The parser requires that there is one.

@@ -31,18 +31,17 @@ fn reclaim_times<A: Acts + Drop>(region: &mut RegionOf<A>, times: u32) -> u32 {
 /// Creates and deletes the chunks, and times this many reclaims, after a first one that isn't timed.
 fn idle_in<R: Clock, A: Acts + Drop>(
     rt: &R,
-    region: RegionOf<A>,
+    region: &mut RegionOf<A>,
     load: Load,
     all: Vec<Vetted>,
     times: u32,
 ) -> Timed {
-    let mut region = region;
     let numbers = load.order.numbers(*all.allocator(), load.count);
-    let _created = create_all(&mut region, all);
-    let _deleted = delete_each(&mut region, load, &numbers);
+    let _created = create_all(region, all);
+    let _deleted = delete_each(region, load, &numbers);
     let first = region.reclaim();
     let start = now(rt);
-    let freed = reclaim_times(&mut region, times);
+    let freed = reclaim_times(region, times);
     let took = since(rt, start);
     let done = if first == 0 && freed == 0 { times } else { 0 };
     Timed { done, took }
@@ -52,10 +51,8 @@ fn idle_in<R: Clock, A: Acts + Drop>(
 fn idle_once<R: Clock>(rt: &R, alloc: Global, load: Load, times: u32) -> Option<Timed> {
     let all = load.chunks(alloc);
     let (gens, keeper) = held_table(alloc)?;
-    match Region::new(alloc, load.region(), &gens, keeper) {
-        Ok(region) => Some(idle_in(rt, region, load, all, times)),
-        Err(_refused) => None,
-    }
+    let mut region = Region::new(alloc, load.region(), &gens, keeper).ok()?;
+    Some(idle_in(rt, &mut region, load, all, times))
 }
 
 /// Times reclaims that free nothing among this many retired chunks, and in a region without a chunk, and prints the best times.

@@ -127,22 +127,21 @@ fn repeats(count: u32) -> u32 {
 /// Creates the chunks, and times looking them up in rounds.
 fn lookups_in<R: Clock, A: Acts + Drop>(
     rt: &R,
-    region: RegionOf<A>,
+    region: &mut RegionOf<A>,
     alloc: Global,
     load: Load,
     rounds: u32,
 ) -> Times {
-    let mut region = region;
-    let _created = create_all(&mut region, load.chunks(alloc));
+    let _created = create_all(region, load.chunks(alloc));
     let ascending = keys(alloc, load, Order::Ascending, Key::Index);
     let random = keys(alloc, load, Order::Random, Key::Index);
     let addresses = keys(alloc, load, Order::Random, Key::Address);
     let mut best = Times::worst();
     for _ in 0..rounds {
         let later = Times {
-            ascending: look_up(rt, &region, load, &ascending, Key::Index),
-            random: look_up(rt, &region, load, &random, Key::Index),
-            addresses: look_up(rt, &region, load, &addresses, Key::Address),
+            ascending: look_up(rt, region, load, &ascending, Key::Index),
+            random: look_up(rt, region, load, &random, Key::Index),
+            addresses: look_up(rt, region, load, &addresses, Key::Address),
         };
         best = best.best(later);
     }
@@ -152,10 +151,8 @@ fn lookups_in<R: Clock, A: Acts + Drop>(
 /// The times in a new region, if there is memory for it.
 fn lookups<R: Clock>(rt: &R, alloc: Global, load: Load, rounds: u32) -> Option<Times> {
     let (gens, keeper) = left_table(alloc)?;
-    match Region::new(alloc, load.region(), &gens, keeper) {
-        Ok(region) => Some(lookups_in(rt, region, alloc, load, rounds)),
-        Err(_refused) => None,
-    }
+    let mut region = Region::new(alloc, load.region(), &gens, keeper).ok()?;
+    Some(lookups_in(rt, &mut region, alloc, load, rounds))
 }
 
 /// Times looking up the chunks of a region, and prints the best times.

@@ -36,7 +36,7 @@ mod workers;
 use check_in::measure_check_in;
 use chunks::measure_chunks;
 use churn::measure_churn;
-use clap::{ArgMatches, Error};
+use clap::Error;
 use command_line::{Ask, asked};
 use idle::measure_idle;
 use lookups::measure_lookups;
@@ -52,13 +52,13 @@ use std::{env, io};
 use vetting::measure_vet;
 use workers::measure_workers;
 
-/// Makes the measurement that is asked for by words that were read.
+/// Makes the measurement that is asked for.
 fn measure<R: Threads + Wait + Sync + Clock + Files + Print + AllocGlobal>(
     rt: &R,
-    found: &ArgMatches<'_>,
-) -> io::Result<ExitCode> {
-    let (ask, rounds) = asked(rt.alloc(), found)?;
-    let measured = match ask {
+    ask: Ask<'_>,
+    rounds: u32,
+) -> io::Result<()> {
+    match ask {
         Ask::Vet(source, also) => measure_vet(rt, &source, &also, rounds),
         Ask::Workers(jobs, workers) => measure_workers(rt, jobs, rounds, workers),
         Ask::Chunks(load) => measure_chunks(rt, load, rounds),
@@ -67,9 +67,7 @@ fn measure<R: Threads + Wait + Sync + Clock + Files + Print + AllocGlobal>(
         Ask::Churn(churn) => measure_churn(rt, churn, rounds),
         Ask::Lookups(load) => measure_lookups(rt, load, rounds),
         Ask::CheckIn(times) => measure_check_in(rt, times, rounds),
-    };
-    measured?;
-    Ok(ExitCode::SUCCESS)
+    }
 }
 
 /// Prints a fault of the command line, or help, and returns the exit status.
@@ -83,10 +81,13 @@ fn run<R: Threads + Wait + Sync + Clock + Files + Print + Eprint + AllocGlobal>(
     rt: &R,
     words: &[&str],
 ) -> io::Result<ExitCode> {
-    match matches(rt.alloc(), words) {
-        Ok(found) => measure(rt, &found),
-        Err(error) => report_fault(rt, &error),
-    }
+    let asked = match matches(rt.alloc(), words) {
+        Ok(found) => asked(rt.alloc(), &found),
+        Err(error) => return report_fault(rt, &error),
+    };
+    let (ask, rounds) = asked?;
+    measure(rt, ask, rounds)?;
+    Ok(ExitCode::SUCCESS)
 }
 
 /// The words of the command line, the program's own name first.

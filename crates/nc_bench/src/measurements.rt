@@ -151,11 +151,6 @@ static BENCH: Program = Program {
 /// The words that are read in place of a command line without any.
 static HELP: [&str; 1] = ["--help"];
 
-/// The program.
-fn program() -> &'static Program {
-    &BENCH
-}
-
 /// Reads the words of a command line, without the program's own name. If there are none, the error is the help.
 pub fn matches<'a>(alloc: Global, words: &'a [&'a str]) -> Result<ArgMatches<'a>, Error> {
     let words = if words.is_empty() {
@@ -163,5 +158,5 @@ pub fn matches<'a>(alloc: Global, words: &'a [&'a str]) -> Result<ArgMatches<'a>
     } else {
         words
     };
-    nc_command::matches(alloc, program(), words)
+    nc_command::matches(alloc, &BENCH, words)
 }

@@ -12,28 +12,19 @@ use std::time::{Clock, Duration};
 /// The number of bytes that are vetted in a round, unless the codes together have more.
 const ROUND: usize = 65_536;
 
-/// Adds the code of a source.
-fn push_code<R: Files + AllocGlobal>(
-    rt: &R,
-    source: &Source<'_>,
-    codes: &mut Vec<Vec<u8>>,
-) -> io::Result<()> {
-    let code = read_code(rt, source)?;
-    Ok(codes.push(code)?)
-}
-
-/// Adds the code of the source, and of further files that are prepared as it is.
-fn push_codes<R: Files + AllocGlobal>(
+/// The code of the source, and of further files that are prepared as it is.
+fn read_codes<R: Files + AllocGlobal>(
     rt: &R,
     source: &Source<'_>,
     also: &[&str],
-    codes: &mut Vec<Vec<u8>>,
-) -> io::Result<()> {
-    push_code(rt, source, codes)?;
+) -> io::Result<Vec<Vec<u8>>> {
+    let mut codes = Vec::new(rt.alloc());
+    codes.push(read_code(rt, source)?)?;
     for path in also {
-        push_code(rt, &Source { path, ..*source }, codes)?;
+        let further = Source { path, ..*source };
+        codes.push(read_code(rt, &further)?)?;
     }
-    Ok(())
+    Ok(codes)
 }
 
 /// The number of bytes of all codes.
@@ -45,20 +36,14 @@ fn total(codes: &[Vec<u8>]) -> usize {
     bytes
 }
 
-/// Adds a copy of a code.
-fn push_copy(alloc: Global, code: &[u8], chunks: &mut Vec<Vec<u8>>) -> Result<(), AllocError> {
-    let copy = Vec::from_slice(alloc, code)?;
-    Ok(chunks.push(copy)?)
-}
-
-/// Adds a copy of each code.
+/// A copy of each code.
 fn copy_each(
     alloc: Global,
     codes: &[Vec<u8>],
     chunks: &mut Vec<Vec<u8>>,
 ) -> Result<(), AllocError> {
     for code in codes {
-        push_copy(alloc, code, chunks)?;
+        chunks.push(Vec::from_slice(alloc, code)?)?;
     }
     Ok(())
 }
@@ -123,23 +108,6 @@ fn report<R: Print>(rt: &R, bytes: usize, accepted: usize, best: Duration) -> io
     println!(rt; "{bytes} bytes {verdict}, {nanos} ns, {speed} MB/s")
 }
 
-/// Vets codes in rounds, and reports the best round.
-fn measure_codes<R: Clock + Print + AllocGlobal>(
-    rt: &R,
-    base: u32,
-    codes: &[Vec<u8>],
-    rounds: u32,
-) -> io::Result<()> {
-    let mut best = Duration::MAX;
-    let mut accepted = 0;
-    for _ in 0..rounds {
-        let (took, valid) = vet_round(rt, rt.alloc(), base, codes)?;
-        best = best.min(took);
-        accepted = valid;
-    }
-    report(rt, total(codes), accepted, best)
-}
-
 /// Vets the code of a source and of further files in rounds, and reports the best round.
 pub fn measure_vet<R: Files + Clock + Print + AllocGlobal>(
     rt: &R,
@@ -147,7 +115,13 @@ pub fn measure_vet<R: Files + Clock + Print + AllocGlobal>(
     also: &[&str],
     rounds: u32,
 ) -> io::Result<()> {
-    let mut codes = Vec::new(rt.alloc());
-    push_codes(rt, source, also, &mut codes)?;
-    measure_codes(rt, source.base, &codes, rounds)
+    let codes = read_codes(rt, source, also)?;
+    let mut best = Duration::MAX;
+    let mut accepted = 0;
+    for _ in 0..rounds {
+        let (took, valid) = vet_round(rt, rt.alloc(), source.base, &codes)?;
+        best = best.min(took);
+        accepted = valid;
+    }
+    report(rt, total(&codes), accepted, best)
 }
