@@ -10,8 +10,9 @@ mod halt;
 
 use clap::error::ErrorKind as ClapKind;
 use halt::Halt;
-use nc_command::{CheckAsk, arguments, ask_check, check_words};
+use nc_command::{CheckAsk, ask_check, check_words};
 use nc_files::{Failure, Progress, check_files};
+use nc_usage::arguments;
 use std::io::{ErrorKind, Input, IsTerminal};
 use std::process::ExitCode;
 use std::rt::{Env, Files};

@@ -5,15 +5,14 @@ ghost use Rattle.std.specs.Str.Parse.{IsNumeral};
 ghost use Rattle.nc_command.specs.Checking.{EndsInDigits, SpellsBase, IsCheckInRange};
 
 use crate::asked::CheckAsk;
-use crate::building::{fault, matches};
+use crate::options::{BUNDLES, WORKERS};
 use crate::replay::number;
-use crate::table::{BUNDLES, FLAG, OPTION, Program, Usage, WORKERS, Word};
-use crate::words::command_words;
 use clap::builder::ValueParser;
 use clap::error::ErrorKind;
 use clap::{ArgAction, ArgMatches, Error};
 use nc_decode::MAX_BUNDLES;
 use nc_output::{Detail, Format, Style};
+use nc_usage::{FLAG, OPTION, Program, Usage, Word, command_words, fault, matches};
 use std::alloc::{AllocError, Global};
 use std::rt::Env;
 

@@ -4,14 +4,13 @@ ghost use Rattle.std.specs.Prelude.{◌≡◌, ◌≤◌, IfOk, IfSome};
 ghost use Rattle.nc_command.specs.Range.{AsksInRange};
 
 use crate::asked::{Ask, Task};
-use crate::building::{fault, matches};
-use crate::table::{BUNDLES, FLAG, OPTION, Program, Usage, WORKERS, Word};
-use crate::words::command_words;
+use crate::options::{BUNDLES, WORKERS};
 use clap::builder::ValueParser;
 use clap::error::ErrorKind;
 use clap::{ArgMatches, Error};
 use nc_decode::MAX_BUNDLES;
 use nc_gens::MOST_SEATS;
+use nc_usage::{FLAG, OPTION, Program, Usage, Word, command_words, fault, matches};
 use std::alloc::Global;
 use std::rt::Env;
 

@@ -33,7 +33,7 @@ use clap::Error;
 use digest::Digest;
 use input::Input;
 use lines::Kind;
-use nc_command::arguments;
+use nc_usage::arguments;
 use pieces::Pieces;
 use std::alloc::AllocError;
 use std::io::Write;

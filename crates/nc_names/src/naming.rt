@@ -6,10 +6,8 @@ ghost use Rattle.nc_decode.specs.Spelling.{Spells};
 ghost use Rattle.nc_decode.specs.declared.instruction.Instr.{Instr};
 ghost use Rattle.nc_names.specs.Names.{is_printable, AddsPrintable};
 
-use crate::parts::Parts;
-use crate::text::Text;
-use crate::writing::{push_row, row_for};
 use nc_decode::{Instr, decode};
+use nc_mnemonics::text_of;
 use std::alloc::AllocError;
 
 /// What stands for a name that is missing. Each instruction has one, which is tested.
@@ -38,17 +36,6 @@ fn whole(bytes: &[u8]) -> Option<Instr>
         Ok(instr) if usize::from(instr.len) == bytes.len() => Some(instr),
         _ => None,
     }
-}
-
-/// The name and the operands of an instruction.
-fn text_of(at: u32, bytes: &[u8], instr: &Instr) -> Text {
-    let mut text = Text::new();
-    let next = at.wrapping_add(u32::from(instr.len));
-    let parts = Parts::new(bytes, next.wrapping_add_signed(instr.rel));
-    if let Some(row) = row_for(&parts) {
-        push_row(&mut text, &parts, row);
-    }
-    text
 }
 
 /// Adds a name. One that is empty, or that isn't printable, becomes `UNNAMED`. So nothing has to be proved about the table.

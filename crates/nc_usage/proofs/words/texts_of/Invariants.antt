@@ -1,6 +1,6 @@
 use Rattle.std.proofs.Common.{◌≡◌, take, map}
 use Rattle.std.specs.Prelude.{string_bytes}
-use Rattle.nc_command.proofs.words.texts_of.Given as goal
+use Rattle.nc_usage.proofs.words.texts_of.Given as goal
 
 -- the texts are those of the words so far
 abbrev pub invariant-loop-word : goal.invariant-loop-word

@@ -42,8 +42,9 @@ fn refusal_of_no_text<R: Env + AllocGlobal>(
     Ok(fault(rt.alloc(), program, Kind::InvalidValue, message.as_str()))
 }
 
-/// The words of the command line, the program's own name first.
-pub(crate) fn command_words<R: Env + AllocGlobal>(
+/// The words of the command line, the program's own name first. If there is no memory for them, the fault has the kind
+/// `OutOfMemory`.
+pub fn command_words<R: Env + AllocGlobal>(
     rt: &R,
     program: &Program,
 ) -> Result<Vec<String>, Error> {

@@ -3,8 +3,8 @@
 use arrayvec::ArrayString;
 use std::fmt::Write;
 
-/// The text of an instruction.
-pub(crate) type Text = ArrayString<64>;
+/// The text of an instruction, of at most 64 bytes.
+pub type Text = ArrayString<64>;
 
 /// Adds a piece.
 pub(crate) fn push(text: &mut Text, piece: &str) {

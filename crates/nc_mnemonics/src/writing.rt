@@ -7,9 +7,10 @@ use crate::row::{Name, Operand, Operands, Row, Suffix};
 use crate::rows::ROWS;
 use crate::text::{Text, push, push_immediate, push_number, push_target};
 use crate::words::{condition, letters, member};
+use nc_decode::Instr;
 
 /// The row for an instruction, if there is one.
-pub(crate) fn row_for(parts: &Parts<'_>) -> Option<&'static Row> {
+fn row_for(parts: &Parts<'_>) -> Option<&'static Row> {
     let key = parts.key();
     ROWS.iter().find(|row| key & row.mask == row.key)
 }
@@ -132,9 +133,21 @@ fn push_operands(text: &mut Text, parts: &Parts<'_>, operands: Operands) {
 }
 
 /// Adds the instruction.
-pub(crate) fn push_row(text: &mut Text, parts: &Parts<'_>, row: &Row) {
+fn push_row(text: &mut Text, parts: &Parts<'_>, row: &Row) {
     push(text, prefix(parts));
     push_name(text, parts, row.name);
     push(text, suffix(parts, row.suffix));
     push_operands(text, parts, row.operands);
+}
+
+/// The name and the operands of the instruction that `decode` found in these bytes, at this address. The text is empty if the table lacks
+/// the instruction. Tests show that it lacks none.
+pub fn text_of(at: u32, bytes: &[u8], instr: &Instr) -> Text {
+    let mut text = Text::new();
+    let next = at.wrapping_add(u32::from(instr.len));
+    let parts = Parts::new(bytes, next.wrapping_add_signed(instr.rel));
+    if let Some(row) = row_for(&parts) {
+        push_row(&mut text, &parts, row);
+    }
+    text
 }

@@ -2,7 +2,6 @@
 
 use clap::ArgAction;
 use clap::builder::ValueParser;
-use nc_decode::MAX_BUNDLES;
 
 /// An option or a positional argument.
 #[derive(Clone, Copy)]
@@ -43,7 +42,7 @@ pub struct Program {
 }
 
 /// An option with a value, before it has a name.
-pub(crate) const OPTION: Word = Word {
+pub const OPTION: Word = Word {
     name: "",
     is_option: true,
     action: ArgAction::Set,
@@ -56,27 +55,8 @@ pub(crate) const OPTION: Word = Word {
 };
 
 /// An option without a value, before it has a name.
-pub(crate) const FLAG: Word = Word {
+pub const FLAG: Word = Word {
     action: ArgAction::SetTrue,
     parser: ValueParser::Bool,
-    ..OPTION
-};
-
-/// The option for the size of the region, before it has a value.
-pub(crate) const BUNDLES: Word = Word {
-    name: "bundles",
-    value_names: &["N"],
-    parser: ValueParser::Signed(2, MAX_BUNDLES as i64),
-    help: "Size of the code region in 32-byte bundles, from 2 to 2097152",
-    ..OPTION
-};
-
-/// The option for the number of threads.
-pub(crate) const WORKERS: Word = Word {
-    name: "workers",
-    value_names: &["N"],
-    parser: ValueParser::Signed(1, 16),
-    defaults: &["4"],
-    help: "Number of threads that vet, from 1 to 16",
     ..OPTION
 };

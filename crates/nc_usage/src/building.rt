@@ -93,8 +93,8 @@ fn fault_by(command: &mut Command<'_>, kind: ErrorKind, message: &str) -> Error 
     }
 }
 
-/// A fault of a command line.
-pub(crate) fn fault(alloc: Global, program: &Program, kind: ErrorKind, message: &str) -> Error {
+/// A fault of a command line, or lack of memory if there is none for the fault.
+pub fn fault(alloc: Global, program: &Program, kind: ErrorKind, message: &str) -> Error {
     match command(alloc, program) {
         Ok(mut command) => fault_by(&mut command, kind, message),
         Err(error) => Error::from(error),

@@ -1,0 +1,24 @@
+//! Options that both programs have.
+
+use clap::builder::ValueParser;
+use nc_decode::MAX_BUNDLES;
+use nc_usage::{OPTION, Word};
+
+/// The option for the size of the region, before it has a value.
+pub(crate) const BUNDLES: Word = Word {
+    name: "bundles",
+    value_names: &["N"],
+    parser: ValueParser::Signed(2, MAX_BUNDLES as i64),
+    help: "Size of the code region in 32-byte bundles, from 2 to 2097152",
+    ..OPTION
+};
+
+/// The option for the number of threads.
+pub(crate) const WORKERS: Word = Word {
+    name: "workers",
+    value_names: &["N"],
+    parser: ValueParser::Signed(1, 16),
+    defaults: &["4"],
+    help: "Number of threads that vet, from 1 to 16",
+    ..OPTION
+};
