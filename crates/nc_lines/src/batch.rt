@@ -11,7 +11,7 @@ use std::alloc::{AllocError, Global};
 /// Lines gathered to be vetted: for each whether it names a chunk, and a job for each chunk, in the lines' order.
 #[derive(Drop)]
 pub(crate) struct Batch {
-    alloc: Global,
+    pub alloc: Global,
     limit: u32,
     pub named: Vec<bool>,
     pub jobs: Vec<Job>,

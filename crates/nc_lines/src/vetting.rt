@@ -1,6 +1,6 @@
 //! Lines of chunks, vetted by workers.
 
-ghost use Rattle.std.specs.Prelude.{◌≡◌, ◌≢◌, ◌↔◌, ◌⊎◌, OnOk, IfErr, IfSome, IsErrOf};
+ghost use Rattle.std.specs.Prelude.{◌≡◌, ◌≢◌, ◌↔◌, ◌⊎◌, [], OnOk, IfErr, IfSome, IsErrOf};
 ghost use Rattle.std.specs.Io.KnownBytes.{IsAtEnd};
 ghost use Rattle.nc_decode.specs.Bundles.{IsRegionSize, limit_after};
 ghost use Rattle.nc_work.specs.Verdicts.{AreWorkers};
@@ -59,37 +59,30 @@ pub fn vet_lines<R: Read, W: Write, G: Gate, T: Threads + Wait + Sync>(
     if !(1..=16).contains(&workers) {
         return Err(ReplayFault::BadWorkers);
     }
-    vet_and_write(
-        rt,
-        alloc,
-        reader,
-        writer,
-        START + BUNDLE * bundles,
-        workers,
-        gate,
-    )
+    let batch = Batch::new(alloc, START + BUNDLE * bundles);
+    vet_and_write(rt, batch, reader, writer, workers, gate)
 }
 
-/// Gathers all lines, vets the chunks that they name for this limit, and writes the verdicts.
+/// Gathers all lines into an empty batch, vets the chunks that they name for its limit, and writes the verdicts.
 fn vet_and_write<R: Read, W: Write, G: Gate, T: Threads + Wait + Sync>(
     rt: &T,
-    alloc: Global,
+    mut batch: Batch,
     reader: &mut R,
     writer: &mut W,
-    limit: u32,
     workers: u32,
     gate: &G,
 ) -> Result<(), ReplayFault>
+    requires empty { (batch.named.items ≡ []) × (batch.jobs.items ≡ []) }
     ensures ok { OnOk result (IfSome (R.remaining reader.old) (λ input.
-        HasVetted limit (W.contents writer.old) (W.contents writer.new) (lines_of input))) }
+        HasVetted batch.limit (W.contents writer.old) (W.contents writer.new) (lines_of input))) }
     ensures read { OnOk result (IsAtEnd (R.remaining reader.new)) }
     ensures write_failed { IsErrOf result ReplayFault.WriteFailed → IfSome (R.remaining reader.old) (λ input.
-        HasBegunVetted limit (W.contents writer.old) (W.contents writer.new) (lines_of input)) }
+        HasBegunVetted batch.limit (W.contents writer.old) (W.contents writer.new) (lines_of input)) }
     ensures unwritten { IfErr result (λ fault. fault ≢ ReplayFault.WriteFailed → writer.new ≡ writer.old) }
     ensures faults { IfErr result (λ fault. (fault ≢ ReplayFault.BadSize) × (fault ≢ ReplayFault.BadSeats)
         × (fault ≢ ReplayFault.BadWorkers)) }
 {
-    let mut batch = Batch::new(alloc, limit);
+    let alloc = batch.alloc;
     match gather(alloc, &mut batch, reader) {
         Ok(()) => {}
         Err(fault) => return Err(fault),

@@ -4,7 +4,7 @@ ghost use Rattle.nc_region.specs.Region.{IsNew};
 
 use crate::lower::rows::right;
 use crate::region::calls::Calls;
-use crate::region::fixtures::one_seat;
+use crate::region::fixtures::{chunk, one_seat};
 use crate::region::steps::{Step, creates, take_steps};
 use crate::region::telling::{Telling, plain};
 use nc_calls::law_of_calls;
@@ -158,7 +158,11 @@ impl Life {
     fn run<C: Calls>(&self, alloc: Global, region: &mut C, gens: &Gens, pass: &mut Pass) -> bool
         requires { pass.old.table ≡ gens.now }
     {
-        let created = creates(alloc, region, LIMIT, BASE, self.bundles, &FRONT, Ok(()));
+        let created = creates(
+            region,
+            chunk(alloc, BASE, LIMIT, self.bundles, &FRONT),
+            Ok(()),
+        );
         let retired = take_steps(alloc, region, LIMIT, &UNTIL_RETIRED);
         gens.check_in(pass);
         let freed = take_steps(alloc, region, LIMIT, &UNTIL_FREE);

@@ -4,7 +4,7 @@ ghost use Rattle.std.specs.Thread.{IsSync};
 
 use crate::lower::rows::right;
 use crate::region::calls::{Calls, Locked};
-use crate::region::fixtures::shared_anew;
+use crate::region::fixtures::{chunk, shared_anew};
 use crate::region::steps::{Step, creates, take_steps};
 use nc_gens::{Gens, Pass};
 use nc_region::{Acts, SharedOf};
@@ -47,7 +47,7 @@ fn all_check_in<R: Threads + Sync, A: Acts + Drop + Send>(
 /// Creates 32 nops, deletes them and reclaims: the number of freed chunks, if the stamp is one more than the index.
 fn write_one<C: Calls>(alloc: Global, region: &mut C, i: u32) -> Option<u32> {
     let base = 0x10000u32.wrapping_add(i.wrapping_mul(32));
-    let created = creates(alloc, region, LIMIT, base, 1, &[], Ok(()));
+    let created = creates(region, chunk(alloc, base, LIMIT, 1, &[]), Ok(()));
     let stamp = region.deleted(base);
     if created && stamp == Ok(u64::from(i).wrapping_add(1)) {
         return Some(region.reclaimed());

@@ -3,7 +3,7 @@ ghost use Rattle.std.specs.Prelude.{◌≡◌};
 ghost use Rattle.nc_region.specs.Region.{IsNew};
 
 use crate::lower::rows::right;
-use crate::region::fixtures::one_seat;
+use crate::region::fixtures::{chunk, one_seat};
 use crate::region::steps::creates;
 use crate::region::telling::plain;
 use nc_gens::{GensFull, Pass};
@@ -120,7 +120,11 @@ fn marks_over<A: Acts + Drop>(alloc: Global, acts: A, bundles: usize) -> Option<
     requires { IsNew (A.marked acts) }
 {
     let mut region = RegionOf::over(alloc, acts);
-    if creates(alloc, &mut region, LIMIT, BASE, bundles, &FRONT, Ok(())) {
+    if creates(
+        &mut region,
+        chunk(alloc, BASE, LIMIT, bundles, &FRONT),
+        Ok(()),
+    ) {
         return marks_of(alloc, &region);
     }
     None

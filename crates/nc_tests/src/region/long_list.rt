@@ -3,7 +3,7 @@
 ghost use Rattle.std.specs.Prelude.{◌≡◌};
 
 use crate::lower::rows::right;
-use crate::region::fixtures::one_seat;
+use crate::region::fixtures::{chunk, one_seat};
 use crate::region::steps::creates;
 use nc_gens::{Gens, Keeper};
 use nc_region::{Acts, Chunk, ChunkState, Region, RegionOf};
@@ -59,7 +59,7 @@ fn fill<A: Acts + Drop>(
     if place.is_some() {
         return true;
     }
-    if !creates(alloc, region, LIMIT, base(slot), 1, &[], Ok(())) {
+    if !creates(region, chunk(alloc, base(slot), LIMIT, 1, &[]), Ok(())) {
         return false;
     }
     *place = Some(Chunk {

@@ -3,7 +3,7 @@ ghost use Rattle.std.specs.Prelude.{◌≡◌};
 
 use crate::lower::rows::right;
 use crate::region::calls::{Calls, Locked};
-use crate::region::fixtures::{one_seat, shared};
+use crate::region::fixtures::{chunk, one_seat, shared};
 use crate::region::steps::{Step, creates, take_steps};
 use nc_gens::Pass;
 use nc_region::{Acts, CreateFault, DeleteFault, End, ModifyFault, SharedOf, Trace};
@@ -44,7 +44,7 @@ fn create_and_walk<C: Calls + Drop>(
     front: &[u8],
     places: &[u32],
 ) -> usize {
-    if !creates(alloc, &mut region, LIMIT, base, 1, front, Ok(())) {
+    if !creates(&mut region, chunk(alloc, base, LIMIT, 1, front), Ok(())) {
         return 0;
     }
     match region.walked(base, &[0, 0, 0]) {

@@ -22,27 +22,18 @@ pub(crate) enum Step<'s> {
     Count(usize),
 }
 
-/// Whether the creation of a chunk has this result.
-fn is_answer<C: Calls>(region: &mut C, vetted: Vetted, due: Result<(), CreateFault>) -> bool {
+/// Whether there is a chunk, and its creation has this result.
+pub(crate) fn creates<C: Calls>(
+    region: &mut C,
+    chunk: Option<Vetted>,
+    due: Result<(), CreateFault>,
+) -> bool {
+    let Some(vetted) = chunk else {
+        return false;
+    };
     match region.created(vetted) {
         Ok(()) => due == Ok(()),
         Err((_, fault)) => due == Err(fault),
-    }
-}
-
-/// Whether creating a chunk that begins with these bytes, for a region with this limit, has this result.
-pub(crate) fn creates<C: Calls>(
-    alloc: Global,
-    region: &mut C,
-    limit: u32,
-    base: u32,
-    bundles: usize,
-    front: &[u8],
-    due: Result<(), CreateFault>,
-) -> bool {
-    match chunk(alloc, base, limit, bundles, front) {
-        Some(vetted) => is_answer(region, vetted, due),
-        None => false,
     }
 }
 
@@ -58,7 +49,7 @@ fn walks<C: Calls>(region: &C, start: u32, choices: &[u32], places: &[u32], end:
 fn answers<C: Calls>(alloc: Global, region: &mut C, limit: u32, step: &Step<'_>) -> bool {
     match step {
         Step::Create(base, bundles, front, due) => {
-            creates(alloc, region, limit, *base, *bundles, front, *due)
+            creates(region, chunk(alloc, *base, limit, *bundles, front), *due)
         }
         Step::Modify(at, new, due) => region.modified(*at, new) == *due,
         Step::Delete(base, due) => region.deleted(*base) == *due,

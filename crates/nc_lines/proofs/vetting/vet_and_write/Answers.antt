@@ -15,16 +15,15 @@ returns-in-Err-clause-unwritten g c = λ _. refl
 
 pub returns-in-Err-write_out-clause-write_failed : goal.returns-in-Err-write_out-clause-write_failed
 returns-in-Err-write_out-clause-write_failed g c = λ _.
-    let limit : c.new-batch.result.limit ≡ c.args.limit = search rules in
     let front = c.in-Err-write_out.ensures.front in
-    let vetted : (input : List ℕ) → HasGathered c.new-batch.result c.gather.new.batch (lines_of input)
-    → HasBegunVetted c.args.limit
+    let vetted : (input : List ℕ) → HasGathered c.args.batch c.gather.new.batch (lines_of input)
+    → HasBegunVetted c.args.batch.limit
     (g.W.Write.contents c.args.writer.now) (g.W.Write.contents c.write_out.new.writer) (lines_of input) = λ input h. record {
       replies = c.push_verdicts.new.out.items;
       count = front.0;
-      verdicts = whole_reply c.new-batch.result c.gather.new.batch c.args.limit
+      verdicts = whole_reply c.args.batch c.gather.new.batch c.args.batch.limit
           (lines_of input) c.in-Ok-vet_all.verdicts.items c.new-out.result.items c.push_verdicts.new.out.items
-          limit c.new-batch.ensures.empty.0 c.new-batch.ensures.empty.1 h c.in-Ok-vet_all.ensures.verdicts c.new-out.ensures.items
+          refl c.requires.empty.0 c.requires.empty.1 h c.in-Ok-vet_all.ensures.verdicts c.new-out.ensures.items
           c.in-Ok-push_verdicts.ensures;
       written = subst (λ (xs : List ℕ). Appends (g.W.Write.contents c.args.writer.now) (g.W.Write.contents c.write_out.new.writer)
           (take front.0 xs)) c.as_slice.ensures.value front.1;
@@ -42,14 +41,13 @@ returns-in-Err-write_out-clause-unwritten g c = grind (arith, common_steps)
 
 pub returns-in-Ok-flush-clause-ok : goal.returns-in-Ok-flush-clause-ok
 returns-in-Ok-flush-clause-ok g c =
-    let limit : c.new-batch.result.limit ≡ c.args.limit = search rules in
-    let vetted : (input : List ℕ) → HasGathered c.new-batch.result c.gather.new.batch (lines_of input)
-    → HasVetted c.args.limit
+    let vetted : (input : List ℕ) → HasGathered c.args.batch c.gather.new.batch (lines_of input)
+    → HasVetted c.args.batch.limit
     (g.W.Write.contents c.args.writer.now) (g.W.Write.contents c.flush.new.self) (lines_of input) = λ input h. record {
       replies = c.push_verdicts.new.out.items;
-      verdicts = whole_reply c.new-batch.result c.gather.new.batch c.args.limit
+      verdicts = whole_reply c.args.batch c.gather.new.batch c.args.batch.limit
           (lines_of input) c.in-Ok-vet_all.verdicts.items c.new-out.result.items c.push_verdicts.new.out.items
-          limit c.new-batch.ensures.empty.0 c.new-batch.ensures.empty.1 h c.in-Ok-vet_all.ensures.verdicts c.new-out.ensures.items
+          refl c.requires.empty.0 c.requires.empty.1 h c.in-Ok-vet_all.ensures.verdicts c.new-out.ensures.items
           c.in-Ok-push_verdicts.ensures;
       written = Appends-kept (g.W.Write.contents c.args.writer.now) (g.W.Write.contents c.write_out.new.writer)
           (g.W.Write.contents c.flush.new.self) c.push_verdicts.new.out.items
@@ -66,16 +64,15 @@ returns-in-Ok-flush-clause-write_failed g c = grind (arith, common_steps)
 
 pub returns-clause-write_failed : goal.returns-clause-write_failed
 returns-clause-write_failed g c = λ _.
-    let limit : c.new-batch.result.limit ≡ c.args.limit = search rules in
     let bytes = c.push_verdicts.new.out.items in
-    let vetted : (input : List ℕ) → HasGathered c.new-batch.result c.gather.new.batch (lines_of input)
-    → HasBegunVetted c.args.limit
+    let vetted : (input : List ℕ) → HasGathered c.args.batch c.gather.new.batch (lines_of input)
+    → HasBegunVetted c.args.batch.limit
     (g.W.Write.contents c.args.writer.now) (g.W.Write.contents c.flush.new.self) (lines_of input) = λ input h. record {
       replies = bytes;
       count = length bytes;
-      verdicts = whole_reply c.new-batch.result c.gather.new.batch c.args.limit
+      verdicts = whole_reply c.args.batch c.gather.new.batch c.args.batch.limit
           (lines_of input) c.in-Ok-vet_all.verdicts.items c.new-out.result.items bytes
-          limit c.new-batch.ensures.empty.0 c.new-batch.ensures.empty.1 h c.in-Ok-vet_all.ensures.verdicts c.new-out.ensures.items
+          refl c.requires.empty.0 c.requires.empty.1 h c.in-Ok-vet_all.ensures.verdicts c.new-out.ensures.items
           c.in-Ok-push_verdicts.ensures;
       written = subst (λ (xs : List ℕ). Appends (g.W.Write.contents c.args.writer.now) (g.W.Write.contents c.flush.new.self) xs)
           (sym (take_all (length bytes) bytes (omega arith)))
