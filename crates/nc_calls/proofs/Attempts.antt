@@ -8,8 +8,8 @@ use Rattle.nc_list.specs.declared.chunk.ChunkState.TheVariants.{Retired}
 use Rattle.nc_region.specs.schedules.World.{World}
 use Rattle.nc_region.specs.schedules.Events.{Event, Puts, Settles, Retires, after}
 use Rattle.nc_region.proofs.Offered.{Keeps}
-use Rattle.nc_region.specs.declared.acts.Act.TheVariants.{Put}
-use Rattle.nc_region.specs.Acts.{is_marked_at, is_unmarked_at, puts_where}
+use Rattle.nc_acts.specs.declared.acts.Act.TheVariants.{Put}
+use Rattle.nc_acts.specs.Acts.{is_marked_at, is_unmarked_at, puts_where}
 use Rattle.nc_region.specs.Region.{IsLive, IsRegion}
 use Rattle.nc_calls.specs.Calls.{Details, no_details, delete_events}
 use Rattle.nc_calls.specs.Histories.{AreAttempts, NoneYet, OneMore}

@@ -20,10 +20,11 @@ use Rattle.nc_region.specs.schedules.Spans.{RetiredSpan, IsShut}
 use Rattle.nc_region.specs.schedules.World.{World}
 use Rattle.nc_region.specs.schedules.Events.{Event, Marks, Settles}
 use Rattle.nc_region.proofs.Offered.{Keeps, only_as_it_stands}
-use Rattle.nc_region.specs.declared.acts.Act.TheVariants.{MarkSpan}
-use Rattle.nc_region.specs.Acts.{is_inside, is_start, puts_where}
-use Rattle.nc_region.specs.Chunks.{HasGoodSpan, IsClosedChunk, IsUnused, with_chunk}
-use Rattle.nc_region.specs.machinery.Between.{HasPut, IsFinalBut}
+use Rattle.nc_acts.specs.declared.acts.Act.TheVariants.{MarkSpan}
+use Rattle.nc_acts.specs.Acts.{is_inside, is_start, puts_where}
+use Rattle.nc_acts.specs.Chunks.{HasGoodSpan, IsClosedChunk, IsUnused, with_chunk}
+use Rattle.nc_acts.specs.Puts.{HasPut}
+use Rattle.nc_region.specs.machinery.Between.{IsFinalBut}
 use Rattle.nc_region.specs.Region.{IsRegion, FitsAt, live_chunk}
 use Rattle.nc_region.proofs.Offered.{final_all, final_but_starts, each_map, each_append, unused_if_apart, region_with_chunk, some_same}
 use Rattle.nc_region.proofs.Offered.{Joins, chunk_joins, chunk_keeps, valid_chunk_is_closed, Before, Within, Behind}

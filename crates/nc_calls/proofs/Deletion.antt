@@ -20,9 +20,9 @@ use Rattle.nc_region.specs.schedules.Spans.{IsQuiet, IsShut}
 use Rattle.nc_region.specs.schedules.World.{World, AreApart}
 use Rattle.nc_region.specs.schedules.Events.{Settles, Retires, IsAllowed, after, new_span}
 use Rattle.nc_region.proofs.Offered.{Keeps, admits_is_mark, shut_if_quiet, as_it_stands}
-use Rattle.nc_region.specs.Acts.{is_mark, is_marked_at, is_unmarked_at, puts_where}
-use Rattle.nc_region.specs.Chunks.{HasGoodSpan}
-use Rattle.nc_region.specs.machinery.Between.{HasPut}
+use Rattle.nc_acts.specs.Acts.{is_mark, is_marked_at, is_unmarked_at, puts_where}
+use Rattle.nc_acts.specs.Chunks.{HasGoodSpan}
+use Rattle.nc_acts.specs.Puts.{HasPut}
 use Rattle.nc_region.specs.Each.{Each}
 use Rattle.nc_region.specs.Region.{IsLive, IsRising, IsRegion}
 use Rattle.nc_region.proofs.Offered.{region_deleted, all_stops, each_get, each_from, each_at_set, quiet_chunks, rises_get}

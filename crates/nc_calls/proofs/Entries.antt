@@ -4,12 +4,12 @@ use Rattle.std.specs.List.{flat_map}
 use Rattle.nc_decode.specs.declared.instruction.Mark.{Mark}
 use Rattle.nc_vet.specs.Chunk.{MarkedChunk, Piece}
 use Rattle.nc_region.specs.schedules.Events.{Event, Puts, Settles, Retires}
-use Rattle.nc_region.specs.declared.acts.Act.{Act}
-use Rattle.nc_region.specs.declared.acts.Act.TheVariants.{MarkSpan, Bump}
-use Rattle.nc_region.specs.declared.acts.Entry.{Entry}
-use Rattle.nc_region.specs.declared.acts.Entry.TheVariants.{Did, Settled}
-use Rattle.nc_region.specs.Acts.{puts_where, is_inside, is_start, is_marked_at, is_unmarked_at}
-use Rattle.nc_region.specs.Log.{unsettled}
+use Rattle.nc_acts.specs.declared.acts.Act.{Act}
+use Rattle.nc_acts.specs.declared.acts.Act.TheVariants.{MarkSpan, Bump}
+use Rattle.nc_acts.specs.declared.acts.Entry.{Entry}
+use Rattle.nc_acts.specs.declared.acts.Entry.TheVariants.{Did, Settled}
+use Rattle.nc_acts.specs.Acts.{puts_where, is_inside, is_start, is_marked_at, is_unmarked_at}
+use Rattle.nc_acts.specs.Log.{unsettled}
 use Rattle.nc_region.specs.Patch.{any_place, stands_there, log_of_instruction, log_of_modify}
 use Rattle.nc_calls.specs.Calls.{Details, no_details, events_of_act, events_of_log, create_events, modify_events, delete_events}
 

@@ -8,12 +8,12 @@ use Rattle.nc_gens.specs.Seen.{PassState, HasMet}
 use Rattle.nc_vet.specs.Chunk.{MarkedChunk, Piece, IsValid}
 use Rattle.nc_list.specs.declared.chunk.Chunk.{Chunk}
 use Rattle.nc_region.specs.schedules.Events.{Looks}
-use Rattle.nc_region.specs.declared.acts.Entry.{Entry}
+use Rattle.nc_acts.specs.declared.acts.Entry.{Entry}
 use Rattle.nc_region.specs.declared.fault.CreateFault.{CreateFault}
 use Rattle.nc_region.specs.declared.fault.ModifyFault.{ModifyFault}
 use Rattle.nc_region.specs.declared.fault.DeleteFault.{DeleteFault}
 use Rattle.nc_region.specs.Region.{Region, IsCreated, IsRefused, MayRefuse, Meets}
-use Rattle.nc_region.specs.Log.{Logs, log_of_create, log_of_delete}
+use Rattle.nc_acts.specs.Log.{Logs, log_of_create, log_of_delete}
 use Rattle.nc_region.specs.Deletion.{IsDeleted, MayRefuseDelete, IsReclaimed}
 use Rattle.nc_region.specs.Patch.{IsPatch, IsModified, MayRefusePatch, AreBytesOf, log_of_modify}
 use Rattle.nc_region.specs.Quiet.{retired_spans}

@@ -21,7 +21,7 @@ use Rattle.nc_region.specs.schedules.Spans.{RetiredSpan}
 use Rattle.nc_region.specs.schedules.World.{World}
 use Rattle.nc_region.specs.schedules.Events.{Event, Puts, Settles}
 use Rattle.nc_region.proofs.Offered.{as_it_stands, only_as_it_stands}
-use Rattle.nc_region.specs.Acts.{is_mark, puts_where}
+use Rattle.nc_acts.specs.Acts.{is_mark, puts_where}
 use Rattle.nc_region.specs.Patch.{AreBytesOf, IsHeldBy, IsPatch, any_place, stands_there}
 use Rattle.nc_region.specs.machinery.PatchSteps.{Begins, IsReplacing, CanPatch}
 use Rattle.nc_region.specs.Region.{Region, IsLive, IsInChunk, IsRegion}

@@ -10,7 +10,7 @@ use Rattle.nc_list.specs.declared.chunk.Chunk.{Chunk}
 use Rattle.nc_region.specs.schedules.World.{World, first_world}
 use Rattle.nc_region.specs.schedules.Events.{Event, Looks, world_after}
 use Rattle.nc_region.proofs.Offered.{Keeps, keeps_all, keeps_reached, after_append}
-use Rattle.nc_region.specs.declared.acts.Act.TheVariants.{Look}
+use Rattle.nc_acts.specs.declared.acts.Act.TheVariants.{Look}
 use Rattle.nc_region.specs.Deletion.{freed, kept, unmarked, unmarkings, IsReclaimed}
 use Rattle.nc_region.specs.Quiet.{retired_spans}
 use Rattle.nc_region.specs.Region.{Region, IsRegion}

@@ -10,7 +10,7 @@ use Rattle.nc_text.specs.MarkedText.{MarkedText, with_span, without_marks}
 use Rattle.nc_text.proofs.Offered.{closed_with_stops, length-with_span}
 use Rattle.nc_list.specs.declared.chunk.Chunk.{Chunk}
 use Rattle.nc_gens.specs.Seen.{least_number}
-use Rattle.nc_region.specs.Chunks.{HasGoodSpan}
+use Rattle.nc_acts.specs.Chunks.{HasGoodSpan}
 use Rattle.nc_region.specs.Deletion.{is_due, freed, kept, unmarked, IsDeleted, IsReclaimed}
 use Rattle.nc_region.specs.Patch.{IsPatch, IsModified, AreBytesOf}
 use Rattle.nc_region.specs.Region.{Region, IsLive, IsRegion, IsCreated}

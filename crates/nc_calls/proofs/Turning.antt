@@ -2,8 +2,8 @@
 use Rattle.std.proofs.Common.{ℕ, ◌+◌, Bool, true, false, cond, List, [], ◌∷◌, ◌++◌, length, sym, subst, append_assoc}
 use Rattle.nc_vet.specs.Chunk.{Piece}
 use Rattle.nc_region.specs.schedules.Events.{Event, Puts, Settles}
-use Rattle.nc_region.specs.declared.acts.Act.TheVariants.{Put}
-use Rattle.nc_region.specs.Acts.{puts_where}
+use Rattle.nc_acts.specs.declared.acts.Act.TheVariants.{Put}
+use Rattle.nc_acts.specs.Acts.{puts_where}
 use Rattle.nc_region.specs.Patch.{any_place, stands_there}
 use Rattle.nc_calls.specs.Calls.{Details, no_details}
 use Rattle.nc_calls.proofs.Entries.{events_of, instruction_events, patch_events}

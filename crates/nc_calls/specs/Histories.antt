@@ -11,7 +11,7 @@ use Rattle.nc_gens.specs.Rule.{last_generation}
 use Rattle.nc_gens.specs.Seen.{least_number}
 use Rattle.nc_region.specs.schedules.World.{World, Seat, first_world, IsViewOf}
 use Rattle.nc_region.specs.schedules.Events.{Event, Retires, world_after}
-use Rattle.nc_region.specs.declared.acts.Entry.{Entry}
+use Rattle.nc_acts.specs.declared.acts.Entry.{Entry}
 use Rattle.nc_region.specs.declared.fault.CreateFault.{CreateFault}
 use Rattle.nc_region.specs.declared.fault.ModifyFault.{ModifyFault}
 use Rattle.nc_region.specs.declared.fault.DeleteFault.{DeleteFault}

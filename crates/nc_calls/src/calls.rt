@@ -9,7 +9,7 @@ ghost use Rattle.nc_text.specs.Places.{limit_of};
 ghost use Rattle.nc_vet.specs.Chunk.{Piece};
 ghost use Rattle.nc_gens.specs.Seen.{HasMet};
 ghost use Rattle.nc_list.specs.declared.chunk.Chunk.{Chunk};
-ghost use Rattle.nc_region.specs.Log.{Logs, log_of_create};
+ghost use Rattle.nc_acts.specs.Log.{Logs, log_of_create};
 ghost use Rattle.nc_region.specs.Region.{IsCreated, IsRefused, MayRefuse, Meets};
 ghost use Rattle.nc_region.specs.Patch.{AreBytesOf, IsPatch, IsModified, MayRefusePatch, log_of_modify};
 ghost use Rattle.nc_region.specs.Deletion.{IsDeleted, MayRefuseDelete, IsReclaimed};

@@ -2,7 +2,7 @@
 use Rattle.std.specs.Prelude.{◌≡◌, ℕ, ◌+◌, ◌*◌, ◌/◌, ◌<◌, List, Some, None}
 use Rattle.nc_list.specs.declared.chunk.Chunk.{Chunk}
 use Rattle.nc_region.specs.Deletion.{HasLive}
-use Rattle.nc_region.specs.Log.{log_of_create, log_of_delete}
+use Rattle.nc_acts.specs.Log.{log_of_create, log_of_delete}
 use Rattle.nc_handle.specs.declared.acts.act.NcAct.{NcAct}
 use Rattle.nc_handle.specs.acts.Runs.{runs_of_create, runs_of_delete, HasRuns}
 use Rattle.nc_handle.specs.declared.fault.RunsFault.{RunsFault}

@@ -2,7 +2,7 @@
 
 ghost use Rattle.std.specs.Prelude.{◌≡◌, ◌≤◌, Some, IfOk, IfErr, OnErr, length};
 ghost use Rattle.nc_list.specs.declared.chunk.Chunk.{Chunk};
-ghost use Rattle.nc_region.specs.Log.{log_of_create, log_of_delete};
+ghost use Rattle.nc_acts.specs.Log.{log_of_create, log_of_delete};
 ghost use Rattle.nc_handle.specs.acts.Runs.{runs_of_create, runs_of_delete, HasRuns};
 ghost use Rattle.nc_handle.specs.RegionHandle.{IsLiveAt};
 ghost use Rattle.nc_handle.specs.RunCalls.{runs_of, AreCreationRuns, AreDeletionRuns, MayRefuseCreationRuns, MayRefuseDeletionRuns};

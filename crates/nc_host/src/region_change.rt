@@ -3,7 +3,7 @@
 ghost use Rattle.std.specs.Prelude.{◌≡◌, ◌<◌, ◌⊎◌, List, None, Some, length};
 ghost use Rattle.nc_text.specs.Places.{limit_of};
 ghost use Rattle.nc_vet.specs.Chunk.{MarkedChunk, Piece};
-ghost use Rattle.nc_region.specs.Log.{log_of_create};
+ghost use Rattle.nc_acts.specs.Log.{log_of_create};
 ghost use Rattle.nc_region.specs.Patch.{AreBytesOf, IsModified, IsPatch, log_of_modify};
 ghost use Rattle.nc_region.specs.Region.{IsCreated};
 ghost use Rattle.nc_handle.specs.RegionHandle.{HasLoaded, HasPatched, RegionHandleState, IsShortForPatch, MayRefuseLoad, MayRefuseModify};

@@ -3,7 +3,7 @@
 ghost use Rattle.std.specs.Prelude.{◌≡◌, ◌<◌, ◌⊎◌, ℕ, None, Some, IsSome, length};
 ghost use Rattle.nc_vet.specs.Chunk.{MarkedChunk};
 ghost use Rattle.nc_list.specs.declared.chunk.Chunk.{Chunk};
-ghost use Rattle.nc_region.specs.Log.{log_of_delete};
+ghost use Rattle.nc_acts.specs.Log.{log_of_delete};
 ghost use Rattle.nc_handle.specs.RegionHandle.{RegionHandleState, HasBegun, HasEnded, HasReclaimed, MayRefuseBegin};
 ghost use Rattle.nc_handle.specs.Pending.{ReportsPending, DoesItself};
 ghost use Rattle.nc_handle.specs.Lent.{IsReported};

@@ -2,7 +2,7 @@
 
 ghost use Rattle.std.specs.Prelude.{◌≡◌, ◌<◌, ◌⊎◌, None, Some, IfOk, IfErr, length};
 ghost use Rattle.nc_vet.specs.Chunk.{MarkedChunk};
-ghost use Rattle.nc_region.specs.Log.{log_of_create};
+ghost use Rattle.nc_acts.specs.Log.{log_of_create};
 ghost use Rattle.nc_handle.specs.RegionHandle.{HasLoaded, RegionHandleState, MayRefuseLoad};
 ghost use Rattle.nc_handle.specs.Pending.{ReportsPending};
 ghost use Rattle.nc_handle.specs.Lent.{IsReported};

@@ -15,7 +15,7 @@ use Rattle.nc_region.specs.schedules.World.{World, first_world, NoneIsWithin}
 use Rattle.nc_region.specs.schedules.Events.{Event, Retires, Frees, world_after, AreAllowed}
 use Rattle.nc_region.proofs.Offered.{after_append, allowed_append, safe_after, none_is_within_freed}
 use Rattle.nc_region.proofs.Offered.{allowed_front}
-use Rattle.nc_region.specs.Log.{unsettled}
+use Rattle.nc_acts.specs.Log.{unsettled}
 use Rattle.nc_region.specs.Deletion.{IsReclaimed, freed, unmarkings}
 use Rattle.nc_region.specs.Quiet.{retired_spans}
 use Rattle.nc_region.specs.Region.{Region, IsRegion}

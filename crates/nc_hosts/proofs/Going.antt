@@ -9,7 +9,7 @@ use Rattle.nc_gens.specs.Seen.{KeeperState}
 use Rattle.nc_list.specs.declared.chunk.Chunk.{Chunk}
 use Rattle.nc_region.specs.schedules.World.{World, first_world}
 use Rattle.nc_region.specs.schedules.Events.{Event, Retires, ThreadMay, after, world_after}
-use Rattle.nc_region.specs.Log.{log_of_create}
+use Rattle.nc_acts.specs.Log.{log_of_create}
 use Rattle.nc_region.specs.Patch.{AreBytesOf, log_of_modify}
 use Rattle.nc_region.specs.Region.{Region}
 use Rattle.nc_region.proofs.Offered.{after_append}

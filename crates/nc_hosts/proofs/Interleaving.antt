@@ -8,12 +8,12 @@ use Rattle.nc_decode.specs.declared.instruction.Mark.{Mark}
 use Rattle.nc_region.specs.schedules.World.{World}
 use Rattle.nc_region.specs.schedules.Events.{Event, Steps, Enters, Exits, Takes, Sees, Stores, Leaves, Puts, Settles, Marks, Bumps, Retires, Frees}
 use Rattle.nc_region.specs.schedules.Events.{Looks, after, world_after}
-use Rattle.nc_region.specs.declared.acts.Act.TheVariants.{Put, MarkSpan, UnmarkSpan, Bump, Look}
-use Rattle.nc_region.specs.declared.acts.Entry.{Entry}
-use Rattle.nc_region.specs.declared.acts.Entry.TheVariants.{Did, Settled}
+use Rattle.nc_acts.specs.declared.acts.Act.TheVariants.{Put, MarkSpan, UnmarkSpan, Bump, Look}
+use Rattle.nc_acts.specs.declared.acts.Entry.{Entry}
+use Rattle.nc_acts.specs.declared.acts.Entry.TheVariants.{Did, Settled}
 use Rattle.nc_gens.specs.Seen.{least_number}
 use Rattle.nc_region.specs.Region.{Region}
-use Rattle.nc_region.specs.Log.{unsettled, log_of_create, log_of_delete}
+use Rattle.nc_acts.specs.Log.{unsettled, log_of_create, log_of_delete}
 use Rattle.nc_region.specs.Patch.{log_of_modify}
 use Rattle.nc_region.specs.Deletion.{freed, unmarkings}
 use Rattle.nc_region.specs.Quiet.{retired_spans}

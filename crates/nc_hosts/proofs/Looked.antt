@@ -5,7 +5,7 @@ use Rattle.std.proofs.lemmas.List.Elements.{All-nil, All-cons, All-head, All-tai
 use Rattle.nc_list.specs.declared.chunk.Chunk.{Chunk}
 use Rattle.nc_region.specs.schedules.Spans.{RetiredSpan}
 use Rattle.nc_region.specs.schedules.Events.{Event, Frees, Looks}
-use Rattle.nc_region.specs.Log.{unsettled}
+use Rattle.nc_acts.specs.Log.{unsettled}
 use Rattle.nc_region.specs.Deletion.{unmarkings}
 use Rattle.nc_calls.specs.Interleaving.{IsKeepers}
 use Rattle.nc_calls.specs.Calls.{Details, events_of_log, span_from}

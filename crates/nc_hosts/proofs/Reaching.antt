@@ -17,7 +17,7 @@ use Rattle.nc_calls.specs.Interleaving.{is_writers, writers, ThreadsMay}
 use Rattle.nc_calls.specs.Calls.{HasLedTo, no_details, delete_events}
 use Rattle.nc_calls.specs.Histories.{AreAttempts, NoneYet, OneMore, IsCall, Deletes, Keeps}
 use Rattle.nc_calls.proofs.Offered.{begins_unused}
-use Rattle.nc_region.specs.Log.{log_of_delete}
+use Rattle.nc_acts.specs.Log.{log_of_delete}
 use Rattle.nc_handle.specs.RegionHandle.{RegionHandleState, IsLiveAt, IsFirst, HasBegun, HasEnded}
 use Rattle.nc_handle.specs.Pending.{IsHandleCall, Changes, Begins, Ends}
 use Rattle.nc_calls.specs.Calls.{KnowsNoMore}

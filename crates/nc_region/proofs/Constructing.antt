@@ -16,13 +16,13 @@ use Rattle.nc_list.specs.declared.chunk.ChunkState.{ChunkState}
 use Rattle.nc_list.specs.declared.chunk.ChunkState.TheVariants.{Live, Retired}
 use Rattle.nc_list.specs.Chunks.{IsRising, FitsAt, Meets}
 use Rattle.nc_list.proofs.Offered.{each_map, rises_above}
-use Rattle.nc_region.specs.declared.acts.Act.TheVariants.{Look}
-use Rattle.nc_region.specs.Log.{unsettled, log_of_create, log_of_delete}
+use Rattle.nc_acts.specs.declared.acts.Act.TheVariants.{Look}
+use Rattle.nc_acts.specs.Log.{unsettled, log_of_create, log_of_delete}
 use Rattle.nc_region.specs.Region.{Region, IsLive, IsCreated, live_chunk}
 use Rattle.nc_region.specs.Patch.{IsModified, log_of_modify}
 use Rattle.nc_region.specs.Deletion.{HasLive, IsDeleted, IsReclaimed, freed, kept, unmarked, unmarkings}
 use Rattle.nc_region.proofs.deleting.Deleted.{deleted_is}
-use Rattle.nc_region.proofs.telling.Logged.{told_logged, acts_back}
+use Rattle.nc_acts.proofs.Offered.{told_logged, acts_back}
 
 -- ---- a deletion
 

@@ -1,7 +1,5 @@
 pub mod schedules
 pub mod RegionParts
-pub mod SpanPlaces
-pub mod telling
 pub mod chunks
 pub mod patching
 pub mod deleting

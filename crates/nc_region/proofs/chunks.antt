@@ -1,6 +1,4 @@
 -- Valid chunks, by themselves and set into a text, and the list of them.
-pub mod Alone
-pub mod Joining
 pub mod Creating
 pub mod Instructions
 pub mod Offsets

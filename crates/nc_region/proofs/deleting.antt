@@ -4,5 +4,4 @@ pub mod Freed
 pub mod Due
 pub mod Least
 pub mod Freeing
-pub mod Deleting
 pub mod Deleted

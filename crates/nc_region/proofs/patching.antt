@@ -10,3 +10,4 @@ pub mod Runs
 pub mod Lengths
 pub mod OneInstruction
 pub mod Patched
+pub mod Told

@@ -1,5 +1,4 @@
 -- What every event of a schedule keeps.
-pub mod Places
 pub mod Unmarking
 pub mod Seeing
 pub mod Invariant

@@ -7,12 +7,12 @@ use Rattle.nc_text.specs.MarkedText.{MarkedText, with_span, without_marks}
 use Rattle.nc_list.specs.declared.chunk.Chunk.{Chunk}
 use Rattle.nc_list.specs.declared.chunk.ChunkState.TheVariants.{Live, Retired}
 pub use Rattle.nc_list.specs.Chunks.{is_due, freed, kept}
-use Rattle.nc_region.specs.declared.acts.Act.{Act}
-use Rattle.nc_region.specs.declared.acts.Act.TheVariants.{UnmarkSpan, Look}
+use Rattle.nc_acts.specs.declared.acts.Act.{Act}
+use Rattle.nc_acts.specs.declared.acts.Act.TheVariants.{UnmarkSpan, Look}
 use Rattle.nc_region.specs.declared.fault.DeleteFault.{DeleteFault}
 use Rattle.nc_region.specs.declared.fault.DeleteFault.TheVariants.{NoChunk, GensFull}
-use Rattle.nc_region.specs.Acts.{acts_of_delete}
-use Rattle.nc_region.specs.Log.{Logs, unsettled, log_of_delete}
+use Rattle.nc_acts.specs.Acts.{acts_of_delete}
+use Rattle.nc_acts.specs.Log.{Logs, unsettled, log_of_delete}
 use Rattle.nc_region.specs.Region.{Region, IsLive, told}
 
 -- some live chunk of the list has this base

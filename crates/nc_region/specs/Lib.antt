@@ -1,13 +1,8 @@
 pub mod schedules
 pub mod machinery
 pub mod Each
-pub mod Puts
-pub mod Acts
-pub mod Log
-pub mod Chunks
 pub mod Region
 pub mod Quiet
 pub mod Deletion
 pub mod Patch
-pub mod Noted
 pub mod Trace

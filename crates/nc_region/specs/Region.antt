@@ -14,12 +14,12 @@ use Rattle.nc_list.specs.declared.chunk.Chunk.{Chunk}
 use Rattle.nc_list.specs.declared.chunk.ChunkState.{ChunkState}
 use Rattle.nc_list.specs.declared.chunk.ChunkState.TheVariants.{Live, Retired}
 pub use Rattle.nc_list.specs.Chunks.{IsRising, IsAboveAll, IsBelowAll, IsNextChunk, FitsAt, Meets, IsInserted}
-use Rattle.nc_region.specs.declared.acts.Act.{Act}
-use Rattle.nc_region.specs.declared.acts.Entry.{Entry}
+use Rattle.nc_acts.specs.declared.acts.Act.{Act}
+use Rattle.nc_acts.specs.declared.acts.Entry.{Entry}
 use Rattle.nc_region.specs.declared.fault.CreateFault.{CreateFault}
 use Rattle.nc_region.specs.declared.fault.CreateFault.TheVariants.{WrongLimit, Occupied, OutOfMemory}
-use Rattle.nc_region.specs.Chunks.{HasGoodSpan}
-use Rattle.nc_region.specs.Log.{acts_in}
+use Rattle.nc_acts.specs.Chunks.{HasGoodSpan}
+use Rattle.nc_acts.specs.Log.{acts_in}
 use Rattle.nc_region.specs.Each.{Each}
 
 -- A region as contracts see it: bytes and marks, which pages are made, the chunks by ascending base, the keeper, and the
@@ -34,13 +34,6 @@ pub record Region : Type 0 where
 -- the acts that a region has told so far: those of its log, without the settlings
 abbrev pub told : Region → List Act
 told r = acts_in r.logged
-
--- a `PlainOf` as contracts see it: bytes and marks, which pages are made, the keeper, and the entries logged so far
-pub record PlainState : Type 0 where
-  pub marked : MarkedText
-  pub made : List Bool
-  pub keeper : KeeperState
-  pub entries : List Entry
 
 -- the chunk is live, so threads may enter it
 abbrev pub IsLive : ChunkState → Type 0

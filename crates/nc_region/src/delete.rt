@@ -5,10 +5,10 @@ ghost use Rattle.nc_text.specs.Places.{limit_of};
 ghost use Rattle.nc_text.specs.Ready.{AreReady};
 ghost use Rattle.nc_text.specs.MarkedText.{IsText, with_span};
 ghost use Rattle.nc_gens.specs.Rule.{generation_raised};
-ghost use Rattle.nc_region.specs.Log.{Logs, log_of_delete};
-ghost use Rattle.nc_region.specs.Chunks.{HasGoodSpan};
+ghost use Rattle.nc_acts.specs.Log.{Logs, log_of_delete};
+ghost use Rattle.nc_acts.specs.Chunks.{HasGoodSpan};
 
-use crate::acts::Acts;
+use nc_acts::Acts;
 
 /// Puts stops at all places of a chunk, and draws the stamp.
 pub(crate) fn put_stops<A: Acts>(acts: &mut A, base: u32, len: u32) -> u64

@@ -44,31 +44,24 @@
 //! compilation and self-modifying code".
 #![tactic(auto)]
 
-mod acts;
 mod create;
 mod delete;
 mod fault;
-mod history;
 mod law;
 mod listing;
 mod patch;
-mod plain;
 mod reclaim;
-mod recorder;
 mod region;
 mod shared;
 mod trace;
 mod walk;
 
-pub use acts::{Act, Acts, Entry};
 pub use fault::{CreateFault, DeleteFault, ModifyFault, RegionFault, WalkFault};
-pub use history::{History, Note};
 pub use law::{law_of_chunks, law_of_logs, law_of_schedules};
+pub use nc_acts::{Act, Acts, Entry, GensRef, History, Note, Plain, PlainOf, Recorder};
 /// In a region a chunk's span is whole bundles. The code of a live chunk is in the text. The bytes of a retired one are stops. Its
 /// span waits for threads that may still be between its bundle starts. Its stamp is the generation with which it was retired.
 pub use nc_list::{Chunk, ChunkState};
-pub use plain::{GensRef, Plain, PlainOf};
-pub use recorder::Recorder;
 pub use region::{Region, RegionOf};
 pub use shared::{Shared, SharedOf};
 pub use trace::{End, Trace};

@@ -9,7 +9,7 @@ ghost use Rattle.nc_text.specs.Places.{InRegion};
 ghost use Rattle.nc_text.specs.Ready.{AreReady};
 ghost use Rattle.nc_text.specs.MarkedText.{MarkedText, IsText, with_span};
 ghost use Rattle.nc_list.specs.declared.chunk.Chunk.{Chunk};
-ghost use Rattle.nc_region.specs.Log.{Logs};
+ghost use Rattle.nc_acts.specs.Log.{Logs};
 ghost use Rattle.nc_region.specs.Region.{HoldsValid};
 ghost use Rattle.nc_region.specs.Patch.{AreBytesOf, IsRun, log_of_modify};
 ghost use Rattle.nc_region.specs.machinery.PatchSteps.{CanPatch, LiesInValid, MayRefuseIn};
@@ -17,10 +17,10 @@ ghost use Rattle.nc_region.specs.machinery.PatchSteps.{CanPatch, LiesInValid, Ma
 mod judge;
 mod put;
 
-use crate::acts::Acts;
 use crate::fault::ModifyFault;
 pub(crate) use judge::is_patch_span;
 use judge::{goes_well, is_marked, judge_each, length_at, spares_pair};
+use nc_acts::Acts;
 use nc_decode::{Instr, Mark, START, decode};
 use nc_list::Chunk;
 use put::{put_patch, put_single};

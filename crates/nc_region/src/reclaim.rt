@@ -6,7 +6,7 @@ ghost use Rattle.nc_region.specs.Region.{IsRegion};
 ghost use Rattle.nc_region.specs.Deletion.{freed};
 ghost use Rattle.nc_region.specs.machinery.Freeing.{AreTakenOut, AreUnmarked, AreFreed, AllFreed};
 
-use crate::acts::Acts;
+use nc_acts::Acts;
 use nc_list::{ChunkList, Entry};
 
 /// The room for chunks with which a reclaim begins.

@@ -8,8 +8,8 @@ ghost use Rattle.nc_decode.specs.Bundles.{IsLawfulLimit};
 ghost use Rattle.nc_text.specs.MarkedText.{unused_text};
 ghost use Rattle.nc_text.specs.Ready.{unmade_pages};
 ghost use Rattle.nc_list.specs.declared.chunk.ChunkState.{ChunkState};
-ghost use Rattle.nc_region.specs.Acts.{acts_of_create};
-ghost use Rattle.nc_region.specs.Log.{Logs, log_of_create};
+ghost use Rattle.nc_acts.specs.Acts.{acts_of_create};
+ghost use Rattle.nc_acts.specs.Log.{Logs, log_of_create};
 ghost use Rattle.nc_gens.specs.Seen.{HasMet};
 ghost use Rattle.nc_region.specs.Quiet.{AreQuiet};
 ghost use Rattle.nc_region.specs.Deletion.{HasLive, IsDeleted, MayRefuseDelete, IsReclaimed};
@@ -19,16 +19,15 @@ ghost use Rattle.nc_vet.specs.Chunk.{Piece};
 ghost use Rattle.nc_region.specs.Patch.{IsPatch, MayRefusePatch, IsModified, AreBytesOf, acts_of_modify, log_of_modify};
 ghost use Rattle.nc_region.specs.Trace.{IsTrace, IsOnlyTrace, IsSafeWalk, IsWalkStart, MayRefuseWalk};
 
-use crate::acts::Acts;
 use crate::create::{make_room, put_chunk};
 use crate::delete::put_stops;
 use crate::fault::{CreateFault, DeleteFault, ModifyFault, RegionFault, WalkFault};
 use crate::listing::{holder, live_at, live_place};
 use crate::patch::{is_patch_span, mark_within, patch};
-use crate::plain::Plain;
 use crate::reclaim::free_due;
 use crate::trace::Trace;
 use crate::walk::walk_from;
+use nc_acts::{Acts, Plain};
 use nc_decode::{BUNDLE, Mark, START};
 use nc_gens::{Gens, Keeper, LAST_GENERATION, Pass};
 use nc_list::{Chunk, ChunkList};
@@ -104,7 +103,7 @@ impl<'g> RegionOf<Plain<'g>> {
         ensures { result.now ≡ self.now.keeper.table }
     {
         let acts = &self.acts;
-        acts.borrowed()
+        acts.gens()
     }
 }
 

@@ -11,11 +11,10 @@ ghost use Rattle.nc_region.specs.Region.{IsRegion, IsCreated, MayRefuse};
 ghost use Rattle.nc_region.specs.Region as spec;
 ghost use Rattle.nc_region.specs.Trace.{IsTrace, IsWalkStart, MayRefuseWalk};
 
-use crate::acts::Acts;
 use crate::fault::{CreateFault, DeleteFault, ModifyFault, WalkFault};
-use crate::plain::Plain;
 use crate::region::{Region, RegionOf};
 use crate::trace::Trace;
+use nc_acts::{Acts, Plain};
 use nc_gens::{Gens, Pass};
 use nc_vet::Vetted;
 use std::marker::Model;

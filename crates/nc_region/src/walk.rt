@@ -9,8 +9,8 @@ ghost use Rattle.nc_text.specs.Machine.{IsMaskedFor, IsSafe, Leads, state};
 ghost use Rattle.nc_text.specs.MarkedText.{IsText};
 ghost use Rattle.nc_region.specs.Trace.{EndsBy, GoesOn, IsOnlyTrace, IsSafeWalk, IsTrace, Moves, Picks, IsWalkStart, bundle_of};
 
-use crate::acts::Acts;
 use crate::trace::{End, Trace};
+use nc_acts::Acts;
 use nc_decode::{BUNDLE, Flow, Instr, START, decode};
 use std::alloc::{AllocError, Global};
 

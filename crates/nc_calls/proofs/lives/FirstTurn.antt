@@ -16,8 +16,8 @@ use Rattle.nc_gens.specs.Seen.{KeeperState}
 use Rattle.nc_list.specs.declared.chunk.Chunk.{Chunk}
 use Rattle.nc_region.specs.schedules.World.{World, first_seat, first_world, seat_at}
 use Rattle.nc_region.specs.schedules.Events.{Event, Enters, Puts, Settles, Marks, ThreadMay, after, world_after}
-use Rattle.nc_region.specs.declared.acts.Act.TheVariants.{Put}
-use Rattle.nc_region.specs.Acts.{puts_where, is_inside, is_start}
+use Rattle.nc_acts.specs.declared.acts.Act.TheVariants.{Put}
+use Rattle.nc_acts.specs.Acts.{puts_where, is_inside, is_start}
 use Rattle.nc_region.specs.Region.{Region, IsCreated, live_chunk}
 use Rattle.nc_region.proofs.Offered.{after_append, start_or_not, is_inside_false}
 use Rattle.nc_calls.specs.Interleaving.{writers, ThreadsMay}

@@ -14,7 +14,7 @@ use Rattle.nc_list.specs.declared.chunk.ChunkState.TheVariants.{Retired}
 use Rattle.nc_region.specs.schedules.Spans.{RetiredSpan}
 use Rattle.nc_region.specs.schedules.World.{World, first_world, seat_at}
 use Rattle.nc_region.specs.schedules.Events.{Event, Steps, Exits, Takes, Stores, Retires, Frees, Looks, after, world_after}
-use Rattle.nc_region.specs.declared.acts.Entry.{Entry}
+use Rattle.nc_acts.specs.declared.acts.Entry.{Entry}
 use Rattle.nc_region.specs.Region.{Region, live_chunk}
 use Rattle.nc_region.specs.Deletion.{IsDeleted, IsReclaimed}
 use Rattle.nc_region.proofs.Offered.{after_append, same_code, deleted_region, deleted_at, reclaimed_region, reclaimed_exists}

@@ -6,7 +6,7 @@ use Rattle.nc_decode.specs.declared.instruction.Mark.{Mark}
 use Rattle.nc_vet.specs.Chunk.{MarkedChunk, Piece}
 use Rattle.nc_region.specs.schedules.World.{World}
 use Rattle.nc_region.specs.schedules.Events.{Event, Puts, Settles, Marks, Retires, after, world_after}
-use Rattle.nc_region.specs.Acts.{puts_where, is_inside, is_start, is_marked_at, is_unmarked_at}
+use Rattle.nc_acts.specs.Acts.{puts_where, is_inside, is_start, is_marked_at, is_unmarked_at}
 use Rattle.nc_calls.specs.Interleaving.{writers, ThreadsMay}
 use Rattle.nc_calls.specs.Calls.{Details, no_details, create_events, modify_events, delete_events}
 use Rattle.nc_calls.proofs.Entries.{events_of, create_is, delete_is, patch_events, modify_is}

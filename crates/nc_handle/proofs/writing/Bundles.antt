@@ -2,12 +2,12 @@
 use Rattle.std.proofs.Common.{◌≡◌, ℕ, zero, suc, ◌+◌, ◌*◌, ◌%◌, ◌==◌, ◌<◌, ◌≤◌, Bool, true, false, not, List, ◌++◌, length, get_or, set, take, drop}
 use Rattle.std.proofs.Common.{ap, arith, sym, subst, ◌∙◌}
 use Rattle.std.proofs.lemmas.List.{length-append, length-drop, length-take-le, map-append, get_or-take, get_or-drop, ext_get_or}
-use Rattle.nc_region.specs.declared.acts.Act.{Act}
-use Rattle.nc_region.specs.declared.acts.Act.TheVariants.{Put}
-use Rattle.nc_region.specs.declared.acts.Entry.{Entry}
-use Rattle.nc_region.specs.declared.acts.Entry.TheVariants.{Did}
-use Rattle.nc_region.specs.Acts.{puts_where, is_start, is_inside}
-use Rattle.nc_region.specs.Log.{unsettled}
+use Rattle.nc_acts.specs.declared.acts.Act.{Act}
+use Rattle.nc_acts.specs.declared.acts.Act.TheVariants.{Put}
+use Rattle.nc_acts.specs.declared.acts.Entry.{Entry}
+use Rattle.nc_acts.specs.declared.acts.Entry.TheVariants.{Did}
+use Rattle.nc_acts.specs.Acts.{puts_where, is_start, is_inside}
+use Rattle.nc_acts.specs.Log.{unsettled}
 use Rattle.nc_region.proofs.Offered.{is_start_false}
 use Rattle.nc_handle.specs.declared.acts.act.NcAct.{NcAct}
 use Rattle.nc_handle.specs.acts.Shown.{act_of}

@@ -4,7 +4,7 @@ use Rattle.std.specs.Int.{bit_at, bit_not}
 use Rattle.std.proofs.lemmas.Nat.Bits.{bit_at_not, bit_at_lowest, bit_at-suc, bit_at-zero, bit_at-lt}
 use Rattle.nc_decode.specs.declared.instruction.Mark.TheVariants.{Unmarked, Plain, After}
 use Rattle.nc_text.specs.Marks.{mark_bit}
-use Rattle.nc_region.specs.Acts.{is_start, is_inside, is_mark}
+use Rattle.nc_acts.specs.Acts.{is_start, is_inside, is_mark}
 use Rattle.nc_decode.specs.declared.instruction.Mark.{Mark}
 use Rattle.nc_region.proofs.Offered.{is_start_false}
 use Rattle.nc_handle.specs.machinery.Writing.{mark_if, marks_if}

@@ -3,10 +3,10 @@ use Rattle.std.proofs.Common.{◌≡◌, ℕ, suc, ◌+◌, ◌<◌, ◌≤◌, 
 use Rattle.std.proofs.Common.{arith, sym, subst, ◌∙◌}
 use Rattle.std.specs.Prelude.{not}
 use Rattle.std.proofs.lemmas.List.{append-nil, take_more, length-take-le, take-append-drop, length-append}
-use Rattle.nc_region.specs.declared.acts.Act.{Act}
-use Rattle.nc_region.specs.declared.acts.Act.TheVariants.{Put}
+use Rattle.nc_acts.specs.declared.acts.Act.{Act}
+use Rattle.nc_acts.specs.declared.acts.Act.TheVariants.{Put}
 use Rattle.nc_region.proofs.Offered.{puts_append}
-use Rattle.nc_region.specs.Acts.{puts_where}
+use Rattle.nc_acts.specs.Acts.{puts_where}
 
 -- the puts of one more byte of some
 pub puts_more : (chosen : ℕ → Bool) (at : ℕ) (bytes : List ℕ) (i : ℕ) → i < length bytes

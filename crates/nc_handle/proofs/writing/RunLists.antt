@@ -9,11 +9,11 @@ use Rattle.std.proofs.lemmas.List.{length-take-le, length-drop, length-replicate
 use Rattle.std.proofs.Math.Nat.{pow-succ'}
 use Rattle.std.proofs.Math.Seq.{take-add}
 use Rattle.nc_decode.specs.declared.instruction.Mark.{Mark}
-use Rattle.nc_region.specs.declared.acts.Act.{Act}
-use Rattle.nc_region.specs.declared.acts.Act.TheVariants.{Put}
-use Rattle.nc_region.specs.declared.acts.Entry.{Entry}
-use Rattle.nc_region.specs.Acts.{puts_where}
-use Rattle.nc_region.specs.Log.{unsettled}
+use Rattle.nc_acts.specs.declared.acts.Act.{Act}
+use Rattle.nc_acts.specs.declared.acts.Act.TheVariants.{Put}
+use Rattle.nc_acts.specs.declared.acts.Entry.{Entry}
+use Rattle.nc_acts.specs.Acts.{puts_where}
+use Rattle.nc_acts.specs.Log.{unsettled}
 use Rattle.nc_handle.specs.declared.acts.runs.Places.{Places}
 use Rattle.nc_handle.specs.declared.acts.runs.Places.TheVariants.{Inside, Starts, Marked, Unmarked}
 use Rattle.nc_handle.specs.acts.Runs.{Run, PutRun, StopRun, puts_by_bits, entries_of, entries_in, bits_where, bits_at, runs_where}

@@ -5,11 +5,11 @@ use Rattle.std.specs.Prelude.{map}
 use Rattle.std.proofs.lemmas.List.{length-map, length-set, length-append, append-nil, map-append}
 use Rattle.std.proofs.Math.Seq.{take-length}
 use Rattle.nc_decode.specs.declared.instruction.Mark.{Mark}
-use Rattle.nc_region.specs.declared.acts.Act.{Act}
-use Rattle.nc_region.specs.declared.acts.Entry.{Entry}
-use Rattle.nc_region.specs.declared.acts.Entry.TheVariants.{Did}
-use Rattle.nc_region.specs.Acts.{puts_where}
-use Rattle.nc_region.specs.Log.{unsettled}
+use Rattle.nc_acts.specs.declared.acts.Act.{Act}
+use Rattle.nc_acts.specs.declared.acts.Entry.{Entry}
+use Rattle.nc_acts.specs.declared.acts.Entry.TheVariants.{Did}
+use Rattle.nc_acts.specs.Acts.{puts_where}
+use Rattle.nc_acts.specs.Log.{unsettled}
 use Rattle.nc_handle.specs.declared.acts.act.NcAct.{NcAct}
 use Rattle.nc_handle.specs.declared.acts.runs.Places.{Places}
 use Rattle.nc_handle.specs.acts.Runs.{Run, run_of, entries_of, bits_at, runs_where, HasRuns}

@@ -4,12 +4,12 @@ use Rattle.std.proofs.Common.{subst, ◌∙◌}
 use Rattle.std.proofs.lemmas.List.{length-set}
 use Rattle.nc_decode.specs.declared.instruction.Mark.{Mark}
 use Rattle.nc_text.specs.Marks.{mark_at}
-use Rattle.nc_region.specs.declared.acts.Act.{Act}
-use Rattle.nc_region.specs.declared.acts.Act.TheVariants.{MarkSpan, Bump}
-use Rattle.nc_region.specs.declared.acts.Entry.{Entry}
-use Rattle.nc_region.specs.declared.acts.Entry.TheVariants.{Did, Settled}
-use Rattle.nc_region.specs.Acts.{puts_where, is_start, is_inside, is_marked_at}
-use Rattle.nc_region.specs.Log.{unsettled, log_of_create, log_of_delete}
+use Rattle.nc_acts.specs.declared.acts.Act.{Act}
+use Rattle.nc_acts.specs.declared.acts.Act.TheVariants.{MarkSpan, Bump}
+use Rattle.nc_acts.specs.declared.acts.Entry.{Entry}
+use Rattle.nc_acts.specs.declared.acts.Entry.TheVariants.{Did, Settled}
+use Rattle.nc_acts.specs.Acts.{puts_where, is_start, is_inside, is_marked_at}
+use Rattle.nc_acts.specs.Log.{unsettled, log_of_create, log_of_delete}
 use Rattle.nc_handle.specs.declared.acts.act.NcAct.{NcAct}
 use Rattle.nc_handle.specs.acts.Shown.{entry_of}
 use Rattle.nc_handle.specs.machinery.Standing.{AreMarksAt}

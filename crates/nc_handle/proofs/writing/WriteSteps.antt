@@ -3,12 +3,12 @@ use Rattle.std.proofs.Common.{◌≡◌, ℕ, ◌+◌, ◌<◌, ◌≤◌, Bool,
 use Rattle.std.proofs.Common.{◌∙◌, append_assoc}
 use Rattle.std.proofs.lemmas.List.{length-set, length-append, append-nil, map-append}
 use Rattle.std.proofs.Math.Seq.{take-length}
-use Rattle.nc_region.specs.declared.acts.Act.{Act}
-use Rattle.nc_region.specs.declared.acts.Act.TheVariants.{Put}
-use Rattle.nc_region.specs.declared.acts.Entry.{Entry}
-use Rattle.nc_region.specs.declared.acts.Entry.TheVariants.{Did}
-use Rattle.nc_region.specs.Acts.{puts_where}
-use Rattle.nc_region.specs.Log.{unsettled}
+use Rattle.nc_acts.specs.declared.acts.Act.{Act}
+use Rattle.nc_acts.specs.declared.acts.Act.TheVariants.{Put}
+use Rattle.nc_acts.specs.declared.acts.Entry.{Entry}
+use Rattle.nc_acts.specs.declared.acts.Entry.TheVariants.{Did}
+use Rattle.nc_acts.specs.Acts.{puts_where}
+use Rattle.nc_acts.specs.Log.{unsettled}
 use Rattle.nc_handle.specs.declared.acts.act.NcAct.{NcAct}
 use Rattle.nc_handle.specs.acts.Shown.{act_of, entry_of}
 use Rattle.nc_handle.specs.machinery.Written.{HasWritten, Adds}

@@ -1,9 +1,9 @@
 -- A log as a host reads it: numbers for acts and settlings.
 use Rattle.std.specs.Prelude.{List, ◌++◌, length, drop}
-use Rattle.nc_region.specs.declared.acts.Act.{Act}
-use Rattle.nc_region.specs.declared.acts.Act.TheVariants.{Put, MarkSpan, UnmarkSpan, Bump, Look}
-use Rattle.nc_region.specs.declared.acts.Entry.{Entry}
-use Rattle.nc_region.specs.declared.acts.Entry.TheVariants.{Did, Settled}
+use Rattle.nc_acts.specs.declared.acts.Act.{Act}
+use Rattle.nc_acts.specs.declared.acts.Act.TheVariants.{Put, MarkSpan, UnmarkSpan, Bump, Look}
+use Rattle.nc_acts.specs.declared.acts.Entry.{Entry}
+use Rattle.nc_acts.specs.declared.acts.Entry.TheVariants.{Did, Settled}
 use Rattle.nc_handle.specs.declared.acts.act.NcAct.{NcAct}
 
 -- an act as three numbers: its kind, 1 to 5; its address; and its byte or length; 0 for each that it doesn't have

@@ -2,10 +2,10 @@
 use Rattle.std.specs.Prelude.{◌≡◌, ℕ, ◌+◌, ◌-◌, ◌==◌, Bool, true, false, not, List, ◌++◌, take, length}
 use Rattle.std.specs.Int.{bit_at}
 use Rattle.nc_decode.specs.declared.instruction.Mark.{Mark}
-use Rattle.nc_region.specs.declared.acts.Entry.{Entry}
-use Rattle.nc_region.specs.Acts.{puts_where, is_mark}
-pub use Rattle.nc_region.specs.Acts.{starts_if}
-use Rattle.nc_region.specs.Log.{unsettled}
+use Rattle.nc_acts.specs.declared.acts.Entry.{Entry}
+use Rattle.nc_acts.specs.Acts.{puts_where, is_mark}
+pub use Rattle.nc_acts.specs.Acts.{starts_if}
+use Rattle.nc_acts.specs.Log.{unsettled}
 use Rattle.nc_handle.specs.declared.acts.act.NcAct.{NcAct}
 use Rattle.nc_handle.specs.machinery.Written.{HasWritten}
 

@@ -1,8 +1,8 @@
 //! Single entries, and how to append one to a buffer.
 
 ghost use Rattle.std.specs.Prelude.{◌≡◌, ◌+◌, ◌<◌, length, slice_set};
-ghost use Rattle.nc_region.specs.declared.acts.Act.{Act};
-ghost use Rattle.nc_region.specs.declared.acts.Entry.{Entry};
+ghost use Rattle.nc_acts.specs.declared.acts.Act.{Act};
+ghost use Rattle.nc_acts.specs.declared.acts.Entry.{Entry};
 ghost use Rattle.nc_handle.specs.acts.Shown.{act_of, entry_of};
 
 use crate::acts::act::NcAct;

@@ -3,8 +3,8 @@
 ghost use Rattle.std.specs.Prelude.{◌≡◌, ◌+◌, ◌%◌, ◌==◌, ◌<◌, ◌≤◌, ◌^◌, ℕ, List, length, take, drop, replicate};
 ghost use Rattle.std.specs.Int.{bit_at};
 ghost use Rattle.nc_decode.specs.declared.instruction.Mark.{Mark};
-ghost use Rattle.nc_region.specs.Acts.{puts_where, is_inside};
-ghost use Rattle.nc_region.specs.Log.{log_of_create, log_of_delete};
+ghost use Rattle.nc_acts.specs.Acts.{puts_where, is_inside};
+ghost use Rattle.nc_acts.specs.Log.{log_of_create, log_of_delete};
 ghost use Rattle.nc_handle.specs.machinery.Standing.{AreMarksAt};
 ghost use Rattle.nc_handle.specs.machinery.Written.{HasWritten};
 ghost use Rattle.nc_handle.specs.machinery.Writing.{HasPutUpTo, starts_if, mark_if, marks_if, is_among};

@@ -2,8 +2,8 @@
 
 ghost use Rattle.std.specs.Prelude.{◌≡◌, ◌+◌, ◌*◌, ◌/◌, ◌%◌, ◌<◌, ◌≤◌, ◌^◌, ℕ, List, length};
 ghost use Rattle.nc_decode.specs.declared.instruction.Mark.{Mark};
-ghost use Rattle.nc_region.specs.Acts.{puts_where};
-ghost use Rattle.nc_region.specs.Log.{log_of_create, log_of_delete, unsettled};
+ghost use Rattle.nc_acts.specs.Acts.{puts_where};
+ghost use Rattle.nc_acts.specs.Log.{log_of_create, log_of_delete, unsettled};
 ghost use Rattle.nc_handle.specs.acts.Runs.{HasRuns, run_of, runs_where, runs_of_create, runs_of_delete};
 ghost use Rattle.nc_handle.specs.machinery.Standing.{AreMarksAt};
 ghost use Rattle.nc_handle.specs.machinery.Running.{AddsRuns, HasBits, bytes_for, picks, run_at};

@@ -9,12 +9,13 @@ use Rattle.nc_text.specs.Places.{limit_of}
 use Rattle.nc_text.specs.Marks.{IsClosed, Admits}
 use Rattle.nc_text.specs.MarkedText.{MarkedText, with_span}
 use Rattle.nc_text.proofs.Offered.{closed_with_stops, length-with_span}
-use Rattle.nc_region.specs.Acts.{is_inside, is_start}
-use Rattle.nc_region.specs.Chunks.{HasGoodSpan}
-use Rattle.nc_region.specs.machinery.Between.{HasPut, IsFinalBut}
-use Rattle.nc_region.specs.Chunks.{IsUnused}
-use Rattle.nc_region.proofs.SpanPlaces.{Before, Within, Behind, place_of, unused_is_start, is_inside_false, is_inside_true, is_start_true, is_start_false, start_or_not}
-use Rattle.nc_region.proofs.SpanPlaces.{span_within, span_before, span_behind, before_span}
+use Rattle.nc_acts.specs.Acts.{is_inside, is_start}
+use Rattle.nc_acts.specs.Chunks.{HasGoodSpan}
+use Rattle.nc_acts.specs.Puts.{HasPut}
+use Rattle.nc_region.specs.machinery.Between.{IsFinalBut}
+use Rattle.nc_acts.specs.Chunks.{IsUnused}
+use Rattle.nc_acts.proofs.Offered.{Before, Within, Behind, place_of, unused_is_start, is_inside_false, is_inside_true, is_start_true, is_start_false, start_or_not}
+use Rattle.nc_acts.proofs.Offered.{span_within, span_before, span_behind, before_span}
 
 -- the bytes that aren't bundle starts may be put while the span is unused
 pub inside_closed : (old : MarkedText) (new : List ℕ) (base : ℕ) (bytes : List ℕ) (count : ℕ)
@@ -107,10 +108,3 @@ starts_final old mid now base bytes count low fits few f puts =
             | inr a ↦ puts.passed at a (is_start_false at not) ∙ f.inside at low' not
           ];
     }
-
--- two texts of the same bytes and marks
-pub same_code : (a b : MarkedText) → a.bytes ≡ b.bytes → a.marks ≡ b.marks → a ≡ b
-same_code a b bytes marks =
-    let one : a ≡ record { bytes = b.bytes; marks = a.marks } = ap (λ (x : List ℕ). record { bytes = x; marks = a.marks }) bytes in
-    let two : record { bytes = b.bytes; marks = a.marks } ≡ b = ap (λ (x : List Mark). record { bytes = b.bytes; marks = x }) marks in
-    one ∙ two

@@ -9,7 +9,7 @@ use Rattle.nc_decode.specs.declared.instruction.Mark.TheVariants.{Unmarked, Plai
 use Rattle.nc_decode.specs.Front.{first_instruction}
 use Rattle.nc_decode.specs.Bundles.{IsBundleStart, IsInOneBundle}
 use Rattle.nc_decode.specs.Transfers.{target}
-use Rattle.nc_region.specs.Chunks.{HasGoodSpan}
+use Rattle.nc_acts.specs.Chunks.{HasGoodSpan}
 
 -- the bytes are these instructions, one after another
 abbrev pub IsReading : List ℕ → List Instr → Type 0

@@ -15,17 +15,17 @@ use Rattle.nc_list.specs.declared.chunk.Chunk.{Chunk}
 use Rattle.nc_list.specs.declared.chunk.ChunkState.TheVariants.{Live, Retired}
 use Rattle.nc_list.specs.Chunks.{IsRetired}
 use Rattle.nc_list.proofs.Offered.{each_get, each_set, each_set_but, each_at_set, each_unset}
-use Rattle.nc_region.specs.Chunks.{HasGoodSpan}
+use Rattle.nc_acts.specs.Chunks.{HasGoodSpan}
 use Rattle.nc_region.specs.Each.{Each}
 use Rattle.nc_gens.specs.Rule.{generation_raised}
-use Rattle.nc_region.specs.Acts.{acts_of_delete}
-use Rattle.nc_region.specs.Log.{Logs, log_of_delete}
+use Rattle.nc_acts.specs.Acts.{acts_of_delete}
+use Rattle.nc_acts.specs.Log.{Logs, log_of_delete}
 use Rattle.nc_region.specs.Deletion.{IsDeleted}
 use Rattle.nc_region.specs.Region.{Region, IsLive, IsInChunk, IsRising, HoldsValid, IsRegion}
 use Rattle.nc_region.proofs.chunks.AgreesOutside.{AgreesOutside, LiesBeside, still_holds}
 use Rattle.nc_region.proofs.patching.Runs.{apart_by_index}
-use Rattle.nc_region.proofs.SpanPlaces.{place_of, Before, Within, Behind, span_within, span_before, span_behind}
-use Rattle.nc_region.proofs.telling.Logged.{told_logged, deleted_acts}
+use Rattle.nc_acts.proofs.Offered.{place_of, Before, Within, Behind, span_within, span_before, span_behind}
+use Rattle.nc_acts.proofs.Offered.{told_logged, deleted_acts}
 
 -- one chunk of a rising list put in place of another of the same span
 rising_set : (from : ℕ) (chunks : List Chunk) (k : ℕ) (c d : Chunk) → IsRising from chunks → k < length chunks → get_or chunks k c ≡ c

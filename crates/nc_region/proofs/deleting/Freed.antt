@@ -4,14 +4,14 @@ use Rattle.nc_text.specs.Places.{limit_of}
 use Rattle.nc_text.specs.MarkedText.{MarkedText, without_marks}
 use Rattle.nc_list.specs.declared.chunk.Chunk.{Chunk}
 use Rattle.nc_list.proofs.Offered.{each_map, each_both, each_middle, each_out, each_in, rises_lower, rises_above}
-use Rattle.nc_region.specs.Chunks.{HasGoodSpan}
+use Rattle.nc_acts.specs.Chunks.{HasGoodSpan}
 use Rattle.nc_region.specs.Each.{Each}
 use Rattle.nc_region.specs.Quiet.{RetiredSpan, IsQuiet}
 use Rattle.nc_region.specs.Region.{IsLive, IsInChunk, IsRising, HoldsValid, IsRegion}
 use Rattle.nc_region.proofs.chunks.AgreesOutside.{AgreesOutside, LiesBeside, still_holds}
 use Rattle.nc_region.proofs.schedules.Unmarking.{shut_if_quiet, MayFree, freed_within, freed_before, freed_behind, freed_long, freed_closed}
 use Rattle.nc_region.proofs.deleting.QuietSpans.{quiet_chunks}
-use Rattle.nc_region.proofs.SpanPlaces.{place_of, Before, Within, Behind}
+use Rattle.nc_acts.proofs.Offered.{place_of, Before, Within, Behind}
 
 -- a list rises without one of its chunks
 rises_without : (from : ℕ) (before after : List Chunk) (c : Chunk) → IsRising from (before ++ c ∷ after) → IsRising from (before ++ after)

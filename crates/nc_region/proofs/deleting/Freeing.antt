@@ -7,11 +7,11 @@ use Rattle.nc_text.specs.MarkedText.{MarkedText, without_marks}
 use Rattle.nc_list.specs.declared.chunk.Chunk.{Chunk}
 use Rattle.nc_list.specs.Chunks.{AreTaken}
 use Rattle.nc_list.proofs.Offered.{freed_append, kept_append, all_stay, taken_nothing}
-use Rattle.nc_region.specs.declared.acts.Act.{Act}
-use Rattle.nc_region.specs.declared.acts.Act.TheVariants.{UnmarkSpan}
-use Rattle.nc_region.specs.declared.acts.Entry.{Entry}
-use Rattle.nc_region.specs.declared.acts.Entry.TheVariants.{Did}
-use Rattle.nc_region.specs.Log.{Logs, unsettled}
+use Rattle.nc_acts.specs.declared.acts.Act.{Act}
+use Rattle.nc_acts.specs.declared.acts.Act.TheVariants.{UnmarkSpan}
+use Rattle.nc_acts.specs.declared.acts.Entry.{Entry}
+use Rattle.nc_acts.specs.declared.acts.Entry.TheVariants.{Did}
+use Rattle.nc_acts.specs.Log.{Logs, unsettled}
 use Rattle.nc_region.specs.Deletion.{is_due, freed, kept, unmarked, unmarkings}
 use Rattle.nc_region.specs.Quiet.{IsQuiet}
 use Rattle.nc_region.specs.Region.{IsRegion}
@@ -19,7 +19,7 @@ use Rattle.nc_region.specs.machinery.Freeing.{AreTakenOut, AreUnmarked, AreFreed
 use Rattle.nc_region.proofs.schedules.Unmarking.{MayFree}
 use Rattle.nc_region.proofs.deleting.Freed.{span_of, dead_is_quiet, frees, region_freed}
 use Rattle.nc_region.proofs.deleting.Due.{due_dead, kept_and_freed}
-use Rattle.nc_region.proofs.telling.Logged.{logs_none, logs_acts}
+use Rattle.nc_acts.proofs.Offered.{logs_none, logs_acts}
 
 -- ---- spans that are unmarked
 

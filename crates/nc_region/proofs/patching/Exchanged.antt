@@ -19,12 +19,12 @@ use Rattle.nc_text.specs.MarkedText.{MarkedText, IsText, with_span, unused_mark,
 use Rattle.nc_text.proofs.Offered.{closed_by_parts, executes, marked_within}
 use Rattle.nc_text.proofs.Offered.{length-with_span, get_or-with_span_in, get_or-with_span_below, get_or-with_span_above}
 use Rattle.nc_list.specs.declared.chunk.Chunk.{Chunk}
-use Rattle.nc_region.specs.Chunks.{IsClosedChunk}
+use Rattle.nc_acts.specs.Chunks.{IsClosedChunk}
 use Rattle.nc_region.specs.Region.{IsInChunk, HoldsValid}
 use Rattle.nc_region.specs.machinery.PatchSteps.{Begins, IsReplacing}
-use Rattle.nc_region.proofs.SpanPlaces.{Before, Within, Behind, place_of, unused_is_start, span_within, span_before, span_behind}
-use Rattle.nc_region.proofs.SpanPlaces.{before_span, within_span}
-use Rattle.nc_region.proofs.chunks.Alone.{alone, alone_fits_bytes, alone_within, alone_before, alone_behind, alone_bytes_long, alone_marks_long}
+use Rattle.nc_acts.proofs.Offered.{Before, Within, Behind, place_of, unused_is_start, span_within, span_before, span_behind}
+use Rattle.nc_acts.proofs.Offered.{before_span, within_span}
+use Rattle.nc_acts.proofs.Offered.{alone, alone_fits_bytes, alone_within, alone_before, alone_behind, alone_bytes_long, alone_marks_long}
 use Rattle.nc_region.proofs.chunks.Pieces.{valid_chunk_is_closed}
 use Rattle.nc_region.proofs.patching.NewInstructions.{take_seam, some_same}
 use Rattle.nc_region.proofs.patching.Standing.{Lies, lies, stands_with}

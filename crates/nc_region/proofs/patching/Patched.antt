@@ -9,7 +9,7 @@ use Rattle.nc_text.proofs.Offered.{length-with_span}
 use Rattle.nc_decode.specs.declared.instruction.Mark.{Mark}
 use Rattle.nc_list.specs.declared.chunk.Chunk.{Chunk}
 use Rattle.nc_list.proofs.Offered.{each_get, each_from}
-use Rattle.nc_region.specs.Chunks.{HasGoodSpan}
+use Rattle.nc_acts.specs.Chunks.{HasGoodSpan}
 use Rattle.nc_region.specs.Each.{Each}
 use Rattle.nc_region.specs.Region.{Region, IsLive, IsInChunk, IsRising, HoldsValid, IsRegion}
 use Rattle.nc_region.specs.Patch.{IsHeldBy, IsPatchSpan, IsPatch, IsRun, LeavesPairs, KeepsTargets, MayRefusePatch}
@@ -17,7 +17,7 @@ use Rattle.nc_region.specs.machinery.PatchSteps.{CanPatch, MayRefuseIn}
 use Rattle.nc_region.specs.declared.fault.ModifyFault.{ModifyFault}
 use Rattle.nc_region.specs.declared.fault.ModifyFault.TheVariants.{BadSpan, NotLive, NotPermitted, Boundaries, PairTouched, BadTarget}
 use Rattle.nc_region.proofs.chunks.AgreesOutside.{AgreesOutside, still_holds}
-use Rattle.nc_region.proofs.SpanPlaces.{span_before, span_behind}
+use Rattle.nc_acts.proofs.Offered.{span_before, span_behind}
 use Rattle.nc_region.proofs.patching.Runs.{apart_by_index, held_same}
 
 -- a chunk of the list is patched

@@ -2,7 +2,6 @@
 use Rattle.std.specs.Prelude.{◌≡◌, ◌≢◌, ℕ, ◌%◌, ◌<◌, ◌≤◌, Bool, List, length}
 use Rattle.nc_decode.specs.Bundles.{IsBundleStart}
 use Rattle.nc_text.specs.Places.{byte_at, limit_of}
-pub use Rattle.nc_region.specs.Puts.{HasPut}
 use Rattle.nc_text.specs.Ready.{AreReady}
 use Rattle.nc_text.specs.MarkedText.{MarkedText}
 use Rattle.nc_vet.specs.Chunk.{MarkedChunk, IsValid}

@@ -4,9 +4,9 @@ use Rattle.nc_decode.specs.declared.instruction.Mark.{Mark}
 use Rattle.nc_text.specs.Places.{limit_of}
 use Rattle.nc_text.specs.Ready.{AreReady}
 use Rattle.nc_text.specs.MarkedText.{MarkedText, IsText}
-use Rattle.nc_region.specs.declared.acts.Entry.{Entry}
-use Rattle.nc_region.specs.Chunks.{IsClosedChunk, IsUnused, with_chunk}
-use Rattle.nc_region.specs.Log.{Logs, log_of_create}
+use Rattle.nc_acts.specs.declared.acts.Entry.{Entry}
+use Rattle.nc_acts.specs.Chunks.{IsClosedChunk, IsUnused, with_chunk}
+use Rattle.nc_acts.specs.Log.{Logs, log_of_create}
 
 -- A chunk may be put at this base of a closed text. The chunk is closed by itself, and its span is unused and ready.
 pub record CanPutChunk (marked : MarkedText) (made : List Bool) (base : ℕ) (code : List ℕ) (marks : List Mark) : Type 0 where

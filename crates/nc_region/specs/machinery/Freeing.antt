@@ -2,8 +2,8 @@
 use Rattle.std.specs.Prelude.{◌≡◌, ℕ, List, ◌++◌}
 use Rattle.nc_text.specs.MarkedText.{MarkedText}
 use Rattle.nc_list.specs.declared.chunk.Chunk.{Chunk}
-use Rattle.nc_region.specs.declared.acts.Entry.{Entry}
-use Rattle.nc_region.specs.Log.{Logs, unsettled}
+use Rattle.nc_acts.specs.declared.acts.Entry.{Entry}
+use Rattle.nc_acts.specs.Log.{Logs, unsettled}
 use Rattle.nc_region.specs.Region.{IsRegion}
 use Rattle.nc_region.specs.Deletion.{freed, kept, unmarked, unmarkings}
 

@@ -15,8 +15,8 @@ ghost use Rattle.nc_region.specs.Region.{HoldsValid, IsInChunk};
 ghost use Rattle.nc_region.specs.Patch.{IsPatchSpan, AreBytesOf, AreInstructions, IsRun, SparesPair, SparesPairs, GoWell, stands_there};
 ghost use Rattle.nc_region.specs.machinery.PatchSteps.{Begins, Along, RunsAlong, is_after, KeepsTransfer, CanPatch, MayRefuseIn};
 
-use crate::acts::Acts;
 use crate::fault::ModifyFault;
+use nc_acts::Acts;
 use nc_decode::{BUNDLE, Instr, Mark, decode};
 use nc_list::Chunk;
 use nc_text::lowest_place;

@@ -9,17 +9,17 @@ ghost use Rattle.nc_text.specs.Places.{byte_at, limit_of};
 ghost use Rattle.nc_text.specs.Ready.{AreReady};
 ghost use Rattle.nc_text.specs.MarkedText.{IsText, with_span};
 ghost use Rattle.nc_list.specs.declared.chunk.Chunk.{Chunk};
-ghost use Rattle.nc_region.specs.Acts.{puts_where};
-ghost use Rattle.nc_region.specs.Log.{Logs, unsettled};
-ghost use Rattle.nc_region.specs.machinery.Between.{HasPut};
-ghost use Rattle.nc_region.specs.declared.acts.Act.{Act};
-ghost use Rattle.nc_region.specs.declared.acts.Entry.{Entry};
+ghost use Rattle.nc_acts.specs.Acts.{puts_where};
+ghost use Rattle.nc_acts.specs.Log.{Logs, unsettled};
+ghost use Rattle.nc_acts.specs.Puts.{HasPut};
+ghost use Rattle.nc_acts.specs.declared.acts.Act.{Act};
+ghost use Rattle.nc_acts.specs.declared.acts.Entry.{Entry};
 ghost use Rattle.nc_region.specs.Region.{HoldsValid};
 ghost use Rattle.nc_region.specs.Patch.{AreBytesOf, stands_there, any_place, log_of_instruction, log_of_modify};
 ghost use Rattle.nc_region.specs.machinery.PatchSteps.{IsReplacing, CanReplace, IsInterim, CanPatch};
 
-use crate::acts::{Acts, STOP};
 use crate::patch::judge::stands_there;
+use nc_acts::{Acts, STOP};
 use nc_decode::decode;
 use nc_list::Chunk;
 

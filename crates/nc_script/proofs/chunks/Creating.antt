@@ -12,7 +12,7 @@ use Rattle.nc_list.specs.declared.chunk.ChunkState.{ChunkState}
 use Rattle.nc_list.specs.declared.chunk.ChunkState.TheVariants.{Live, Retired}
 use Rattle.nc_region.specs.Each.{Each}
 use Rattle.nc_region.proofs.Offered.{each_map, each_both, each_take, each_drop}
-use Rattle.nc_region.specs.Chunks.{HasGoodSpan}
+use Rattle.nc_acts.specs.Chunks.{HasGoodSpan}
 use Rattle.nc_region.specs.Region.{FitsAt, Meets}
 use Rattle.nc_script.specs.Script as script
 use Rattle.nc_script.specs.Script.{IsOccupied, IsPutBetween}

@@ -5,7 +5,7 @@ use Rattle.std.specs.List.{slice_get}
 use Rattle.std.proofs.lemmas.Bool.{lt-ltb, le-ltb}
 use Rattle.nc_text.specs.Places.{limit_of}
 use Rattle.nc_region.specs.Each.{Each}
-use Rattle.nc_region.specs.Chunks.{HasGoodSpan}
+use Rattle.nc_acts.specs.Chunks.{HasGoodSpan}
 use Rattle.nc_region.specs.Region.{IsAboveAll, IsNextChunk}
 use Rattle.nc_list.specs.declared.chunk.Chunk.{Chunk}
 use Rattle.nc_script.specs.Queries.{next_chunk}

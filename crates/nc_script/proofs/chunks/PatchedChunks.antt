@@ -13,7 +13,7 @@ use Rattle.nc_list.specs.declared.chunk.ChunkState.{ChunkState}
 use Rattle.nc_list.specs.declared.chunk.ChunkState.TheVariants.{Live, Retired}
 use Rattle.nc_region.specs.Each.{Each}
 use Rattle.nc_region.proofs.Offered.{each_map}
-use Rattle.nc_region.specs.Chunks.{HasGoodSpan}
+use Rattle.nc_acts.specs.Chunks.{HasGoodSpan}
 use Rattle.nc_region.specs.Region.{IsRising, IsLive}
 use Rattle.nc_script.specs.Script as script
 use Rattle.nc_script.specs.Script.{standing_bytes, covers}

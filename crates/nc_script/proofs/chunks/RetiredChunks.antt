@@ -10,7 +10,7 @@ use Rattle.nc_list.specs.declared.chunk.ChunkState.{ChunkState}
 use Rattle.nc_list.specs.declared.chunk.ChunkState.TheVariants.{Live, Retired}
 use Rattle.nc_region.specs.Each.{Each}
 use Rattle.nc_region.proofs.Offered.{each_both}
-use Rattle.nc_region.specs.Chunks.{HasGoodSpan}
+use Rattle.nc_acts.specs.Chunks.{HasGoodSpan}
 use Rattle.nc_region.specs.Region.{IsRising, IsLive}
 use Rattle.nc_region.specs.Deletion as region
 use Rattle.nc_script.specs.Script as script

@@ -1,7 +1,8 @@
 use Rattle.std.proofs.Common.{◌≡◌, ◌+◌, ◌*◌, refl, ap, sym, ◌∙◌}
 use Rattle.atomic_table.specs.Seated.{TableId}
 use Rattle.nc_gens.specs.Seen.{KeeperState, first_keeper, new_passes}
-use Rattle.nc_region.specs.Region.{Region, PlainState}
+use Rattle.nc_region.specs.Region.{Region}
+use Rattle.nc_acts.specs.Plain.{PlainState}
 use Rattle.nc_handle.proofs.region_handle.first.Goals as goal
 
 pub over-region-requires : goal.over-region-requires

@@ -1,5 +1,5 @@
 use Rattle.std.proofs.Common.{◌+◌, ◌*◌, ◌/◌, ℕ, subst}
-use Rattle.nc_region.specs.Log.{log_of_create}
+use Rattle.nc_acts.specs.Log.{log_of_create}
 use Rattle.nc_handle.specs.acts.Runs.{HasRuns, runs_of_create}
 use Rattle.nc_handle.specs.Lent.{bytes_of_span}
 use Rattle.nc_handle.proofs.SpanReads.{span_long, span_high, span_whole, span_runs}

@@ -1,11 +1,11 @@
 use Rattle.std.proofs.Common.{ℕ, ◌∙◌, List, [], ◌∷◌, replicate, arith, ap, subst, append_assoc}
-use Rattle.nc_region.specs.declared.acts.Entry.{Entry}
-use Rattle.nc_region.specs.Acts.{puts_where, is_marked_at, is_unmarked_at}
-use Rattle.nc_region.specs.Log.{Logs, unsettled}
+use Rattle.nc_acts.specs.declared.acts.Entry.{Entry}
+use Rattle.nc_acts.specs.Acts.{puts_where, is_marked_at, is_unmarked_at}
+use Rattle.nc_acts.specs.Log.{Logs, unsettled}
 use Rattle.nc_text.specs.MarkedText.{MarkedText}
-use Rattle.nc_region.specs.declared.acts.Entry.TheVariants.{Did, Settled}
-use Rattle.nc_region.specs.declared.acts.Act.TheVariants.{Bump}
-use Rattle.nc_region.proofs.telling.Logged.{logs_more}
+use Rattle.nc_acts.specs.declared.acts.Entry.TheVariants.{Did, Settled}
+use Rattle.nc_acts.specs.declared.acts.Act.TheVariants.{Bump}
+use Rattle.nc_acts.proofs.Offered.{logs_more}
 use Rattle.nc_region.proofs.delete.put_stops.Goals as goal
 
 pub unreachable-requires : goal.unreachable-requires

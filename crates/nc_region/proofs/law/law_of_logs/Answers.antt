@@ -1,4 +1,5 @@
-use Rattle.nc_region.proofs.telling.Logged.{created_acts, deleted_acts, modified_acts}
+use Rattle.nc_acts.proofs.Offered.{created_acts, deleted_acts}
+use Rattle.nc_region.proofs.patching.Told.{modified_acts}
 use Rattle.nc_region.proofs.law.law_of_logs.Goals as goal
 
 pub returns-clause-create : goal.returns-clause-create

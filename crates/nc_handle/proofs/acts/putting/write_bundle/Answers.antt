@@ -1,6 +1,6 @@
 use Rattle.std.proofs.Common.{◌+◌, ◌≤◌, ℕ, List, length, take, drop, get_or, set, ap, arith, sym, subst, ◌∙◌}
-use Rattle.nc_region.specs.declared.acts.Act.TheVariants.{Put}
-use Rattle.nc_region.specs.Acts.{puts_where, is_start, is_inside}
+use Rattle.nc_acts.specs.declared.acts.Act.TheVariants.{Put}
+use Rattle.nc_acts.specs.Acts.{puts_where, is_start, is_inside}
 use Rattle.nc_handle.specs.acts.Shown.{act_of}
 use Rattle.nc_handle.specs.machinery.Writing.{HasPutUpTo}
 use Rattle.nc_handle.proofs.writing.Bundles.{bundle_size, bundle_byte, bundle_is, start_put, start_fits}

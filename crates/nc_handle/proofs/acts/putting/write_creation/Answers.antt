@@ -1,8 +1,8 @@
 use Rattle.std.proofs.Common.{arith, refl, ◌∙◌, ap, ℕ, List, length, ◌≡◌, set}
 use Rattle.std.proofs.lemmas.List.{length-set}
-use Rattle.nc_region.specs.Acts.{is_inside}
-use Rattle.nc_region.specs.declared.acts.Act.TheVariants.{MarkSpan}
-use Rattle.nc_region.specs.declared.acts.Entry.TheVariants.{Did}
+use Rattle.nc_acts.specs.Acts.{is_inside}
+use Rattle.nc_acts.specs.declared.acts.Act.TheVariants.{MarkSpan}
+use Rattle.nc_acts.specs.declared.acts.Entry.TheVariants.{Did}
 use Rattle.nc_handle.specs.acts.Shown.{entry_of}
 use Rattle.nc_handle.specs.declared.acts.act.NcAct.{NcAct}
 use Rattle.nc_handle.proofs.writing.WholeLists.{both_of_create, first_written, creation_written}

@@ -1,5 +1,5 @@
 use Rattle.std.proofs.Common.{◌<◌, ℕ, length, arith, subst}
-use Rattle.nc_region.specs.Acts.{is_inside}
+use Rattle.nc_acts.specs.Acts.{is_inside}
 use Rattle.nc_handle.specs.machinery.Writing.{HasPutUpTo}
 use Rattle.nc_handle.proofs.writing.Bundles.{inside_there}
 use Rattle.nc_handle.proofs.writing.WriteSteps.{next_fits, put_next}

@@ -1,4 +1,4 @@
-use Rattle.nc_region.specs.Acts.{is_inside}
+use Rattle.nc_acts.specs.Acts.{is_inside}
 use Rattle.nc_handle.specs.machinery.Writing.{HasPutUpTo}
 use Rattle.nc_handle.proofs.acts.putting.write_inside.Given as goal
 

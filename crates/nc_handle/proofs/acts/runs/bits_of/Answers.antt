@@ -1,7 +1,7 @@
 use Rattle.std.proofs.Common.{◌≡◌, ◌+◌, ◌==◌, ◌<◌, ℕ, true, false, arith, sym, ◌∙◌, ap, w32}
 use Rattle.std.specs.Int.{bit_at, bit_not}
 use Rattle.nc_handle.specs.machinery.Writing.{marks_if}
-use Rattle.nc_region.specs.Acts.{is_start, is_inside}
+use Rattle.nc_acts.specs.Acts.{is_start, is_inside}
 use Rattle.nc_handle.proofs.writing.MarkReads.{start_bit, inside_bit, mark_read, marked_bit, unmarked_bit}
 use Rattle.nc_handle.proofs.writing.RunLists.{bits_by_places}
 use Rattle.nc_handle.proofs.acts.runs.bits_of.Goals as goal

@@ -1,6 +1,6 @@
 use Rattle.std.proofs.Common.{◌≡◌, ℕ, length, set, ap, ◌∙◌}
-use Rattle.nc_region.specs.declared.acts.Act.TheVariants.{MarkSpan}
-use Rattle.nc_region.specs.declared.acts.Entry.TheVariants.{Did}
+use Rattle.nc_acts.specs.declared.acts.Act.TheVariants.{MarkSpan}
+use Rattle.nc_acts.specs.declared.acts.Entry.TheVariants.{Did}
 use Rattle.nc_handle.specs.declared.acts.act.NcAct.{NcAct}
 use Rattle.nc_handle.specs.acts.Shown.{entry_of}
 use Rattle.nc_handle.proofs.writing.RunWhole.{creation_runs}

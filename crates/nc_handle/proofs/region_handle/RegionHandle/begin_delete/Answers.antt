@@ -1,5 +1,5 @@
 use Rattle.std.proofs.Common.{Some, ap, subst}
-use Rattle.nc_region.specs.Log.{log_of_delete}
+use Rattle.nc_acts.specs.Log.{log_of_delete}
 use Rattle.nc_handle.specs.RegionHandle.{RegionHandleState}
 use Rattle.nc_handle.specs.Lent.{IsReported}
 use Rattle.nc_handle.proofs.Reporting.{begins}

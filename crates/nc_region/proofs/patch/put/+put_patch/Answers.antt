@@ -10,13 +10,13 @@ use Rattle.nc_text.specs.Places.{limit_of, byte_at}
 use Rattle.nc_text.specs.MarkedText.{MarkedText, IsText, with_span}
 use Rattle.nc_text.specs.Ready.{AreReady}
 use Rattle.nc_list.specs.declared.chunk.Chunk.{Chunk}
-use Rattle.nc_region.specs.declared.acts.Entry.{Entry}
-use Rattle.nc_region.specs.Log.{Logs}
+use Rattle.nc_acts.specs.declared.acts.Entry.{Entry}
+use Rattle.nc_acts.specs.Log.{Logs}
 use Rattle.nc_region.specs.Patch.{stands_there, log_of_instruction, log_of_modify}
 use Rattle.nc_region.specs.machinery.PatchSteps.{CanPatch, IsReplacing}
-use Rattle.nc_region.proofs.SpanPlaces.{span_behind}
-use Rattle.nc_region.proofs.chunks.Creating.{same_code}
-use Rattle.nc_region.proofs.telling.Logged.{logs_none, logs_more}
+use Rattle.nc_acts.proofs.Offered.{span_behind}
+use Rattle.nc_acts.proofs.Offered.{same_code}
+use Rattle.nc_acts.proofs.Offered.{logs_none, logs_more}
 use Rattle.nc_region.proofs.patching.NewInstructions.{none_of_none, not_found, parted, whole_again}
 use Rattle.nc_region.proofs.patching.Standing.{lies}
 use Rattle.nc_region.proofs.chunks.ReadyPlaces.{ready_part}

@@ -1,10 +1,10 @@
 use Rattle.std.proofs.Common.{◌+◌, ◌-◌, [], ◌∷◌, length, set, arith, ap, ◌∙◌}
 use Rattle.std.proofs.lemmas.List.{length-set}
 use Rattle.nc_text.specs.MarkedText.{MarkedText}
-use Rattle.nc_region.specs.declared.acts.Act.TheVariants.{Put}
-use Rattle.nc_region.specs.declared.acts.Entry.TheVariants.{Did, Settled}
+use Rattle.nc_acts.specs.declared.acts.Act.TheVariants.{Put}
+use Rattle.nc_acts.specs.declared.acts.Entry.TheVariants.{Did, Settled}
 use Rattle.nc_region.proofs.chunks.ReadyPlaces.{ready_place}
-use Rattle.nc_region.proofs.telling.Logged.{logs_more, logs_after}
+use Rattle.nc_acts.proofs.Offered.{logs_more, logs_after}
 use Rattle.nc_region.proofs.patching.Replacing.{patching_closed, patch_started, patching_over, patch_final}
 use Rattle.nc_region.proofs.patch.put.put_longer.Goals as goal
 

@@ -3,14 +3,14 @@ use Rattle.std.proofs.lemmas.List.{take_all}
 use Rattle.nc_decode.specs.declared.instruction.Mark.{Mark}
 use Rattle.nc_text.specs.Marks.{IsClosed}
 use Rattle.nc_text.specs.Ready.{IsReady}
-use Rattle.nc_region.specs.declared.acts.Entry.TheVariants.{Settled}
-use Rattle.nc_region.specs.Acts.{puts_where}
-use Rattle.nc_region.specs.Log.{Logs, unsettled}
+use Rattle.nc_acts.specs.declared.acts.Entry.TheVariants.{Settled}
+use Rattle.nc_acts.specs.Acts.{puts_where}
+use Rattle.nc_acts.specs.Log.{Logs, unsettled}
 use Rattle.nc_region.specs.Patch.{any_place}
-use Rattle.nc_region.specs.machinery.Between.{HasPut}
-use Rattle.nc_region.proofs.telling.Puts.{put_more}
+use Rattle.nc_acts.specs.Puts.{HasPut}
+use Rattle.nc_acts.proofs.Offered.{put_more}
 use Rattle.nc_region.proofs.chunks.ReadyPlaces.{ready_place}
-use Rattle.nc_region.proofs.telling.Logged.{log_put, ends_settled}
+use Rattle.nc_acts.proofs.Offered.{log_put, ends_settled}
 use Rattle.nc_region.proofs.patching.Replacing.{patching_from_put}
 use Rattle.nc_region.proofs.patch.put.put_rest.Goals as goal
 

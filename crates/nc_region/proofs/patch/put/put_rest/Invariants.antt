@@ -1,10 +1,10 @@
 use Rattle.std.proofs.Common.{◌≡◌, ◌+◌, ◌∷◌, take}
 use Rattle.nc_text.specs.MarkedText.{IsText}
-use Rattle.nc_region.specs.declared.acts.Entry.TheVariants.{Settled}
-use Rattle.nc_region.specs.Acts.{puts_where}
-use Rattle.nc_region.specs.Log.{Logs, unsettled}
+use Rattle.nc_acts.specs.declared.acts.Entry.TheVariants.{Settled}
+use Rattle.nc_acts.specs.Acts.{puts_where}
+use Rattle.nc_acts.specs.Log.{Logs, unsettled}
 use Rattle.nc_region.specs.Patch.{any_place}
-use Rattle.nc_region.specs.machinery.Between.{HasPut}
+use Rattle.nc_acts.specs.Puts.{HasPut}
 use Rattle.nc_region.proofs.patch.put.put_rest.Given as goal
 
 abbrev pub invariant-loop-i : goal.invariant-loop-i

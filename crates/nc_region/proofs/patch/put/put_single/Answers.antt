@@ -1,11 +1,11 @@
 use Rattle.std.proofs.Common.{◌≡◌, cond, List, [], ◌++◌, sym, subst, ◌∙◌, ap, append-nil}
 use Rattle.nc_vet.specs.Chunk.{Piece}
 use Rattle.nc_text.specs.MarkedText.{MarkedText}
-use Rattle.nc_region.specs.declared.acts.Entry.{Entry}
-use Rattle.nc_region.specs.Log.{Logs}
+use Rattle.nc_acts.specs.declared.acts.Entry.{Entry}
+use Rattle.nc_acts.specs.Log.{Logs}
 use Rattle.nc_region.specs.Patch.{stands_there, log_of_instruction, log_of_modify}
 use Rattle.nc_region.specs.Region.{HoldsValid}
-use Rattle.nc_region.proofs.chunks.Creating.{same_code}
+use Rattle.nc_acts.proofs.Offered.{same_code}
 use Rattle.nc_region.proofs.patching.Exchanged.{changed, changed_holds, changes_replace}
 use Rattle.nc_region.proofs.patching.Turns.{turn}
 use Rattle.nc_region.proofs.patching.OneInstruction.{IsOne, piece_of, only_one}

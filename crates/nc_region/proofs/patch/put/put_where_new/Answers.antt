@@ -1,7 +1,7 @@
 use Rattle.std.proofs.Common.{[], cond, Bool, sym, subst, ◌∙◌}
-use Rattle.nc_region.specs.Log.{Logs}
+use Rattle.nc_acts.specs.Log.{Logs}
 use Rattle.nc_region.specs.Patch.{log_of_instruction}
-use Rattle.nc_region.proofs.telling.Logged.{logs_none}
+use Rattle.nc_acts.proofs.Offered.{logs_none}
 use Rattle.nc_region.proofs.patching.Turns.{stands_same}
 use Rattle.nc_region.proofs.patch.put.put_where_new.Goals as goal
 

@@ -2,7 +2,8 @@ use Rattle.std.proofs.Common.{rules, ◌≡◌, sym, ap, subst, ◌∙◌}
 use Rattle.nc_text.specs.MarkedText.{MarkedText}
 use Rattle.nc_text.specs.Machine.{IsConfined}
 use Rattle.nc_text.proofs.Offered.{confined_if_closed}
-use Rattle.nc_region.specs.Region.{Region, PlainState}
+use Rattle.nc_region.specs.Region.{Region}
+use Rattle.nc_acts.specs.Plain.{PlainState}
 use Rattle.nc_region.proofs.region.RegionOf+Plain.new.Goals as goal
 
 pub returns-in-Ok-clause-confined : goal.returns-in-Ok-clause-confined

@@ -6,16 +6,16 @@ use Rattle.nc_text.proofs.Offered.{confined_if_closed}
 use Rattle.nc_vet.specs.Chunk.{MarkedChunk}
 use Rattle.nc_region.specs.declared.fault.CreateFault.{CreateFault}
 use Rattle.nc_region.specs.declared.fault.CreateFault.TheVariants.{WrongLimit, Occupied, OutOfMemory}
-use Rattle.nc_region.specs.Chunks.{HasGoodSpan, IsClosedChunk, with_chunk}
-use Rattle.nc_region.specs.Acts.{acts_of_create}
-use Rattle.nc_region.specs.Log.{log_of_create}
+use Rattle.nc_acts.specs.Chunks.{HasGoodSpan, IsClosedChunk, with_chunk}
+use Rattle.nc_acts.specs.Acts.{acts_of_create}
+use Rattle.nc_acts.specs.Log.{log_of_create}
 use Rattle.nc_region.specs.Region.{Region, IsRefused, live_chunk}
 use Rattle.nc_region.proofs.chunks.Inserting.{unused_if_apart, region_with_chunk}
 use Rattle.nc_region.proofs.chunks.Pieces.{valid_chunk_is_closed, chunk_names_registers}
 use Rattle.nc_region.proofs.chunks.ReadyPlaces.{chunks_stay_ready, ready_inserted}
 use Rattle.nc_region.proofs.RegionParts.{region_of}
 use Rattle.nc_region.proofs.region.RegionOf.create.Goals as goal
-use Rattle.nc_region.proofs.telling.Logged.{told_logged, created_acts}
+use Rattle.nc_acts.proofs.Offered.{told_logged, created_acts}
 
 -- what changes nothing, or only pages on a want of memory, is a refused creation
 refused_as : (old new : Region) (v : MarkedChunk) (fault : CreateFault) → new ≡ record old { made = new.made }

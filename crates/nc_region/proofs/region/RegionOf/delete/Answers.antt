@@ -10,7 +10,7 @@ use Rattle.nc_list.specs.Chunks.{IsRetired}
 use Rattle.nc_list.proofs.Offered.{each_map, each_contains}
 use Rattle.nc_region.specs.Each.{Each}
 use Rattle.nc_region.specs.Region.{Region, IsLive, IsRising}
-use Rattle.nc_region.specs.Chunks.{HasGoodSpan}
+use Rattle.nc_acts.specs.Chunks.{HasGoodSpan}
 use Rattle.nc_region.proofs.chunks.ReadyPlaces.{ready_held, ready_set}
 use Rattle.nc_region.proofs.deleting.Deleted.{retired_set, deleted_is, region_deleted}
 use Rattle.nc_region.proofs.RegionParts.{region_of}

@@ -6,7 +6,8 @@ use Rattle.nc_region.proofs.patching.Standing.{lies}
 use Rattle.nc_region.proofs.chunks.ReadyPlaces.{ready_part, ready_held}
 use Rattle.nc_region.proofs.patching.Patched.{region_patched, held_holds, patch_lawful, refused_in}
 use Rattle.nc_region.specs.Patch.{acts_of_modify, log_of_modify}
-use Rattle.nc_region.proofs.telling.Logged.{told_logged, modified_acts}
+use Rattle.nc_acts.proofs.Offered.{told_logged}
+use Rattle.nc_region.proofs.patching.Told.{modified_acts}
 use Rattle.nc_region.proofs.RegionParts.{region_of}
 use Rattle.nc_region.proofs.region.RegionOf.modify.Goals as goal
 

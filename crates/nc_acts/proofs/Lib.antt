@@ -1,0 +1,9 @@
+pub mod Places
+pub mod Puts
+pub mod Chosen
+pub mod Logged
+pub mod SoFar
+pub mod Alone
+pub mod Joining
+pub mod Stopping
+pub mod Offered

@@ -1,0 +1,13 @@
+-- What proofs of the crates above may use of this crate: places beside a span, puts and what they log, and why the text is
+-- closed while a span gets a chunk or stops. The other files are private.
+pub use Rattle.nc_acts.proofs.Places.{Before, Within, Behind, place_of, unused_is_start, unused_at_start, is_inside_false}
+pub use Rattle.nc_acts.proofs.Places.{is_start_false, start_or_not, span_within, span_before, before_span, span_behind}
+pub use Rattle.nc_acts.proofs.Places.{within_span, is_inside_true, is_start_true}
+pub use Rattle.nc_acts.proofs.Puts.{put_none, put_more, put_passed, byte_at_other, byte_at_same}
+pub use Rattle.nc_acts.proofs.Chosen.{puts_append}
+pub use Rattle.nc_acts.proofs.Logged.{told_logged, acts_back, deleted_acts, acts_join, acts_before, logs_more, logs_none}
+pub use Rattle.nc_acts.proofs.Logged.{logs_acts, created_acts, logs_after, log_put, ends_settled}
+pub use Rattle.nc_acts.proofs.Alone.{alone, alone_fits_bytes, alone_within, alone_before, alone_behind, alone_bytes_long}
+pub use Rattle.nc_acts.proofs.Alone.{alone_marks_long}
+pub use Rattle.nc_acts.proofs.Joining.{Joins, chunk_joins, chunk_keeps}
+pub use Rattle.nc_acts.proofs.Stopping.{same_code, all_stops, admits_is_mark}

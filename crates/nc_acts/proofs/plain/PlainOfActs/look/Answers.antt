@@ -1,0 +1,5 @@
+use Rattle.std.proofs.Common.{sym}
+use Rattle.nc_acts.proofs.plain.PlainOfActs.look.Goals as goal
+
+pub returns-clause-logged : goal.returns-clause-logged
+returns-clause-logged g c = rw (sym c.self.view_is) c.note.ensures

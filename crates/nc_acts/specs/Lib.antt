@@ -1,0 +1,6 @@
+pub mod Puts
+pub mod Acts
+pub mod Log
+pub mod Noted
+pub mod Plain
+pub mod Chunks

@@ -1,0 +1,222 @@
+//! A recorder of acts, for tests and for observing the order of single puts.
+
+ghost use Rattle.std.specs.Prelude.{◌≡◌, ◌↔◌, ◌+◌, ◌%◌, ◌<◌, ◌≤◌, [], ◌∷◌, IfOk, IfSome, IsNone, IsOk, OnOk, OnErr, ◌^◌, length, All};
+ghost use Rattle.std.specs.Prelude.{IsTrue, true, false};
+ghost use Rattle.std.specs.Vec.{vec_len, vec_capacity};
+ghost use Rattle.nc_decode.specs.Bits.{marks_in};
+ghost use Rattle.nc_decode.specs.Bundles.{IsBundleStart};
+ghost use Rattle.nc_text.specs.MarkedText.{IsText, with_byte, with_marks, without_marks, NamesRegister, KeepsMarks, AreStops};
+ghost use Rattle.nc_text.specs.Marks.{IsClosed};
+ghost use Rattle.nc_text.specs.Ready.{IsReady, AreReady};
+ghost use Rattle.nc_text.specs.Places.{InRegion, SpanInRegion};
+ghost use Rattle.nc_acts.specs.declared.acts.Act.{Act};
+ghost use Rattle.nc_acts.specs.declared.acts.Entry.{Entry};
+ghost use Rattle.nc_gens.specs.Rule.{generation_raised};
+ghost use Rattle.nc_gens.specs.Seen.{HasLooked, least_number};
+ghost use Rattle.nc_acts.specs.Log.{Logs};
+
+use crate::acts::{Act, Acts, Entry};
+use crate::history::{History, Note};
+use nc_decode::{Bundle, Mark};
+use nc_gens::{GensFull, Pass};
+use nc_text::TextFault;
+use std::alloc::{AllocError, Global};
+
+/// Acts that are recorded. Each is appended to a list as it is done, and so is each settling.
+///
+/// The list's room is allocated when the recorder is made. From the first entry for which there is no room, the recorder has no
+/// list, for good; the acts themselves are still done. The clause `goes_on` of each act says this. As long as there is room, the
+/// list is exactly what is logged.
+#[derive(Drop)]
+pub struct Recorder<A: Acts + Drop> {
+    acts: A,
+    entries: Vec<Entry>,
+    full: bool,
+    history: History,
+    ghost kept: { full ≡ false → entries.items ≡ history.entries },
+}
+
+impl<A: Acts + Drop> Recorder<A> {
+    /// A recorder with room for this number of entries, each an act or a settling. It is refused if there is no memory for the room.
+    pub fn new(alloc: Global, acts: A, room: usize) -> Result<Recorder<A>, AllocError>
+        ensures acts { IfOk result (λ r. r.acts ≡ acts) }
+        ensures logged { IfOk result (λ r. (r.history.entries ≡ []) × (r.entries.items ≡ []) × (r.full ≡ false)) }
+        ensures room { IfOk result (λ r. vec_len r.entries + room ≤ vec_capacity r.entries) }
+    {
+        let mut entries = Vec::new(alloc);
+        entries.reserve(room)?;
+        Ok(Recorder {
+            acts,
+            entries,
+            full: false,
+            history: History::new(),
+        })
+    }
+
+    /// The acts so far with the settlings among them, first to last, as long as there was room.
+    pub fn entries(&self) -> Option<&[Entry]>
+        ensures entries { IfSome result (λ entries. entries.now ≡ ⟦<Recorder<A> as Acts>⟧.logged self.now) }
+        ensures room { IsNone result ↔ (self.now.full ≡ true) }
+    {
+        if self.full { None } else { Some(&self.entries) }
+    }
+
+    fn record(&mut self, entry: Entry)
+        ensures acts { self.new.acts ≡ self.old.acts }
+        ensures logged { Logs self.old.history.entries self.new.history.entries (entry ∷ []) }
+        // The recorder goes on exactly if it did before and there was room.
+        ensures goes_on { (self.new.full ≡ false) ↔ ((self.old.full ≡ false)
+            × (vec_len self.old.entries < vec_capacity self.old.entries)) }
+    {
+        self.history.note(&Note::One(entry));
+        if self.full || self.entries.len() == self.entries.capacity() {
+            self.full = true;
+            return;
+        }
+        if self.entries.push(entry).is_err() {
+            self.full = true;
+        }
+    }
+}
+
+impl<A: Acts + Drop> Acts for Recorder<A> {
+    ghost marked = { λ r. A.marked r.acts };
+
+    ghost made = { λ r. A.made r.acts };
+
+    ghost keeper = { λ r. A.keeper r.acts };
+
+    ghost logged = { λ r. r.history.entries };
+
+    fn ready(&mut self, at: u32, len: u32) -> Result<(), TextFault> {
+        self.acts.ready(at, len)
+    }
+
+    fn is_ready(&self, at: u32, len: u32) -> bool {
+        self.acts.is_ready(at, len)
+    }
+
+    fn put(&mut self, at: u32, byte: u8)
+        requires inside { InRegion (A.marked self.old.acts).bytes at }
+        requires ready { IsReady (A.made self.old.acts) at }
+        requires closed { IsClosed (with_byte (A.marked self.old.acts) at byte).bytes (A.marked self.old.acts).marks }
+        ensures marked { A.marked self.new.acts ≡ with_byte (A.marked self.old.acts) at byte }
+        ensures made { A.made self.new.acts ≡ A.made self.old.acts }
+        ensures whole { IsText (A.marked self.new.acts) }
+        ensures keeper { A.keeper self.new.acts ≡ A.keeper self.old.acts }
+        ensures logged { Logs self.old.history.entries self.new.history.entries (Entry.Did (Act.Put at byte) ∷ []) }
+        ensures goes_on { (self.new.full ≡ false) ↔ ((self.old.full ≡ false)
+            × (vec_len self.old.entries < vec_capacity self.old.entries)) }
+    {
+        self.acts.put(at, byte);
+        self.record(Entry::Did(Act::Put(at, byte)));
+    }
+
+    fn settle(&mut self)
+        ensures logged { Logs self.old.history.entries self.new.history.entries (Entry.Settled ∷ []) }
+        ensures goes_on { (self.new.full ≡ false) ↔ ((self.old.full ≡ false)
+            × (vec_len self.old.entries < vec_capacity self.old.entries)) }
+        ensures marked { A.marked self.new.acts ≡ A.marked self.old.acts }
+        ensures made { A.made self.new.acts ≡ A.made self.old.acts }
+        ensures whole { IsText (A.marked self.new.acts) }
+        ensures keeper { A.keeper self.new.acts ≡ A.keeper self.old.acts }
+        ensures handed_on { Logs (A.logged self.old.acts) (A.logged self.new.acts) (Entry.Settled ∷ []) }
+    {
+        self.acts.settle();
+        self.record(Entry::Settled);
+    }
+
+    fn mark_span(&mut self, at: u32, marks: &[Mark])
+        requires inside { SpanInRegion (A.marked self.old.acts).bytes at (length marks.now) }
+        requires ready { AreReady (A.made self.old.acts) at (length marks.now) }
+        requires registers { All NamesRegister marks.now }
+        requires keeps { KeepsMarks (A.marked self.old.acts).marks (with_marks (A.marked self.old.acts) at marks.now).marks }
+        requires closed { IsClosed (A.marked self.old.acts).bytes (with_marks (A.marked self.old.acts) at marks.now).marks }
+        ensures marked { A.marked self.new.acts ≡ with_marks (A.marked self.old.acts) at marks.now }
+        ensures made { A.made self.new.acts ≡ A.made self.old.acts }
+        ensures whole { IsText (A.marked self.new.acts) }
+        ensures keeper { A.keeper self.new.acts ≡ A.keeper self.old.acts }
+        ensures logged { Logs self.old.history.entries self.new.history.entries (Entry.Did (Act.MarkSpan at (length marks.now)) ∷ []) }
+        ensures goes_on { (self.new.full ≡ false) ↔ ((self.old.full ≡ false)
+            × (vec_len self.old.entries < vec_capacity self.old.entries)) }
+    {
+        self.acts.mark_span(at, marks);
+        self.record(Entry::Did(Act::MarkSpan(at, marks.len() as u32)));
+    }
+
+    fn unmark_span(&mut self, at: u32, len: u32)
+        requires inside { SpanInRegion (A.marked self.old.acts).bytes at len }
+        requires stops { AreStops (A.marked self.old.acts).bytes at len }
+        requires closed { IsClosed (A.marked self.old.acts).bytes (without_marks (A.marked self.old.acts) at len).marks }
+        ensures marked { A.marked self.new.acts ≡ without_marks (A.marked self.old.acts) at len }
+        ensures made { A.made self.new.acts ≡ A.made self.old.acts }
+        ensures whole { IsText (A.marked self.new.acts) }
+        ensures keeper { A.keeper self.new.acts ≡ A.keeper self.old.acts }
+        ensures logged { Logs self.old.history.entries self.new.history.entries (Entry.Did (Act.UnmarkSpan at len) ∷ []) }
+        ensures goes_on { (self.new.full ≡ false) ↔ ((self.old.full ≡ false)
+            × (vec_len self.old.entries < vec_capacity self.old.entries)) }
+    {
+        self.acts.unmark_span(at, len);
+        self.record(Entry::Did(Act::UnmarkSpan(at, len)));
+    }
+
+    fn byte(&self, at: u32) -> u8 {
+        self.acts.byte(at)
+    }
+
+    fn limit(&self) -> u32 {
+        self.acts.limit()
+    }
+
+    fn mark(&self, at: u32) -> Mark {
+        self.acts.mark(at)
+    }
+
+    fn marked_places(&self, at: u32) -> u32 {
+        self.acts.marked_places(at)
+    }
+
+    fn bump(&mut self) -> Result<u64, GensFull>
+        ensures room { IsOk result ↔ ((A.keeper self.old.acts).numbers.generation < 2 ^ 62) }
+        ensures stamp { IfOk result (λ n. n ≡ (A.keeper self.old.acts).numbers.generation + 1) }
+        ensures raised { OnOk result (A.keeper self.new.acts
+            ≡ record (A.keeper self.old.acts) { numbers = generation_raised (A.keeper self.old.acts).numbers }) }
+        ensures logged { OnOk result (Logs self.old.history.entries self.new.history.entries (Entry.Did Act.Bump ∷ [])) }
+        ensures goes_on { OnOk result ((self.new.full ≡ false) ↔ ((self.old.full ≡ false)
+            × (vec_len self.old.entries < vec_capacity self.old.entries))) }
+        ensures marked { A.marked self.new.acts ≡ A.marked self.old.acts }
+        ensures made { A.made self.new.acts ≡ A.made self.old.acts }
+        ensures full { OnErr result (((A.keeper self.old.acts).numbers.generation ≡ 2 ^ 62)
+            × (A.keeper self.new.acts ≡ A.keeper self.old.acts)) }
+        ensures unlogged { OnErr result ((self.new.full ≡ self.old.full)
+            × (self.new.entries.items ≡ self.old.entries.items) × (self.new.history.entries ≡ self.old.history.entries)) }
+    {
+        let answer = self.acts.bump();
+        if answer.is_ok() {
+            self.record(Entry::Did(Act::Bump));
+        }
+        answer
+    }
+
+    fn look(&mut self) -> u64
+        ensures looked { HasLooked (A.keeper self.old.acts) (A.keeper self.new.acts) }
+        ensures least { result ≡ least_number (A.keeper self.new.acts).numbers }
+        ensures marked { A.marked self.new.acts ≡ A.marked self.old.acts }
+        ensures made { A.made self.new.acts ≡ A.made self.old.acts }
+        ensures logged { Logs self.old.history.entries self.new.history.entries (Entry.Did Act.Look ∷ []) }
+        ensures goes_on { (self.new.full ≡ false) ↔ ((self.old.full ≡ false)
+            × (vec_len self.old.entries < vec_capacity self.old.entries)) }
+    {
+        let least = self.acts.look();
+        self.record(Entry::Did(Act::Look));
+        least
+    }
+
+    fn meet(&mut self, pass: &mut Pass) {
+        self.acts.meet(pass);
+    }
+
+    fn generation(&self) -> u64 {
+        self.acts.generation()
+    }
+}

@@ -1,5 +1,0 @@
-use Rattle.std.proofs.Common.{sym}
-use Rattle.nc_region.proofs.plain.PlainOfActs.look.Goals as goal
-
-pub returns-clause-logged : goal.returns-clause-logged
-returns-clause-logged g c = rw (sym c.self.view_is) c.note.ensures

@@ -1,5 +1,0 @@
-use Rattle.std.proofs.Common.{rules}
-use Rattle.nc_region.proofs.plain.PlainOfActs.settle.Goals as goal
-
-pub returns-clause-logged : goal.returns-clause-logged
-returns-clause-logged g c = search rules
