@@ -6,11 +6,11 @@ use Rattle.std.proofs.lemmas.List.Sums.{sum_by_push, count_by-le-length}
 use Rattle.std.proofs.lemmas.List.FromFn.{length-range_with_len}
 use Rattle.nc_vet.specs.declared.fault.VetFault.{VetFault}
 use Rattle.nc_vet.specs.declared.fault.VetFault.TheVariants.{BadBase, BadLength, OutOfRange, NotPermitted, Crosses, Bare, BadTarget, OutOfMemory}
-use Rattle.nc_report.specs.declared.class.Class.{Class}
+use Rattle.nc_reading.specs.declared.class.Class.{Class}
 use Rattle.nc_report.specs.declared.totals.Counts.{Counts}
 use Rattle.nc_report.specs.Further.{fault_at}
 use Rattle.nc_report.specs.Totals.{is_crosses, is_not_permitted, is_bare, is_bad_target, counts_to, total}
-use Rattle.nc_report.specs.machinery.Seen.{counted}
+use Rattle.nc_report.specs.machinery.Totals.{counted}
 
 -- a range parts
 pub range_append : (a m n : ℕ) → range_with_len a (m + n) ≡ range_with_len a m ++ range_with_len (a + m) n

@@ -5,13 +5,13 @@ use Rattle.nc_vet.proofs.Offered.{flat_map-append}
 use Rattle.nc_vet.specs.declared.fault.VetFault.{VetFault}
 use Rattle.nc_output.specs.declared.detail.Format.{Format}
 use Rattle.nc_output.specs.declared.detail.Format.TheVariants.{Text, Json}
-use Rattle.nc_report.specs.declared.class.Class.{Class}
+use Rattle.nc_reading.specs.declared.class.Class.{Class}
+use Rattle.nc_reading.specs.Reading.{HasClasses}
 use Rattle.nc_report.specs.Objects.{NoMembers}
 use Rattle.nc_report.specs.Further.{fault_at, listed, others_at, others_to}
 use Rattle.nc_report.specs.Totals.{counts_to}
 use Rattle.nc_report.specs.Report.{heading, Shows, ShowsOne, Opens, TellsEach, TellsOthers, counts_text}
 use Rattle.nc_report.specs.machinery.Added.{Adds}
-use Rattle.nc_report.specs.machinery.Seen.{HasClasses}
 use Rattle.nc_report.proofs.ObjectTexts.{TellsObject}
 use Rattle.nc_report.proofs.Additions.{no_details}
 use Rattle.nc_report.proofs.CountedFaults.{range_append, range_to}

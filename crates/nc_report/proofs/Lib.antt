@@ -10,10 +10,7 @@ mod JsonShown
 mod CountedRuns
 mod Appended
 mod BitCounts
-mod ReadSteps
 mod OneWay
 mod CountedFaults
 mod TotalWords
 mod QuietPlaces
-mod QuickReading
-mod MarkBits

@@ -4,10 +4,10 @@ use Rattle.nc_decode.specs.declared.instruction.Instr.{Instr}
 use Rattle.nc_decode.specs.Spelling.{Spells, IsAtFront, IsProperFront}
 use Rattle.nc_decode.specs.Transfers.{is_indirect}
 use Rattle.nc_decode.proofs.Offered.{prefix_free}
-use Rattle.nc_report.specs.declared.steps.Found.{Found}
-use Rattle.nc_report.specs.declared.steps.Found.TheVariants.{Sound, Bare, Crosses, NotPermitted}
-use Rattle.nc_report.specs.declared.steps.Step.{Step}
-use Rattle.nc_report.specs.Reading.{Finds, IsStep, ReadsFrom, masked_by, extent, IsReadOneWay}
+use Rattle.nc_reading.specs.declared.steps.Found.{Found}
+use Rattle.nc_reading.specs.declared.steps.Found.TheVariants.{Sound, Bare, Crosses, NotPermitted}
+use Rattle.nc_reading.specs.declared.steps.Step.{Step}
+use Rattle.nc_reading.specs.Reading.{Finds, IsStep, ReadsFrom, masked_by, extent, IsReadOneWay}
 use Rattle.nc_vet.proofs.Offered.{one_at_front}
 
 -- the second of two lists whose parts are none is none

@@ -8,11 +8,12 @@ use Rattle.nc_decode.specs.Transfers.{is_direct, may_transfer, target}
 use Rattle.nc_decode.proofs.Offered.{exact, direct_begins, spells_some, true_or_false}
 use Rattle.nc_vet.specs.declared.fault.VetFault.{VetFault}
 use Rattle.nc_vet.specs.declared.fault.VetFault.TheVariants as vet
-use Rattle.nc_report.specs.declared.class.Class.{Class}
-use Rattle.nc_report.specs.declared.class.Class.TheVariants.{Inside, Skipped, Entry, Second, NotPermitted, Crosses, Bare}
+use Rattle.nc_reading.specs.declared.class.Class.{Class}
+use Rattle.nc_reading.specs.declared.class.Class.TheVariants.{Inside, Skipped, Entry, Second, NotPermitted, Crosses, Bare}
+use Rattle.nc_reading.specs.Quiet.{is_quiet}
 use Rattle.nc_report.specs.Further.{may_go, has_bad_target, fault_by, fault_at, listed, others_at, others_to}
 use Rattle.nc_report.specs.Totals.{counts_to}
-use Rattle.nc_report.specs.machinery.Seen.{is_quiet, counted}
+use Rattle.nc_report.specs.machinery.Totals.{counted}
 use Rattle.nc_report.proofs.CountedFaults.{counts_more}
 use Rattle.nc_report.proofs.FurtherTexts.{others_more}
 

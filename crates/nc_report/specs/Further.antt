@@ -7,8 +7,8 @@ use Rattle.nc_decode.specs.Front.{first_instruction}
 use Rattle.nc_decode.specs.Transfers.{is_direct, target}
 use Rattle.nc_vet.specs.declared.fault.VetFault.{VetFault}
 use Rattle.nc_vet.specs.declared.fault.VetFault.TheVariants as vet
-use Rattle.nc_report.specs.declared.class.Class.{Class}
-use Rattle.nc_report.specs.declared.class.Class.TheVariants.{Inside, Skipped, Entry, Second, NotPermitted, Crosses, Bare}
+use Rattle.nc_reading.specs.declared.class.Class.{Class}
+use Rattle.nc_reading.specs.declared.class.Class.TheVariants.{Inside, Skipped, Entry, Second, NotPermitted, Crosses, Bare}
 
 -- a direct transfer may target a byte of this class: not the inside of an instruction, and not the second half of a pair;
 -- skipped bytes pass, because nothing is known about them

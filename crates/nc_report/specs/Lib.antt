@@ -3,8 +3,6 @@ pub mod Labels
 pub mod Shown
 pub mod Outside
 pub mod Objects
-pub mod Lengths
-pub mod Reading
 pub mod Further
 pub mod Totals
 pub mod Report

@@ -14,12 +14,12 @@ use Rattle.nc_output.specs.declared.detail.Detail.TheVariants as detail
 use Rattle.nc_output.specs.declared.detail.Format.{Format}
 use Rattle.nc_output.specs.declared.detail.Format.TheVariants.{Text, Json}
 use Rattle.nc_output.specs.declared.detail.Style.{Style}
-use Rattle.nc_report.specs.declared.steps.Step.{Step}
+use Rattle.nc_reading.specs.declared.steps.Step.{Step}
+use Rattle.nc_reading.specs.Reading.{IsReading, classes_of}
 use Rattle.nc_report.specs.declared.totals.Counts.{Counts}
 use Rattle.nc_report.specs.Shown.{AreDetails, detail_line}
 use Rattle.nc_report.specs.Outside.{OutsideRow, AreCalls, rows_text}
 use Rattle.nc_report.specs.Objects.{InObject, IsJson, accepted_members, refused_members, fault_object}
-use Rattle.nc_report.specs.Reading.{IsReading, classes_of}
 use Rattle.nc_report.specs.Further.{others_to}
 use Rattle.nc_report.specs.Totals.{counts_to, totals_line, counts_member}
 

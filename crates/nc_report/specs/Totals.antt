@@ -5,7 +5,7 @@ use Rattle.std.specs.List.{count_by, range_with_len}
 use Rattle.std.specs.Fmt.{decimal}
 use Rattle.nc_vet.specs.declared.fault.VetFault.{VetFault}
 use Rattle.nc_vet.specs.declared.fault.VetFault.TheVariants.{NotPermitted, Crosses, Bare, BadTarget}
-use Rattle.nc_report.specs.declared.class.Class.{Class}
+use Rattle.nc_reading.specs.declared.class.Class.{Class}
 use Rattle.nc_report.specs.declared.totals.Counts.{Counts}
 use Rattle.nc_report.specs.Further.{fault_at}
 

@@ -1,8 +1,7 @@
--- Machinery of the proofs, cited by no public contract: what was read, added and written so far.
+-- Machinery of the proofs, cited by no public contract: what was added, counted and written so far.
 pub mod Added
 pub mod Found
 pub mod Counts
 pub mod Runs
-pub mod Seen
+pub mod Totals
 pub mod Texts
-pub mod Quick

@@ -3,12 +3,11 @@
 ghost use Rattle.std.specs.Prelude.{◌≡◌, ◌≤◌, ◌<◌, ◌+◌, ◌%◌, ◌^◌, length};
 
 use crate::advice::words_about;
-use crate::class::{Class, class_at};
-use crate::further::is_begun;
+use crate::further::{class_at, is_begun};
 use crate::judged::Judged;
-use crate::steps::read_classes;
 use crate::targets::{Target, target_inside, target_of, target_outside};
 use nc_decode::BUNDLE;
+use nc_reading::{Class, read_classes};
 use nc_vet::VetFault;
 use std::alloc::{AllocError, Global};
 

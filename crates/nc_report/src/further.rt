@@ -1,12 +1,23 @@
 //! The faults that the reading of a refused chunk finds.
 
-ghost use Rattle.std.specs.Prelude.{◌≡◌, ◌<◌, ◌+◌, ◌^◌, length};
+ghost use Rattle.std.specs.Prelude.{◌≡◌, ◌<◌, ◌+◌, ◌^◌, length, get_or};
 ghost use Rattle.nc_decode.specs.Front.{first_instruction};
 ghost use Rattle.nc_report.specs.Further.{is_open, is_begun, may_go, has_bad_target, fault_by, fault_at};
 
-use crate::class::{Class, class_at};
 use nc_decode::{decode, is_bundle_start};
+use nc_reading::Class;
 use nc_vet::VetFault;
+
+/// The class of a byte; after the last byte, `Inside`.
+pub(crate) fn class_at(classes: &[Class], k: usize) -> Class
+    ensures { result ≡ get_or classes.now k Class.Inside }
+{
+    if k < classes.len() {
+        classes[k]
+    } else {
+        Class::Inside
+    }
+}
 
 /// A direct transfer may target a byte of this class. Skipped bytes pass, because nothing is known about them.
 fn is_open(class: Class) -> bool

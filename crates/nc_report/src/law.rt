@@ -1,8 +1,8 @@
 //! The laws of readings and of objects.
 
 ghost use Rattle.std.specs.Prelude.{ℕ, List};
+ghost use Rattle.nc_reading.specs.Reading.{IsReadOneWay};
 ghost use Rattle.nc_report.specs.Objects.{Part, IsJson};
-ghost use Rattle.nc_report.specs.Reading.{IsReadOneWay};
 ghost use Rattle.nc_report.specs.Shown.{IsShown};
 
 /// Code has only one reading, so the code, the base and the limit determine which further faults are reported, and their numbers.

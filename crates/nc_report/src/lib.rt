@@ -10,17 +10,14 @@
 //! as lines, and `listing` its bundle as code. `saying` adds words that stand alone, as a line or as a member. No clause says which
 //! words these are; each line passes through `shown`, which leaves no control byte in it.
 //!
-//! All faults of a refused chunk are found by one reading of it: `steps` reads it past its faults, with the lengths from
-//! `lengths`, and gives a `class` for each byte; `quick` reads bundles without a fault, four at a time. `candidates` finds the places
-//! that may have a fault, `further` the faults by the classes, `others` writes the lines about each fault, and `totals` those about
-//! their numbers.
+//! All faults of a refused chunk are found by one reading of it: `nc_reading` gives a class for each byte, and passes over places
+//! that have no fault. `further` finds the faults by the classes, `others` writes the lines about each fault, and `totals` those
+//! about their numbers.
 //!
 //! A source may have [`Labels`], names for addresses of its code: `labels` finds the nearest one at or below an address.
 #![tactic(auto)]
 
 mod advice;
-mod candidates;
-mod class;
 mod counting;
 mod explaining;
 mod fault;
@@ -32,18 +29,15 @@ mod judged;
 mod kind;
 mod labels;
 mod law;
-mod lengths;
 mod listing;
 mod numbers;
 mod objects;
 mod others;
 mod outside;
-mod quick;
 mod reporting;
 mod saying;
 mod shown;
 mod source;
-mod steps;
 mod strings;
 mod targets;
 mod telling;

@@ -2,11 +2,11 @@
 
 ghost use Rattle.std.specs.Prelude.{◌≤◌, ◌<◌, ◌+◌, ◌^◌, length};
 
-use crate::class::{Class, class_at};
-use crate::further::is_begun;
+use crate::further::{class_at, is_begun};
 use crate::judged::Judged;
 use crate::words::{BEYOND_REGION, IN_ZONE, INSIDE, OUTSIDE_CODE, SECOND_HALF};
 use nc_decode::{START, decode};
+use nc_reading::Class;
 use nc_vet::VetFault;
 
 /// The length of a mask, in bytes.

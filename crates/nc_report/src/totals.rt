@@ -6,14 +6,14 @@ ghost use Rattle.nc_report.specs.Shown.{detail_line};
 ghost use Rattle.nc_report.specs.Report.{Shows, counts_text};
 ghost use Rattle.nc_report.specs.Totals.{total, kinds_from, totals_line};
 ghost use Rattle.nc_report.specs.machinery.Added.{Adds};
-ghost use Rattle.nc_report.specs.machinery.Seen.{counted, kind_words};
+ghost use Rattle.nc_report.specs.machinery.Totals.{counted, kind_words};
 
-use crate::class::{Class, class_at};
-use crate::further::is_begun;
+use crate::further::{class_at, is_begun};
 use crate::numbers::{choose, push_all, push_text};
 use crate::saying::push_said;
 use nc_decode::BUNDLE;
 use nc_output::Format;
+use nc_reading::Class;
 use nc_vet::VetFault;
 use std::alloc::{AllocError, Global};
 

@@ -1,0 +1,3 @@
+mod ReadSteps
+mod QuickReading
+mod MarkBits

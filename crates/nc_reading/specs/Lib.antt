@@ -1,0 +1,4 @@
+pub mod machinery
+pub mod Lengths
+pub mod Reading
+pub mod Quiet

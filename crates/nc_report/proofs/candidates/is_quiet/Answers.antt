@@ -1,5 +1,0 @@
-use Rattle.std.proofs.Common.{rules}
-use Rattle.nc_report.proofs.candidates.is_quiet.Goals as goal
-
-pub returns : goal.returns
-returns c = search rules
