@@ -4,7 +4,6 @@ pub mod Attended
 pub mod PatchPlaces
 pub mod OneChunk
 pub mod Pointers
-pub mod writing
 pub mod Offered
 pub mod Reporting
 pub mod RunsPending

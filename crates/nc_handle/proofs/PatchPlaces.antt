@@ -7,7 +7,7 @@ use Rattle.nc_list.specs.declared.chunk.Chunk.{Chunk}
 use Rattle.nc_region.specs.Region.{Region, IsRegion}
 use Rattle.nc_region.specs.Patch.{IsPatch}
 use Rattle.nc_region.proofs.Offered.{each_get}
-use Rattle.nc_handle.specs.machinery.Standing.{AreBytesAt}
+use Rattle.nc_entries.specs.Standing.{AreBytesAt}
 use Rattle.nc_handle.specs.machinery.Window.{HoldsText}
 
 pub record LiesIn (text : List ℕ) (at len : ℕ) : Type 0 where

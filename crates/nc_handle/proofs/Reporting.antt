@@ -21,8 +21,8 @@ use Rattle.nc_region.specs.Deletion.{freed, unmarkings}
 use Rattle.nc_region.specs.Region.{IsCreated}
 use Rattle.nc_calls.specs.Calls.{Details, no_details, span_from, reclaim_events, events_of_entry, events_of_log, delete_events}
 use Rattle.nc_calls.specs.Histories.{Creates, Patches, Reclaims}
-use Rattle.nc_handle.specs.declared.acts.act.NcAct.{NcAct}
-use Rattle.nc_handle.specs.acts.Shown.{entry_of}
+use Rattle.nc_entries.specs.declared.act.NcAct.{NcAct}
+use Rattle.nc_entries.specs.Shown.{entry_of}
 use Rattle.nc_handle.specs.Lent.{IsReported}
 use Rattle.nc_handle.specs.RegionHandle.{RegionHandleState, HasBegun, HasEnded, HasReclaimed, meetings}
 use Rattle.nc_handle.specs.Pending.{events_pending_by, events_pending, IsHandleCall, Changes, Begins, Ends, ReportsPending, IsLibrarys, DoesItself}

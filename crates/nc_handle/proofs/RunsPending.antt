@@ -13,9 +13,9 @@ use Rattle.nc_acts.specs.declared.acts.Entry.TheVariants.{Did, Settled}
 use Rattle.nc_acts.specs.Acts.{is_inside, is_start, is_marked_at, is_unmarked_at}
 use Rattle.nc_acts.specs.Log.{unsettled, log_of_create, log_of_delete}
 use Rattle.nc_calls.specs.Calls.{Details, no_details, events_of_log, create_events, delete_events}
-use Rattle.nc_handle.specs.declared.acts.act.NcAct.{NcAct}
-use Rattle.nc_handle.specs.acts.Runs.{Run, Single, PutRun, StopRun, run_of, puts_by_bits, entries_of, entries_in, bits_at, runs_where, runs_of_create}
-use Rattle.nc_handle.specs.acts.Runs.{runs_of_delete, HasRuns}
+use Rattle.nc_entries.specs.declared.act.NcAct.{NcAct}
+use Rattle.nc_entries.specs.Runs.{Run, Single, PutRun, StopRun, run_of, puts_by_bits, entries_of, entries_in, bits_at, runs_where, runs_of_create}
+use Rattle.nc_entries.specs.Runs.{runs_of_delete, HasRuns}
 use Rattle.nc_handle.specs.Pending.{puts_pending, events_pending_by, events_pending}
 use Rattle.nc_handle.proofs.Reporting.{due_append, events_append, map_append}
 

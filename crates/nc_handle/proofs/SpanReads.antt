@@ -9,7 +9,7 @@ use Rattle.nc_vet.specs.Chunk.{MarkedChunk, IsValid}
 use Rattle.nc_vet.specs.Faults.{HasGoodSpan}
 use Rattle.nc_region.specs.Region.{Region, IsCreated}
 use Rattle.nc_acts.specs.Log.{log_of_create}
-use Rattle.nc_handle.specs.declared.acts.act.NcAct.{NcAct}
+use Rattle.nc_entries.specs.declared.act.NcAct.{NcAct}
 use Rattle.nc_handle.specs.RegionHandle.{IsShort}
 use Rattle.nc_handle.specs.Lent.{IsReported, bytes_of_span}
 

@@ -1,8 +1,8 @@
 -- The contents of a buffer that may have been lent.
 use Rattle.std.specs.Prelude.{◌≡◌, ℕ, ◌-◌, ◌<◌, List, length, map, take, drop}
 use Rattle.nc_acts.specs.declared.acts.Entry.{Entry}
-use Rattle.nc_handle.specs.declared.acts.act.NcAct.{NcAct}
-use Rattle.nc_handle.specs.acts.Shown.{entry_of, over}
+use Rattle.nc_entries.specs.declared.act.NcAct.{NcAct}
+use Rattle.nc_entries.specs.Shown.{entry_of, over}
 
 -- A lent buffer begins with exactly the entries of this log, and is as before beyond them; the count is their number. If
 -- none is lent, the count is 0. An entry is three numbers: 1, address and byte for a put; 2, address and length for a marked span; 3 for a

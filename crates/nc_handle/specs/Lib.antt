@@ -1,5 +1,4 @@
 pub mod machinery
-pub mod acts
 pub mod Lent
 pub mod RunCalls
 pub mod RegionHandle

@@ -6,7 +6,7 @@ use Rattle.nc_list.specs.declared.chunk.Chunk.{Chunk}
 use Rattle.nc_region.specs.schedules.Events.{Event, Puts, Settles, Marks, Retires, Frees, Looks}
 use Rattle.nc_calls.specs.Calls.{delete_events}
 use Rattle.nc_calls.specs.Histories.{IsCall}
-use Rattle.nc_handle.specs.declared.acts.act.NcAct.{NcAct}
+use Rattle.nc_entries.specs.declared.act.NcAct.{NcAct}
 use Rattle.nc_handle.specs.RegionHandle.{RegionHandleState, HasBegun, HasEnded}
 
 -- the stores of these bytes, from this address on in ascending order, at the places whose bits are set; the lowest bit is

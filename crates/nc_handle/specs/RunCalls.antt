@@ -3,8 +3,8 @@ use Rattle.std.specs.Prelude.{◌≡◌, ℕ, ◌+◌, ◌*◌, ◌/◌, ◌<◌
 use Rattle.nc_list.specs.declared.chunk.Chunk.{Chunk}
 use Rattle.nc_region.specs.Deletion.{HasLive}
 use Rattle.nc_acts.specs.Log.{log_of_create, log_of_delete}
-use Rattle.nc_handle.specs.declared.acts.act.NcAct.{NcAct}
-use Rattle.nc_handle.specs.acts.Runs.{runs_of_create, runs_of_delete, HasRuns}
+use Rattle.nc_entries.specs.declared.act.NcAct.{NcAct}
+use Rattle.nc_entries.specs.Runs.{runs_of_create, runs_of_delete, HasRuns}
 use Rattle.nc_handle.specs.declared.fault.RunsFault.{RunsFault}
 use Rattle.nc_handle.specs.declared.fault.RunsFault.TheVariants.{NoChunk, NoRoom}
 use Rattle.nc_handle.specs.RegionHandle.{RegionHandleState, IsLiveAt}

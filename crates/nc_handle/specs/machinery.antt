@@ -1,8 +1,4 @@
 -- Definitions that only private contracts cite, and what the C structs with a pointer own.
-pub mod Standing
-pub mod Written
-pub mod Writing
-pub mod Running
 pub mod Attending
 pub mod Window
 pub mod Pointer

@@ -9,10 +9,9 @@
 //! C holds each of them by a struct with one pointer to a box: [`NcRegion`], [`NcSeat`] and [`NcVetted`].
 //!
 //! An [`NcAct`] is an entry of the log by which `nc_region` changes a text. The calls of a `RegionHandle` write such a log into a
-//! buffer that the host lends.
+//! buffer that the host lends, by the writers of `nc_entries`.
 #![tactic(auto)]
 
-mod acts;
 mod attending;
 mod fault;
 mod parts;
@@ -30,8 +29,8 @@ mod vetted_handle;
 mod vetted_pointer;
 mod window;
 
-pub use acts::NcAct;
 pub use fault::{LoadFault, NewFault, PatchFault, RetireFault, RunsFault, SeatFault};
+pub use nc_entries::NcAct;
 pub use region_handle::RegionHandle;
 pub use region_pointer::NcRegion;
 pub use seat_handle::SeatHandle;

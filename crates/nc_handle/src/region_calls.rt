@@ -9,16 +9,16 @@ ghost use Rattle.nc_region.specs.Patch.{AreBytesOf, IsModified, IsPatch, log_of_
 ghost use Rattle.nc_region.specs.Region.{IsCreated, Meets};
 ghost use Rattle.nc_calls.specs.Calls.{no_details};
 ghost use Rattle.nc_calls.specs.Histories.{LogsCall};
-ghost use Rattle.nc_handle.specs.machinery.Standing.{AreBytesAt};
+ghost use Rattle.nc_entries.specs.Standing.{AreBytesAt};
 ghost use Rattle.nc_handle.specs.RegionHandle.{IsLiveAt, IsShort, IsShortForPatch, HasBegun, HasEnded, IsNotLoaded, MayRefuseBegin, MayRefuseLoad, MayRefuseModify};
 ghost use Rattle.nc_handle.specs.Pending.{ReportsPending, DoesItself};
 ghost use Rattle.nc_handle.specs.Lent.{IsReported, bytes_of_span};
 
-use crate::acts::{NcAct, write_creation, write_deletion, write_patch};
 use crate::fault::{LoadFault, PatchFault, RetireFault};
 use crate::region_handle::RegionHandle;
 use crate::span::Span;
 use crate::window::read_window;
+use nc_entries::{NcAct, write_creation, write_deletion, write_patch};
 use nc_gens::LAST_GENERATION;
 use nc_region::{Acts, Chunk, DeleteFault};
 use nc_vet::Vetted;

@@ -3,15 +3,15 @@
 ghost use Rattle.std.specs.Prelude.{◌≡◌, ◌≤◌, Some, IfOk, IfErr, OnErr, length};
 ghost use Rattle.nc_list.specs.declared.chunk.Chunk.{Chunk};
 ghost use Rattle.nc_acts.specs.Log.{log_of_create, log_of_delete};
-ghost use Rattle.nc_handle.specs.acts.Runs.{runs_of_create, runs_of_delete, HasRuns};
+ghost use Rattle.nc_entries.specs.Runs.{runs_of_create, runs_of_delete, HasRuns};
 ghost use Rattle.nc_handle.specs.RegionHandle.{IsLiveAt};
 ghost use Rattle.nc_handle.specs.RunCalls.{runs_of, AreCreationRuns, AreDeletionRuns, MayRefuseCreationRuns, MayRefuseDeletionRuns};
 ghost use Rattle.nc_handle.specs.Lent.{bytes_of_span};
 
-use crate::acts::{NcAct, write_creation_runs, write_deletion_runs};
 use crate::fault::RunsFault;
 use crate::region_handle::RegionHandle;
 use crate::span::Span;
+use nc_entries::{NcAct, write_creation_runs, write_deletion_runs};
 
 /// The number of runs for a chunk of this many bytes.
 fn runs_of(length: u32) -> usize

@@ -3,8 +3,8 @@
 ghost use Rattle.nc_text.specs.Places.{limit_of};
 ghost use Rattle.nc_vet.specs.Faults.{HasGoodSpan};
 
-use crate::acts::ReadChunk;
 use crate::region_handle::Owned;
+use nc_entries::ReadChunk;
 use nc_region::{Acts, RegionOf};
 
 /// A span of a region that holds a chunk.

@@ -1,7 +1,7 @@
 //! Walks through a region's text, written into a host's buffer.
 
 ghost use Rattle.std.specs.Prelude.{◌≡◌, ◌<◌, ◌≤◌, ◌⊎◌, None, Some, length};
-ghost use Rattle.nc_handle.specs.acts.Shown.{over};
+ghost use Rattle.nc_entries.specs.Shown.{over};
 ghost use Rattle.nc_handle.specs.RegionHandle.{RegionHandleState};
 ghost use Rattle.nc_host.specs.Walked.{end_number, no_walk, IsShownWalk, MayRefuseShownWalk};
 

@@ -10,8 +10,8 @@ use Rattle.nc_region.specs.Region.{Region, live_chunk}
 use Rattle.nc_calls.specs.Calls.{delete_events}
 use Rattle.nc_calls.specs.Histories.{Creates}
 use Rattle.nc_calls.proofs.Offered.{still_created}
-use Rattle.nc_handle.specs.declared.acts.act.NcAct.{NcAct}
-use Rattle.nc_handle.specs.acts.Runs.{runs_of_create, HasRuns}
+use Rattle.nc_entries.specs.declared.act.NcAct.{NcAct}
+use Rattle.nc_entries.specs.Runs.{runs_of_create, HasRuns}
 use Rattle.nc_handle.specs.RegionHandle.{RegionHandleState, IsLiveAt, HasBegun, HasLoaded}
 use Rattle.nc_handle.specs.RunCalls.{AreCreationRuns, AreDeletionRuns}
 use Rattle.nc_handle.specs.Lent.{bytes_of_span}

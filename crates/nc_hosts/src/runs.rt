@@ -3,7 +3,7 @@
 ghost use Rattle.std.specs.Prelude.{◌≡◌, ℕ, List, Some, take};
 ghost use Rattle.nc_vet.specs.Chunk.{MarkedChunk, IsValid};
 ghost use Rattle.nc_list.specs.declared.chunk.Chunk.{Chunk};
-ghost use Rattle.nc_handle.specs.declared.acts.act.NcAct.{NcAct};
+ghost use Rattle.nc_entries.specs.declared.act.NcAct.{NcAct};
 ghost use Rattle.nc_handle.specs.RegionHandle.{RegionHandleState, IsLiveAt, HasBegun, HasLoaded};
 ghost use Rattle.nc_handle.specs.RunCalls.{AreCreationRuns, AreDeletionRuns};
 ghost use Rattle.nc_handle.specs.Pending.{IsHandleCall, events_pending};

@@ -1,7 +1,7 @@
 use Rattle.std.proofs.Common.{◌+◌, ℕ, length, refl, arith, sym, subst, ◌∙◌}
 use Rattle.std.proofs.lemmas.Bool.{eqb-false}
 use Rattle.nc_acts.specs.Log.{log_of_delete}
-use Rattle.nc_handle.specs.machinery.Written.{HasWritten}
+use Rattle.nc_entries.specs.Written.{HasWritten}
 use Rattle.nc_handle.proofs.SpanReads.{span_long, span_high, span_whole, span_room}
 use Rattle.nc_handle.proofs.region_calls.report_deletion.Goals as goal
 

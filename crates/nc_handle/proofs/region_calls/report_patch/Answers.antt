@@ -1,7 +1,7 @@
 use Rattle.std.proofs.Common.{◌+◌, ◌<◌, ℕ, [], length, refl, arith, sym, subst, ◌∙◌}
 use Rattle.std.proofs.lemmas.Bool.{eqb-false}
 use Rattle.nc_region.specs.Patch.{log_of_modify}
-use Rattle.nc_handle.specs.machinery.Written.{HasWritten, Adds}
+use Rattle.nc_entries.specs.Written.{HasWritten, Adds}
 use Rattle.nc_handle.proofs.region_calls.report_patch.Goals as goal
 
 pub returns : goal.returns

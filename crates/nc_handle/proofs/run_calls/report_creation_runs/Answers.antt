@@ -1,6 +1,6 @@
 use Rattle.std.proofs.Common.{◌+◌, ◌*◌, ◌/◌, ℕ, subst}
 use Rattle.nc_acts.specs.Log.{log_of_create}
-use Rattle.nc_handle.specs.acts.Runs.{HasRuns, runs_of_create}
+use Rattle.nc_entries.specs.Runs.{HasRuns, runs_of_create}
 use Rattle.nc_handle.specs.Lent.{bytes_of_span}
 use Rattle.nc_handle.proofs.SpanReads.{span_long, span_high, span_whole, span_runs}
 use Rattle.nc_handle.proofs.run_calls.report_creation_runs.Goals as goal
