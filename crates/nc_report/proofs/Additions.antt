@@ -1,26 +1,14 @@
 -- Texts that are added one after the other, and prefixes of them that are written.
-use Rattle.std.proofs.Common.{◌≡◌, ℕ, Bool, true, List, [], ◌∷◌, ◌++◌, take, drop, refl, sym, subst, ◌∙◌, ap, append_assoc, append-nil, Option, inl, inr, ◌&&◌, ◌⊎◌, take-append-drop}
+use Rattle.std.proofs.Common.{◌≡◌, ℕ, Bool, List, [], ◌++◌, take, drop, refl, sym, subst, ◌∙◌, ap, append_assoc, append-nil, Option, inl, inr, ◌⊎◌, take-append-drop}
 use Rattle.std.specs.List.{flat_map, list_all}
 use Rattle.std.specs.Io.KnownBytes.{Appends}
 use Rattle.std.proofs.KnownBytes.{Appends-trans, Appends-nil}
-use Rattle.std.proofs.lemmas.List.Folds.{list_all-append}
 use Rattle.nc_vet.proofs.Offered.{flat_map-append}
-use Rattle.nc_report.specs.Shown.{is_shown, IsShown, detail_line, AreDetails}
+use Rattle.nc_output.proofs.Offered.{all_both, adds_both}
+use Rattle.nc_output.specs.Shown.{is_shown, detail_line, AreDetails}
 use Rattle.nc_report.specs.Report.{HasWritten, HasBegun}
-use Rattle.nc_report.specs.machinery.Added.{Adds, After, WritesOn}
-
--- what two lists pass, both together pass
-pub all_both : {X : Type 0} (p : X → Bool) (a b : List X) → list_all p a ≡ true → list_all p b ≡ true → list_all p (a ++ b) ≡ true
-all_both p a b e f = list_all-append p a b ∙ ap (λ (x : Bool). x && list_all p b) e ∙ f
-
--- text was added twice
-adds_both : (P Q R : List ℕ → Type 0) (old mid new : List ℕ) → ((a b : List ℕ) → P a → Q b → R (a ++ b)) → Adds old mid P → Adds mid new Q
-    → Adds old new R
-adds_both P Q R old mid new f a b = record {
-  text = a.text ++ b.text;
-  says = f a.text b.text a.says b.says;
-  added = b.added ∙ ap (λ (z : List ℕ). z ++ b.text) a.added ∙ append_assoc old a.text b.text;
-}
+use Rattle.nc_output.specs.Adds.{Adds}
+use Rattle.nc_report.specs.machinery.Added.{After, WritesOn}
 
 -- nothing was added
 pub adds_none : (P : List ℕ → Type 0) (old : List ℕ) → P [] → Adds old old P
@@ -41,23 +29,6 @@ two_details a b d e = record {
 
 pub details_both : (old mid new : List ℕ) → Adds old mid AreDetails → Adds mid new AreDetails → Adds old new AreDetails
 details_both old mid new = adds_both AreDetails AreDetails AreDetails old mid new two_details
-
--- shown text after other shown text
-pub shown_both : (old mid new : List ℕ) → Adds old mid IsShown → Adds mid new IsShown → Adds old new IsShown
-shown_both old mid new = adds_both IsShown IsShown IsShown old mid new (all_both is_shown)
-
--- a line
-pub line_details : (old start mid new : List ℕ) → start ≡ old ++ 32 ∷ 32 ∷ [] → Adds start mid IsShown → new ≡ mid ++ 10 ∷ []
-    → Adds old new AreDetails
-line_details old start mid new e a f = record {
-  text = detail_line a.text;
-  says = record {
-    lines = a.text ∷ [];
-    shown = ap (λ (b : Bool). b && true) a.says;
-    is = sym (append-nil (detail_line a.text));
-  };
-  added = simp (f, a.added, e, append_assoc);
-}
 
 -- nothing was added or written
 pub writes_none : (before : Option (List ℕ)) (out : List ℕ) (P : List ℕ → Type 0) → P [] → WritesOn before before out out P

@@ -11,7 +11,7 @@ use Rattle.nc_report.specs.Objects.{NoMembers}
 use Rattle.nc_report.specs.Further.{fault_at, listed, others_at, others_to}
 use Rattle.nc_report.specs.Totals.{counts_to}
 use Rattle.nc_report.specs.Report.{heading, Shows, ShowsOne, Opens, TellsEach, TellsOthers, counts_text}
-use Rattle.nc_report.specs.machinery.Added.{Adds}
+use Rattle.nc_output.specs.Adds.{Adds}
 use Rattle.nc_report.proofs.ObjectTexts.{TellsObject}
 use Rattle.nc_report.proofs.Additions.{no_details}
 use Rattle.nc_report.proofs.CountedFaults.{range_append, range_to}

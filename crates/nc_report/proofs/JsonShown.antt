@@ -8,9 +8,10 @@ use Rattle.std.proofs.lemmas.List.Folds.{list_all-append}
 use Rattle.std.proofs.lemmas.List.Sums.{AllPass-from_list_all}
 use Rattle.std.proofs.lemmas.List.FromFn.{get_or-range_with_len}
 use Rattle.hex.specs.Hex.{encode_with}
-use Rattle.nc_report.specs.Shown.{is_shown, IsShown}
-use Rattle.nc_report.specs.Objects.{Part, Whole, InObject, InArray, escaped, string_of, IsJson, Quoted, Braced, Bracketed, NoMembers, Member, NoElements, Element}
-use Rattle.nc_report.proofs.ObjectTexts.{escaped_plain}
+use Rattle.nc_output.specs.Shown.{is_shown, IsShown}
+use Rattle.nc_report.specs.Objects.{Part, Whole, InObject, InArray, IsJson, Quoted, Braced, Bracketed, NoMembers, Member, NoElements, Element}
+use Rattle.nc_output.specs.Strings.{escaped, string_of}
+use Rattle.nc_output.proofs.Offered.{escaped_plain}
 
 -- a byte below 80, once escaped, has no control byte
 low : (b : ℕ) → b < 128 → IsShown (escaped b)

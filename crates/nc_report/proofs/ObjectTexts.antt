@@ -1,15 +1,11 @@
 -- Objects, written part after part.
-use Rattle.std.proofs.Common.{◌≡◌, ◌≢◌, ◌≤◌, arith, ℕ, List, [], ◌∷◌, ◌++◌, append_assoc, append-nil, codes, flat_map}
-use Rattle.std.proofs.lemmas.Bool.Decides.{nat_tests}
+use Rattle.std.proofs.Common.{◌≡◌, ℕ, List, [], ◌++◌, append_assoc, append-nil, codes, flat_map}
 use Rattle.nc_vet.specs.declared.fault.VetFault.{VetFault}
 use Rattle.nc_output.specs.Verdicts.{with_line_end}
 use Rattle.nc_output.specs.declared.detail.Format.TheVariants.{Json}
-use Rattle.nc_report.specs.Objects.{escaped, file_member, string_member, fault_object, file_object}
+use Rattle.nc_output.specs.Strings.{escaped}
+use Rattle.nc_report.specs.Objects.{file_member, string_member, fault_object, file_object}
 use Rattle.nc_report.specs.Report.{ShowsOne}
-
--- a byte that stands for itself
-pub escaped_plain : (byte : ℕ) → byte ≢ 0x22 → byte ≢ 0x5C → 0x20 ≤ byte → byte ≢ 0x7F → escaped byte ≡ byte ∷ []
-escaped_plain byte quoted slashed low high = grind (arith, nat_tests)
 
 -- the bytes of a string, escaped
 abbrev pub inner : List ℕ → List ℕ

@@ -8,7 +8,8 @@ use Rattle.nc_output.specs.declared.detail.Detail.TheVariants.{Brief, Usual, Cal
 use Rattle.nc_output.specs.declared.detail.Detail.TheVariants as detail
 use Rattle.nc_output.specs.declared.detail.Style.{Style}
 use Rattle.nc_report.specs.Report.{refused_text, Shows, TellsFault, TellsMore, end_of, TellsRefused}
-use Rattle.nc_report.specs.machinery.Added.{Adds, WritesOn}
+use Rattle.nc_output.specs.Adds.{Adds}
+use Rattle.nc_report.specs.machinery.Added.{WritesOn}
 use Rattle.nc_report.proofs.Additions.{writes_after}
 
 -- the verdict and what is shown about the fault were added

@@ -1,6 +1,5 @@
 pub mod machinery
 pub mod Labels
-pub mod Shown
 pub mod Outside
 pub mod Objects
 pub mod Further

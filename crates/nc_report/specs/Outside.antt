@@ -12,8 +12,9 @@ use Rattle.nc_output.specs.declared.detail.Detail.{Detail}
 use Rattle.nc_output.specs.declared.detail.Detail.TheVariants.{Calls}
 use Rattle.nc_output.specs.declared.detail.Format.{Format}
 use Rattle.nc_output.specs.declared.detail.Format.TheVariants.{Text, Json}
-use Rattle.nc_report.specs.Shown.{detail_line}
-use Rattle.nc_report.specs.Objects.{string_of, member, array_of}
+use Rattle.nc_output.specs.Shown.{detail_line}
+use Rattle.nc_output.specs.Strings.{string_of}
+use Rattle.nc_report.specs.Objects.{member, array_of}
 
 -- the address isn't one of the `len` addresses from the base on
 abbrev pub is_outside : ℕ → ℕ → ℕ → Bool

@@ -17,7 +17,7 @@ use Rattle.nc_output.specs.declared.detail.Style.{Style}
 use Rattle.nc_reading.specs.declared.steps.Step.{Step}
 use Rattle.nc_reading.specs.Reading.{IsReading, classes_of}
 use Rattle.nc_report.specs.declared.totals.Counts.{Counts}
-use Rattle.nc_report.specs.Shown.{AreDetails, detail_line}
+use Rattle.nc_output.specs.Shown.{AreDetails, detail_line}
 use Rattle.nc_report.specs.Outside.{OutsideRow, AreCalls, rows_text}
 use Rattle.nc_report.specs.Objects.{InObject, IsJson, accepted_members, refused_members, fault_object}
 use Rattle.nc_report.specs.Further.{others_to}

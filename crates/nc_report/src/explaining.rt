@@ -1,15 +1,15 @@
 //! The lines about a fault: the name of its address, its bundle, the target of a refused transfer, and what the fault means.
 
 ghost use Rattle.std.specs.Prelude.{OnOk};
-ghost use Rattle.nc_report.specs.Shown.{AreDetails};
-ghost use Rattle.nc_report.specs.machinery.Added.{Adds};
+ghost use Rattle.nc_output.specs.Shown.{AreDetails};
+ghost use Rattle.nc_output.specs.Adds.{Adds};
 
 use crate::finding::Finding;
 use crate::labels::Labels;
 use crate::listing::push_listing;
 use crate::numbers::address_digits;
-use crate::shown::push_detail;
 use crate::targets::Target;
+use nc_output::push_detail;
 use std::alloc::{AllocError, Global};
 
 /// The offset of an address from its label, as text.

@@ -2,10 +2,10 @@
 
 ghost use Rattle.std.specs.Prelude.{◌≡◌, drop, IfOk, OnOk};
 ghost use Rattle.nc_report.specs.Objects.{InObject, InArray, IsJson};
-ghost use Rattle.nc_report.specs.machinery.Added.{Adds};
+ghost use Rattle.nc_output.specs.Adds.{Adds};
 
 use crate::numbers::push_text;
-use crate::strings::push_between;
+use nc_output::push_between;
 use std::alloc::{AllocError, Global};
 
 /// The text without its first byte, if it has one: parts without the comma before the first.

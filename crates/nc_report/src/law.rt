@@ -3,7 +3,7 @@
 ghost use Rattle.std.specs.Prelude.{ℕ, List};
 ghost use Rattle.nc_reading.specs.Reading.{IsReadOneWay};
 ghost use Rattle.nc_report.specs.Objects.{Part, IsJson};
-ghost use Rattle.nc_report.specs.Shown.{IsShown};
+ghost use Rattle.nc_output.specs.Shown.{IsShown};
 
 /// Code has only one reading, so the code, the base and the limit determine which further faults are reported, and their numbers.
 /// A call does nothing.

@@ -2,13 +2,13 @@
 //!
 //! [`read_source`] reads a file's bytes, and [`report`] vets such a source and writes the report on it. Both are generic over the
 //! reader or the writer, so that their contracts can name the bytes. In text, the first line of a report is the verdict, and the
-//! lines after it begin with two spaces; `objects` writes JSON instead, by `json` and `strings`, and `outside` lists the addresses
-//! outside accepted code that its direct transfers target.
+//! lines after it begin with two spaces; `objects` writes JSON instead, by `json`, and `outside` lists the addresses outside
+//! accepted code that its direct transfers target.
 //!
 //! `telling` writes the report, and `counting` counts the instructions in a valid chunk. A `finding` is what is shown about a
 //! fault: its bundle, the target of a refused transfer by `targets`, and what the fault means by `advice`. `explaining` writes it
 //! as lines, and `listing` its bundle as code. `saying` adds words that stand alone, as a line or as a member. No clause says which
-//! words these are; each line passes through `shown`, which leaves no control byte in it.
+//! words these are; each line is added by `push_detail` of `nc_output`, which leaves no control byte in it.
 //!
 //! All faults of a refused chunk are found by one reading of it: `nc_reading` gives a class for each byte, and passes over places
 //! that have no fault. `further` finds the faults by the classes, `others` writes the lines about each fault, and `totals` those
@@ -36,9 +36,7 @@ mod others;
 mod outside;
 mod reporting;
 mod saying;
-mod shown;
 mod source;
-mod strings;
 mod targets;
 mod telling;
 mod totals;

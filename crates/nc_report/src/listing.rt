@@ -1,14 +1,14 @@
 //! The bundle of a fault, read as code: a line for each instruction, with its address, its bytes and its name.
 
 ghost use Rattle.std.specs.Prelude.{◌≡◌, ◌≤◌, ◌<◌, ◌+◌, ◌-◌, true, length, OnOk};
-ghost use Rattle.nc_report.specs.Shown.{AreDetails};
-ghost use Rattle.nc_report.specs.machinery.Added.{Adds};
+ghost use Rattle.nc_output.specs.Shown.{AreDetails};
+ghost use Rattle.nc_output.specs.Adds.{Adds};
 
 use crate::finding::Finding;
 use crate::numbers::{address_digits, choose, put_byte};
-use crate::shown::push_detail;
 use nc_decode::{BUNDLE, decode};
 use nc_names::push_instruction;
+use nc_output::push_detail;
 use std::alloc::{AllocError, Global};
 
 /// The number of bytes in a bundle.

@@ -1,7 +1,6 @@
 //! Adding text, and numbers and bytes as text.
 
-ghost use Rattle.std.specs.Prelude.{◌≡◌, ◌≤◌, ◌+◌, ◌++◌, ◌∷◌, [], if◌then◌else◌, OnOk, length};
-ghost use Rattle.hex.specs.Hex.{encode_lower};
+ghost use Rattle.std.specs.Prelude.{◌≡◌, ◌≤◌, ◌+◌, ◌++◌, if◌then◌else◌, OnOk, length};
 ghost use Rattle.nc_output.specs.Verdicts.{address_digits};
 ghost use Rattle.nc_report.specs.machinery.Texts.{all_of};
 
@@ -29,15 +28,6 @@ pub(crate) fn choose(holds: bool, yes: &'static [u8], no: &'static [u8]) -> &'st
     ensures { result.now ≡ (if holds then yes.now else no.now) }
 {
     if holds { yes } else { no }
-}
-
-/// A byte as two hexadecimal digits.
-pub(crate) fn byte_digits(byte: u8) -> [u8; 2]
-    ensures { result ≡ encode_lower (byte ∷ []) }
-{
-    let mut digits = [0u8; 2];
-    hex::encode_to_slice([byte], &mut digits).unwrap();
-    digits
 }
 
 /// The hexadecimal digits.

@@ -5,7 +5,7 @@ ghost use Rattle.nc_vet.specs.declared.fault.VetFault.TheVariants as vet;
 ghost use Rattle.nc_output.specs.Verdicts.{with_line_end, address_digits, place_of};
 ghost use Rattle.nc_report.specs.Objects.{InObject, InArray, IsJson, file_member, string_member, at_member, accepted_members, refused_members, fault_object, file_object};
 ghost use Rattle.nc_report.specs.Report.{ShowsOne};
-ghost use Rattle.nc_report.specs.machinery.Added.{Adds};
+ghost use Rattle.nc_output.specs.Adds.{Adds};
 
 use crate::explaining::offset_words;
 use crate::finding::Finding;
@@ -13,9 +13,8 @@ use crate::json::{no_elements, no_members, push_members, with_array, with_object
 use crate::labels::Labels;
 use crate::listing::{address_of, is_start, push_named};
 use crate::numbers::{address_digits, push_all, push_text};
-use crate::strings::push_between;
 use crate::targets::Target;
-use nc_output::{Format, fault_name, place_of};
+use nc_output::{Format, fault_name, place_of, push_between};
 use nc_vet::VetFault;
 use std::alloc::{AllocError, Global};
 

@@ -6,7 +6,8 @@ ghost use Rattle.nc_vet.specs.Faults.{HasGoodSpan};
 ghost use Rattle.nc_report.specs.Further.{listed, others_to};
 ghost use Rattle.nc_report.specs.Totals.{counts_to};
 ghost use Rattle.nc_report.specs.Report.{heading, Opens, TellsEach, TellsOthers, HasBegun};
-ghost use Rattle.nc_report.specs.machinery.Added.{Adds, After, WritesOn, IsOfWriting};
+ghost use Rattle.nc_output.specs.Adds.{Adds};
+ghost use Rattle.nc_report.specs.machinery.Added.{After, WritesOn, IsOfWriting};
 
 use crate::explaining::push_finding;
 use crate::fault::ReportFault;

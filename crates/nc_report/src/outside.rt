@@ -4,15 +4,14 @@ ghost use Rattle.std.specs.Prelude.{◌≡◌, ◌++◌, ◌+◌, ◌<◌, ◌^�
 ghost use Rattle.std.specs.List.Sorted.{IsNonDecreasing};
 ghost use Rattle.nc_vet.specs.Chunk.{Piece, code_of, AreSpelled};
 ghost use Rattle.nc_report.specs.Outside.{sent_outside, row_words, row_object, row_text};
-ghost use Rattle.nc_report.specs.Shown.{detail_line};
+ghost use Rattle.nc_output.specs.Shown.{detail_line};
 ghost use Rattle.nc_report.specs.machinery.Found.{AddsRows, AddsCalls};
 ghost use Rattle.nc_report.specs.machinery.Runs.{IsSent, BeginsWithRun, AddsCounts};
 
 use crate::json::after_first;
 use crate::numbers::{address_digits, choose, push_all, push_text};
-use crate::strings::push_between;
 use nc_decode::{Instr, decode};
-use nc_output::{Detail, Format};
+use nc_output::{Detail, Format, push_between};
 use std::alloc::{AllocError, Global};
 
 /// Adds the target of the instruction at this address, if it is a direct transfer to an address outside the code.

@@ -2,11 +2,10 @@
 
 ghost use Rattle.std.specs.Prelude.{OnOk};
 ghost use Rattle.nc_report.specs.Report.{Shows};
-ghost use Rattle.nc_report.specs.machinery.Added.{Adds};
+ghost use Rattle.nc_output.specs.Adds.{Adds};
 
 use crate::json::{no_members, push_members, with_string};
-use crate::shown::push_detail;
-use nc_output::Format;
+use nc_output::{Format, push_detail};
 use std::alloc::AllocError;
 
 /// Adds words as a member with this name.

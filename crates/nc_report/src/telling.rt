@@ -9,7 +9,8 @@ ghost use Rattle.nc_vet.specs.Chunk.{Piece, code_of, AreSpelled};
 ghost use Rattle.nc_report.specs.Report.{said_of, accepted_words, ok_text, end_of, refused_line, refused_text, Shows};
 ghost use Rattle.nc_report.specs.Report.{TellsAccepted, TellsFault, TellsMore, TellsRefused, Tells};
 ghost use Rattle.nc_report.specs.Report.{HasWritten, HasBegun};
-ghost use Rattle.nc_report.specs.machinery.Added.{Adds, After, WritesOn, IsOfWriting};
+ghost use Rattle.nc_output.specs.Adds.{Adds};
+ghost use Rattle.nc_report.specs.machinery.Added.{After, WritesOn, IsOfWriting};
 ghost use Rattle.nc_report.specs.machinery.Found.{IsPlaced, AddsCalls, AddsAccepted};
 
 use crate::advice::words_without_place;

@@ -2,10 +2,10 @@
 
 ghost use Rattle.std.specs.Prelude.{false, ◌≡◌, ◌<◌, ◌≤◌, ◌+◌, ◌/◌, ◌^◌, ◌++◌, Bool, if◌then◌else◌, ◌==◌, codes, length, map, List, ℕ, OnOk};
 ghost use Rattle.std.specs.Fmt.{decimal};
-ghost use Rattle.nc_report.specs.Shown.{detail_line};
+ghost use Rattle.nc_output.specs.Shown.{detail_line};
 ghost use Rattle.nc_report.specs.Report.{Shows, counts_text};
 ghost use Rattle.nc_report.specs.Totals.{total, kinds_from, totals_line};
-ghost use Rattle.nc_report.specs.machinery.Added.{Adds};
+ghost use Rattle.nc_output.specs.Adds.{Adds};
 ghost use Rattle.nc_report.specs.machinery.Totals.{counted, kind_words};
 
 use crate::further::{class_at, is_begun};

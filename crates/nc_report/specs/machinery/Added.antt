@@ -4,12 +4,6 @@ use Rattle.std.specs.Io.KnownBytes.{Appends}
 use Rattle.nc_report.specs.declared.fault.ReportFault.{ReportFault}
 use Rattle.nc_report.specs.declared.fault.ReportFault.TheVariants.{OutOfMemory, WriteFailed}
 
--- text that satisfies `Says` was added
-pub record Adds (old new : List ℕ) (Says : List ℕ → Type 0) : Type 0 where
-  pub text : List ℕ
-  pub says : Says text
-  pub added : new ≡ old ++ text
-
 -- text that satisfies `Says`, after other text
 abbrev pub After : List ℕ → (List ℕ → Type 0) → List ℕ → Type 0
 After old Says whole = (text : List ℕ) × Says text × (whole ≡ old ++ text)

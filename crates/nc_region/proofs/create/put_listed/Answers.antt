@@ -13,7 +13,7 @@ use Rattle.nc_acts.proofs.Offered.{Joins, chunk_joins, chunk_keeps}
 use Rattle.nc_region.proofs.chunks.Creating.{inside_closed, final_but_closed, final_but_starts, final_all, starts_final}
 use Rattle.nc_acts.proofs.Offered.{same_code}
 use Rattle.nc_region.proofs.create.put_listed.Given.{Over}
-use Rattle.nc_region.proofs.create.put_listed.Goals.{After-put_where, After-mark_listed, After-put_where-2}
+use Rattle.nc_region.proofs.create.put_listed.Goals.{After-put_where, After-mark_listed}
 use Rattle.nc_region.proofs.create.put_listed.Goals as goal
 
 joins : (marked : MarkedText) (base : ℕ) (bytes : List ℕ) (marks : List Mark) → IsText marked

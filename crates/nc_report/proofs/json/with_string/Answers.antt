@@ -1,5 +1,6 @@
 use Rattle.std.proofs.Common.{◌≡◌, ◌++◌, sym, subst, append_assoc}
-use Rattle.nc_report.specs.Objects.{InObject, IsJson, Member, Quoted, member, string_of}
+use Rattle.nc_report.specs.Objects.{InObject, IsJson, Member, Quoted, member}
+use Rattle.nc_output.specs.Strings.{string_of}
 use Rattle.nc_report.proofs.json.with_string.Goals as goal
 
 pub returns : goal.returns

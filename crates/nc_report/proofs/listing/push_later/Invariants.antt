@@ -1,7 +1,7 @@
 -- Lines were added about the bytes so far.
 use Rattle.std.proofs.Common.{length}
-use Rattle.nc_report.specs.Shown.{AreDetails}
-use Rattle.nc_report.specs.machinery.Added.{Adds}
+use Rattle.nc_output.specs.Shown.{AreDetails}
+use Rattle.nc_output.specs.Adds.{Adds}
 use Rattle.nc_report.proofs.listing.push_later.Given as goal
 
 abbrev pub invariant-loop-rest : goal.invariant-loop-rest

@@ -1,7 +1,7 @@
 -- Lines were added about the places so far.
 use Rattle.std.proofs.Common.{◌-◌}
-use Rattle.nc_report.specs.Shown.{AreDetails}
-use Rattle.nc_report.specs.machinery.Added.{Adds}
+use Rattle.nc_output.specs.Shown.{AreDetails}
+use Rattle.nc_output.specs.Adds.{Adds}
 use Rattle.nc_report.proofs.listing.push_listing.Given as goal
 
 abbrev pub invariant-loop-k : goal.invariant-loop-k

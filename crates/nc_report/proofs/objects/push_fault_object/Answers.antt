@@ -1,7 +1,8 @@
 use Rattle.std.proofs.Common.{◌≡◌, ◌++◌, ℕ, List, Option, refl, ap, ◌∙◌, append_assoc, codes}
 use Rattle.std.proofs.lemmas.Result.{on_ok_weaker}
 use Rattle.nc_output.specs.Verdicts.{fault_name, place_of}
-use Rattle.nc_report.specs.Objects.{fault_object, string_of, at_member}
+use Rattle.nc_report.specs.Objects.{fault_object, at_member}
+use Rattle.nc_output.specs.Strings.{string_of}
 use Rattle.nc_report.proofs.ObjectTexts.{inner}
 use Rattle.nc_report.proofs.objects.push_fault_object.Goals as goal
 

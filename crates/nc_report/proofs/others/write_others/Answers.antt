@@ -7,7 +7,7 @@ use Rattle.nc_report.specs.declared.totals.Counts.{Counts}
 use Rattle.nc_report.specs.Further.{others_to}
 use Rattle.nc_report.specs.Totals.{counts_to, total}
 use Rattle.nc_report.specs.Report.{Shows, Opens, TellsEach, TellsOthers, counts_text}
-use Rattle.nc_report.specs.machinery.Added.{Adds}
+use Rattle.nc_output.specs.Adds.{Adds}
 use Rattle.nc_report.proofs.Additions.{writes_after, writes_more, begun_later, cut_here}
 use Rattle.nc_report.proofs.CountedFaults.{total_small}
 use Rattle.nc_report.proofs.FurtherTexts.{TellsFirst, TellsLast, others_told, others_completed}

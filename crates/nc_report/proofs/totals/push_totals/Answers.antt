@@ -1,6 +1,6 @@
 use Rattle.std.proofs.Common.{◌≡◌, ◌++◌, ℕ, List, append_assoc, codes}
 use Rattle.std.proofs.lemmas.Result.{on_ok_weaker}
-use Rattle.nc_report.specs.Shown.{detail_line}
+use Rattle.nc_output.specs.Shown.{detail_line}
 use Rattle.nc_report.proofs.totals.push_totals.Goals as goal
 
 -- a line was added, part after part

@@ -1,5 +1,5 @@
-use Rattle.nc_report.proofs.Additions.{shown_both}
-use Rattle.nc_report.proofs.shown.push_all_shown.Goals as goal
+use Rattle.nc_output.proofs.Additions.{shown_both}
+use Rattle.nc_output.proofs.shown.push_all_shown.Goals as goal
 
 pub loop-text-preserved : goal.loop-text-preserved
 loop-text-preserved c =

@@ -2,10 +2,9 @@
 
 ghost use Rattle.std.specs.Prelude.{◌≡◌, true, OnOk};
 ghost use Rattle.std.specs.List.{list_all};
-ghost use Rattle.nc_report.specs.Shown.{is_shown, IsShown, AreDetails};
-ghost use Rattle.nc_report.specs.machinery.Added.{Adds};
+ghost use Rattle.nc_output.specs.Shown.{is_shown, IsShown, AreDetails};
+ghost use Rattle.nc_output.specs.Adds.{Adds};
 
-use crate::numbers::push_text;
 use std::alloc::AllocError;
 
 /// A byte that isn't a control byte. A control byte could end the line, or be a command to a terminal. No branches, so that many
@@ -46,11 +45,11 @@ fn push_replaced(out: &mut Vec<u8>, text: &[u8]) -> Result<(), AllocError>
 }
 
 /// Adds text, with a question mark in place of each control byte.
-pub(crate) fn push_shown(out: &mut Vec<u8>, text: &[u8]) -> Result<(), AllocError>
+fn push_shown(out: &mut Vec<u8>, text: &[u8]) -> Result<(), AllocError>
     ensures { OnOk result (Adds out.old.items out.new.items IsShown) }
 {
     if are_shown(text) {
-        push_text(out, text)
+        out.extend_from_slice(text)
     } else {
         push_replaced(out, text)
     }
@@ -66,9 +65,11 @@ fn push_all_shown(out: &mut Vec<u8>, texts: &[&[u8]]) -> Result<(), AllocError>
     Ok(())
 }
 
-/// Adds a line of details: two spaces, these texts, one after the other, and the end of the line. All details pass through this
-/// function, so no text can end a line or be a command to a terminal.
-pub(crate) fn push_detail(out: &mut Vec<u8>, texts: &[&[u8]]) -> Result<(), AllocError>
+/// Adds a line of details: two spaces, these texts, one after the other, and the end of the line. A control byte is shown as a
+/// question mark, so no text can end a line or be a command to a terminal.
+///
+/// The only refusal is that of memory. Part of the line may then have been added.
+pub fn push_detail(out: &mut Vec<u8>, texts: &[&[u8]]) -> Result<(), AllocError>
     ensures { OnOk result (Adds out.old.items out.new.items AreDetails) }
 {
     out.extend_from_slice(b"  ")?;

@@ -1,5 +1,5 @@
-use Rattle.nc_report.proofs.Additions.{line_details}
-use Rattle.nc_report.proofs.shown.push_detail.Goals as goal
+use Rattle.nc_output.proofs.Additions.{line_details}
+use Rattle.nc_output.proofs.shown.push_detail.Goals as goal
 
 pub returns : goal.returns
 returns c =

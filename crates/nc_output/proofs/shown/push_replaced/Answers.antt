@@ -1,7 +1,7 @@
 use Rattle.std.proofs.Common.{◌∷◌, [], Bool, true, ◌&&◌, ap}
 use Rattle.std.proofs.lemmas.Result.{IfOk-from_err}
-use Rattle.nc_report.proofs.Additions.{shown_both}
-use Rattle.nc_report.proofs.shown.push_replaced.Goals as goal
+use Rattle.nc_output.proofs.Additions.{shown_both}
+use Rattle.nc_output.proofs.shown.push_replaced.Goals as goal
 
 pub returns-in_err-push : goal.returns-in_err-push
 returns-in_err-push c = IfOk-from_err _ _ c.from_residual.ensures.0

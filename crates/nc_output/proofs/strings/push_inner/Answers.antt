@@ -1,7 +1,7 @@
 use Rattle.std.proofs.Common.{arith}
 use Rattle.std.proofs.lemmas.Grind.{common_steps}
 use Rattle.std.proofs.lemmas.Result.{IfOk-from_err}
-use Rattle.nc_report.proofs.strings.push_inner.Goals as goal
+use Rattle.nc_output.proofs.strings.push_inner.Goals as goal
 
 pub returns-in_err-push_escaped : goal.returns-in_err-push_escaped
 returns-in_err-push_escaped c = IfOk-from_err _ _ c.from_residual.ensures.0

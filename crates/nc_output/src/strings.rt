@@ -2,9 +2,9 @@
 
 ghost use Rattle.std.specs.Prelude.{◌≡◌, ◌++◌, OnOk};
 ghost use Rattle.std.specs.List.{flat_map};
-ghost use Rattle.nc_report.specs.Objects.{escaped};
+ghost use Rattle.nc_output.specs.Strings.{escaped};
 
-use crate::numbers::{byte_digits, push_all, push_text};
+use crate::verdict::push_byte;
 use std::alloc::AllocError;
 
 /// Adds a byte of a string, escaped if it is a quotation mark, a backslash or a control byte. So UTF-8 stays UTF-8.
@@ -12,11 +12,12 @@ fn push_escaped(out: &mut Vec<u8>, byte: u8) -> Result<(), AllocError>
     ensures { OnOk result (out.new.items ≡ out.old.items ++ escaped byte) }
 {
     if byte == b'"' || byte == b'\\' {
-        push_text(out, &[b'\\', byte])
+        out.extend_from_slice(&[b'\\', byte])
     } else if byte < 0x20 || byte == 0x7f {
-        push_all(out, &[b"\\u00", &byte_digits(byte)])
+        out.extend_from_slice(b"\\u00")?;
+        push_byte(out, byte)
     } else {
-        push_text(out, &[byte])
+        out.extend_from_slice(&[byte])
     }
 }
 
@@ -30,8 +31,10 @@ fn push_inner(out: &mut Vec<u8>, bytes: &[u8]) -> Result<(), AllocError>
     Ok(())
 }
 
-/// Adds the bytes of a string, escaped, between two texts.
-pub(crate) fn push_between(
+/// Adds the bytes of a string of JSON, escaped, between two texts, which have the quotation marks.
+///
+/// The only refusal is that of memory. Part of the text may then have been added.
+pub fn push_between(
     out: &mut Vec<u8>,
     before: &[u8],
     bytes: &[u8],
@@ -39,7 +42,7 @@ pub(crate) fn push_between(
 ) -> Result<(), AllocError>
     ensures { OnOk result (out.new.items ≡ out.old.items ++ (before.now ++ (flat_map escaped bytes.now ++ after.now))) }
 {
-    push_text(out, before)?;
+    out.extend_from_slice(before)?;
     push_inner(out, bytes)?;
-    push_text(out, after)
+    out.extend_from_slice(after)
 }

@@ -1,6 +1,6 @@
 use Rattle.std.proofs.Common.{◌≡◌, ◌++◌, take, flat_map}
-use Rattle.nc_report.specs.Objects.{escaped}
-use Rattle.nc_report.proofs.strings.push_inner.Given as goal
+use Rattle.nc_output.specs.Strings.{escaped}
+use Rattle.nc_output.proofs.strings.push_inner.Given as goal
 
 -- the bytes so far are written
 abbrev pub invariant-loop-byte : goal.invariant-loop-byte
