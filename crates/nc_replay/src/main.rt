@@ -26,6 +26,25 @@ use std::rt::Env;
 use std::sync::Wait;
 use std::thread::Threads;
 
+/// Carries out words for this request, over an output that explains refusals. Bad lines are explained if that is asked for.
+fn run_over<R: Threads + Wait + Sync + Eprint + AllocGlobal + Input, W: Write>(
+    rt: &R,
+    asked: Ask,
+    words: &[&str],
+    output: &mut ExplainedOutput<'_, '_, W, R>,
+    most: usize,
+) -> Result<(), Halt> {
+    let alloc = rt.alloc();
+    if !asked.explain {
+        return start(rt, alloc, words, &mut rt.reader(), output, most);
+    }
+    let Ok(reader) = BufReader::new(alloc, rt.reader()) else {
+        return Err(Halt::Fault(ReplayFault::OutOfMemory));
+    };
+    let mut input = ExplainedInput::new(rt, alloc, reader, asked.task);
+    start(rt, alloc, words, &mut input, output, 0)
+}
+
 /// Carries out words for this request, explains bad lines and refusals if that is asked for, and returns the number of bad lines.
 fn run_explained<R: Threads + Wait + Sync + Eprint + AllocGlobal + Input, W: Write>(
     rt: &R,
@@ -34,18 +53,11 @@ fn run_explained<R: Threads + Wait + Sync + Eprint + AllocGlobal + Input, W: Wri
     writer: &mut W,
     most: usize,
 ) -> Result<u64, Halt> {
-    let alloc = rt.alloc();
-    let mut output = ExplainedOutput::new(rt, alloc, writer, asked.explain);
-    if !asked.explain {
-        start(rt, alloc, words, &mut rt.reader(), &mut output, most)?;
-        return Ok(output.bad_lines());
+    let mut output = ExplainedOutput::new(rt, rt.alloc(), writer, asked.explain);
+    match run_over(rt, asked, words, &mut output, most) {
+        Ok(()) => Ok(output.bad_lines()),
+        Err(halt) => Err(halt),
     }
-    let Ok(reader) = BufReader::new(alloc, rt.reader()) else {
-        return Err(Halt::Fault(ReplayFault::OutOfMemory));
-    };
-    let mut input = ExplainedInput::new(rt, alloc, reader, asked.task);
-    start(rt, alloc, words, &mut input, &mut output, 0)?;
-    Ok(output.bad_lines())
 }
 
 /// Carries out words, and writes to this writer, of a script at most `most` bytes of replies together. Returns the number of bad lines
@@ -56,8 +68,8 @@ fn run_arguments<R: Threads + Wait + Sync + Eprint + AllocGlobal + Input, W: Wri
     writer: &mut W,
     most: usize,
 ) -> Result<u64, Halt> {
-    match ask(rt.alloc(), words) {
-        Ok(asked) if asked.explain || asked.strict => {
+    match ask(rt.alloc(), words).ok() {
+        Some(asked) if asked.explain || asked.strict => {
             let bad = run_explained(rt, asked, words, writer, most)?;
             Ok(if asked.strict { bad } else { 0 })
         }

@@ -4,7 +4,7 @@ ghost use Rattle.std.specs.Io.{ReadsAtMost};
 ghost use Rattle.std.specs.Io.KnownBytes.{ReadConsumes};
 
 use crate::explaining::following::Following;
-use crate::explaining::mistakes::mistake_in;
+use crate::explaining::mistakes::{Mistake, mistake_in};
 use nc_command::Task;
 use nc_lines::LINE_LIMIT;
 use std::alloc::Global;
@@ -25,8 +25,8 @@ impl<'r, E: Eprint> Lines<'r, E> {
             Some(line) => mistake_in(self.task, line),
             None => None,
         };
-        if let Some(mistake) = mistake {
-            let _ = eprintln!(self.rt; "line {}: {mistake}", self.line.number());
+        if let Some(Mistake { word, text, digits }) = mistake {
+            let _ = eprintln!(self.rt; "line {}: {word}{text}{digits}", self.line.number());
         }
         self.line.go_on();
     }

@@ -3,41 +3,43 @@
 use crate::explaining::shapes::{CHUNK, Form, Shape, request_of};
 use nc_command::Task;
 use nc_lines::LINE_LIMIT;
-use thiserror::Error;
 
-/// What is wrong with a line.
-#[derive(Debug, Drop, Error)]
-pub(crate) enum Mistake {
-    #[error("a line has at most 1048576 bytes, and this one has more")]
-    Long,
-    #[error("the line is empty")]
-    Empty,
-    #[error("the line ends with a carriage return; a line feed alone ends a line")]
-    Return,
-    #[error("a line can't be a comment")]
-    Comment,
-    #[error("a tab can't separate words; one space does")]
-    Tab,
-    #[error("exactly one space separates two words, and a line neither begins nor ends with one")]
-    Spaces,
-    #[error("a request begins with create, modify, delete, checkin, leave, reclaim, walk, dump or chunk, in lower case")]
-    Unknown,
-    #[error("a line of vet has an address and bytes, and no word before them")]
-    Request,
-    #[error("{} is missing", .0.name())]
-    Missing(Form),
-    #[error("the line has a word too many")]
-    Extra,
-    #[error("{} has eight hexadecimal digits; this one has {}", .0.name(), number_word(*.1))]
-    Length(Form, usize),
-    #[error("{} has hexadecimal digits alone, without 0x", .0.name())]
-    Prefix(Form),
-    #[error("{} has hexadecimal digits alone; this one has another character", .0.name())]
-    NotHexadecimal(Form),
-    #[error("bytes have two hexadecimal digits each; one of these has only one")]
-    Odd,
-    #[error("a seat has one to three decimal digits")]
-    NotSeat,
+/// What is wrong with a line: a sentence that may begin with what a word is, and may end with a number of digits.
+#[derive(Clone, Copy)]
+pub(crate) struct Mistake {
+    /// What the word is, or nothing if the sentence is about the line.
+    pub word: &'static str,
+    /// The sentence, or the part of it between the others.
+    pub text: &'static str,
+    /// A number of digits, or nothing.
+    pub digits: &'static str,
+}
+
+/// A sentence about a line.
+fn of_line(text: &'static str) -> Option<Mistake> {
+    Some(Mistake {
+        word: "",
+        text,
+        digits: "",
+    })
+}
+
+/// A sentence about a word of this form.
+fn of_word(form: Form, text: &'static str) -> Option<Mistake> {
+    Some(Mistake {
+        word: form.name(),
+        text,
+        digits: "",
+    })
+}
+
+/// A sentence about the length of a word of this form.
+fn of_length(form: Form, digits: usize) -> Option<Mistake> {
+    Some(Mistake {
+        word: form.name(),
+        text: " has eight hexadecimal digits; this one has ",
+        digits: number_word(digits),
+    })
 }
 
 /// Small numbers in words.
@@ -64,16 +66,19 @@ fn mistake_in_digits(form: Form, word: &[u8]) -> Option<Mistake> {
     if is_hexadecimal(word) {
         None
     } else if word.starts_with(b"0x") || word.starts_with(b"0X") {
-        Some(Mistake::Prefix(form))
+        of_word(form, " has hexadecimal digits alone, without 0x")
     } else {
-        Some(Mistake::NotHexadecimal(form))
+        of_word(
+            form,
+            " has hexadecimal digits alone; this one has another character",
+        )
     }
 }
 
 /// What is wrong with a word of an address or of a choice.
 fn mistake_in_address(form: Form, word: &[u8]) -> Option<Mistake> {
     match mistake_in_digits(form, word) {
-        None if word.len() != 8 => Some(Mistake::Length(form, word.len())),
+        None if word.len() != 8 => of_length(form, word.len()),
         mistake => mistake,
     }
 }
@@ -84,7 +89,9 @@ fn mistake_in_bytes(word: &[u8]) -> Option<Mistake> {
         return None;
     }
     match mistake_in_digits(Form::Bytes, word) {
-        None if word.len() % 2 != 0 => Some(Mistake::Odd),
+        None if word.len() % 2 != 0 => {
+            of_line("bytes have two hexadecimal digits each; one of these has only one")
+        },
         mistake => mistake,
     }
 }
@@ -94,7 +101,7 @@ fn mistake_in_seat(word: &[u8]) -> Option<Mistake> {
     if (1..=3).contains(&word.len()) && word.iter().all(|byte| byte.is_ascii_digit()) {
         None
     } else {
-        Some(Mistake::NotSeat)
+        of_line("a seat has one to three decimal digits")
     }
 }
 
@@ -113,7 +120,7 @@ fn mistake_in_words(shape: Shape, text: Option<&[u8]>) -> Option<Mistake> {
     if let Some(text) = text {
         for word in text.split(|byte| *byte == b' ') {
             let Some(form) = shape.form(count) else {
-                return Some(Mistake::Extra);
+                return of_line("the line has a word too many");
             };
             match mistake_in_word(form, word) {
                 None => count = count.saturating_add(1),
@@ -122,7 +129,7 @@ fn mistake_in_words(shape: Shape, text: Option<&[u8]>) -> Option<Mistake> {
         }
     }
     match shape.forms.get(count) {
-        Some(form) => Some(Mistake::Missing(*form)),
+        Some(form) => of_word(*form, " is missing"),
         None => None,
     }
 }
@@ -130,21 +137,27 @@ fn mistake_in_words(shape: Shape, text: Option<&[u8]>) -> Option<Mistake> {
 /// What is wrong with the bytes of a line as a whole.
 fn mistake_in_bytes_of(line: &[u8]) -> Option<Mistake> {
     if line.len() > LINE_LIMIT {
-        Some(Mistake::Long)
+        of_line("a line has at most 1048576 bytes, and this one has more")
     } else if line.is_empty() {
-        Some(Mistake::Empty)
+        of_line("the line is empty")
     } else if line.ends_with(b"\r") {
-        Some(Mistake::Return)
+        of_line("the line ends with a carriage return; a line feed alone ends a line")
     } else if line.starts_with(b"#") {
-        Some(Mistake::Comment)
+        of_line("a line can't be a comment")
     } else if line.contains(&b'\t') {
-        Some(Mistake::Tab)
+        of_line("a tab can't separate words; one space does")
     } else if line.split(|byte| *byte == b' ').any(|word| word.is_empty()) {
-        Some(Mistake::Spaces)
+        of_line(
+            "exactly one space separates two words, and a line neither begins nor ends with one",
+        )
     } else {
         None
     }
 }
+
+/// What is said of a line that begins with no request.
+const UNKNOWN: &str =
+    "a request begins with create, modify, delete, checkin, leave, reclaim, walk, dump or chunk, in lower case";
 
 /// What is wrong with a line of a script, whose words are separated by single spaces.
 fn mistake_in_request(line: &[u8]) -> Option<Mistake> {
@@ -154,7 +167,7 @@ fn mistake_in_request(line: &[u8]) -> Option<Mistake> {
     };
     match request_of(word) {
         Some(request) => mistake_in_words(request.words, rest),
-        None => Some(Mistake::Unknown),
+        None => of_line(UNKNOWN),
     }
 }
 
@@ -162,7 +175,7 @@ fn mistake_in_request(line: &[u8]) -> Option<Mistake> {
 fn mistake_in_chunk(line: &[u8]) -> Option<Mistake> {
     let first = line.split(|byte| *byte == b' ').next();
     if first.is_some_and(|word| request_of(word).is_some()) {
-        return Some(Mistake::Request);
+        return of_line("a line of vet has an address and bytes, and no word before them");
     }
     mistake_in_words(CHUNK, Some(line))
 }
