@@ -1,10 +1,12 @@
 -- Text that is added one after the other, as lines of details and as strings of JSON.
-use Rattle.std.proofs.Common.{◌≡◌, ◌≢◌, ◌≤◌, ℕ, Bool, true, List, [], ◌∷◌, ◌++◌, sym, ◌∙◌, ap, append_assoc, append-nil, ◌&&◌, arith}
+use Rattle.std.proofs.Common.{◌≡◌, ◌≢◌, ◌≤◌, ℕ, Bool, true, false, cond, List, [], ◌∷◌, ◌++◌, refl, sym, ◌∙◌, ap, append_assoc, append-nil, ◌&&◌, arith}
+use Rattle.std.specs.Borrow.{Bor}
 use Rattle.std.specs.List.{list_all}
+use Rattle.std.proofs.lemmas.Bool.{and_parts}
 use Rattle.std.proofs.lemmas.Bool.Decides.{nat_tests}
 use Rattle.std.proofs.lemmas.List.Folds.{list_all-append}
 use Rattle.nc_output.specs.Adds.{Adds}
-use Rattle.nc_output.specs.Shown.{is_shown, IsShown, detail_line, AreDetails}
+use Rattle.nc_output.specs.Shown.{is_shown, byte_shown, text_shown, texts_shown, detail_line, AreDetails}
 use Rattle.nc_output.specs.Strings.{escaped}
 
 -- what two lists pass, both together pass
@@ -20,21 +22,47 @@ adds_both P Q R old mid new f a b = record {
   added = b.added ∙ ap (λ (z : List ℕ). z ++ b.text) a.added ∙ append_assoc old a.text b.text;
 }
 
--- shown text after other shown text
-pub shown_both : (old mid new : List ℕ) → Adds old mid IsShown → Adds mid new IsShown → Adds old new IsShown
-shown_both old mid new = adds_both IsShown IsShown IsShown old mid new (all_both is_shown)
+-- a byte that is shown as it is
+shown_one : (byte : ℕ) → is_shown byte ≡ true → byte_shown byte ≡ byte ∷ []
+shown_one byte e = ap (λ (b : Bool). cond b (byte ∷ []) (63 ∷ [])) e
 
--- a line
-pub line_details : (old start mid new : List ℕ) → start ≡ old ++ 32 ∷ 32 ∷ [] → Adds start mid IsShown → new ≡ mid ++ 10 ∷ []
-    → Adds old new AreDetails
-line_details old start mid new e a f = record {
-  text = detail_line a.text;
+-- text without control bytes is shown as it is
+pub shown_same : (text : List ℕ) → list_all is_shown text ≡ true → text_shown text ≡ text
+shown_same [] e = refl
+shown_same (byte ∷ rest) e =
+    ap (λ (z : List ℕ). z ++ text_shown rest) (shown_one byte (and_parts _ _ e).0)
+    ∙ ap (λ (z : List ℕ). byte ∷ z) (shown_same rest (and_parts _ _ e).1)
+
+-- a byte is shown without a control byte, whichever it is
+byte_cases : (b : Bool) (byte : ℕ) → is_shown byte ≡ b → list_all is_shown (cond b (byte ∷ []) (63 ∷ [])) ≡ true
+byte_cases true byte e = ap (λ (b : Bool). b && true) e
+byte_cases false byte e = refl
+
+-- text is shown without control bytes
+text_all : (text : List ℕ) → list_all is_shown (text_shown text) ≡ true
+text_all [] = refl
+text_all (byte ∷ rest) = all_both is_shown (byte_shown byte) (text_shown rest) (byte_cases (is_shown byte) byte refl) (text_all rest)
+
+-- texts are shown without control bytes
+pub texts_all : (texts : List (Bor (List ℕ))) → list_all is_shown (texts_shown texts) ≡ true
+texts_all [] = refl
+texts_all (text ∷ rest) = all_both is_shown (text_shown text.now) (texts_shown rest) (text_all text.now) (texts_all rest)
+
+-- the parts of a line
+pub line_added : (old start mid new line : List ℕ) → start ≡ old ++ 32 ∷ 32 ∷ [] → mid ≡ start ++ line → new ≡ mid ++ 10 ∷ []
+    → new ≡ old ++ detail_line line
+line_added old start mid new line e f g = simp (g, f, e, append_assoc)
+
+-- a line is details
+pub line_details : (old new line : List ℕ) → list_all is_shown line ≡ true → new ≡ old ++ detail_line line → Adds old new AreDetails
+line_details old new line shown e = record {
+  text = detail_line line;
   says = record {
-    lines = a.text ∷ [];
-    shown = ap (λ (b : Bool). b && true) a.says;
-    is = sym (append-nil (detail_line a.text));
+    lines = line ∷ [];
+    shown = ap (λ (b : Bool). b && true) shown;
+    is = sym (append-nil (detail_line line));
   };
-  added = simp (f, a.added, e, append_assoc);
+  added = e;
 }
 
 -- a byte that stands for itself

@@ -1,8 +1,8 @@
 //! Text without control bytes, and lines of details.
 
-ghost use Rattle.std.specs.Prelude.{◌≡◌, true, OnOk};
+ghost use Rattle.std.specs.Prelude.{◌≡◌, ◌++◌, ◌∷◌, [], OnOk};
 ghost use Rattle.std.specs.List.{list_all};
-ghost use Rattle.nc_output.specs.Shown.{is_shown, IsShown, AreDetails};
+ghost use Rattle.nc_output.specs.Shown.{is_shown, byte_shown, text_shown, texts_shown, detail_line, AreDetails};
 ghost use Rattle.nc_output.specs.Adds.{Adds};
 
 use std::alloc::AllocError;
@@ -29,24 +29,31 @@ fn are_shown(text: &[u8]) -> bool
 
 /// A byte as it is shown: a question mark in place of a control byte.
 fn shown(byte: u8) -> u8
-    ensures { is_shown result ≡ true }
+    ensures { byte_shown byte ≡ result ∷ [] }
 {
     if is_shown(byte) { byte } else { b'?' }
 }
 
-/// Adds text, byte by byte, with a question mark in place of each control byte.
+/// Adds a byte as it is shown.
+fn push_one(out: &mut Vec<u8>, byte: u8) -> Result<(), AllocError>
+    ensures { OnOk result (out.new.items ≡ out.old.items ++ byte_shown byte) }
+{
+    out.extend_from_slice(&[shown(byte)])
+}
+
+/// Adds text, byte by byte, as it is shown.
 fn push_replaced(out: &mut Vec<u8>, text: &[u8]) -> Result<(), AllocError>
-    ensures { OnOk result (Adds out.old.items out.new.items IsShown) }
+    ensures { OnOk result (out.new.items ≡ out.old.items ++ text_shown text.now) }
 {
     for byte in text {
-        out.push(shown(*byte))?;
+        push_one(out, *byte)?;
     }
     Ok(())
 }
 
-/// Adds text, with a question mark in place of each control byte.
+/// Adds text as it is shown.
 fn push_shown(out: &mut Vec<u8>, text: &[u8]) -> Result<(), AllocError>
-    ensures { OnOk result (Adds out.old.items out.new.items IsShown) }
+    ensures { OnOk result (out.new.items ≡ out.old.items ++ text_shown text.now) }
 {
     if are_shown(text) {
         out.extend_from_slice(text)
@@ -57,7 +64,7 @@ fn push_shown(out: &mut Vec<u8>, text: &[u8]) -> Result<(), AllocError>
 
 /// Adds texts, one after the other, each as it is shown.
 fn push_all_shown(out: &mut Vec<u8>, texts: &[&[u8]]) -> Result<(), AllocError>
-    ensures { OnOk result (Adds out.old.items out.new.items IsShown) }
+    ensures { OnOk result (out.new.items ≡ out.old.items ++ texts_shown texts.now) }
 {
     for text in texts {
         push_shown(out, text)?;
@@ -70,7 +77,8 @@ fn push_all_shown(out: &mut Vec<u8>, texts: &[&[u8]]) -> Result<(), AllocError>
 ///
 /// The only refusal is that of memory. Part of the line may then have been added.
 pub fn push_detail(out: &mut Vec<u8>, texts: &[&[u8]]) -> Result<(), AllocError>
-    ensures { OnOk result (Adds out.old.items out.new.items AreDetails) }
+    ensures exact { OnOk result (out.new.items ≡ out.old.items ++ detail_line (texts_shown texts.now)) }
+    ensures details { OnOk result (Adds out.old.items out.new.items AreDetails) }
 {
     out.extend_from_slice(b"  ")?;
     push_all_shown(out, texts)?;

@@ -1,6 +1,9 @@
-use Rattle.nc_output.proofs.Additions.{shown_both}
+use Rattle.std.proofs.Common.{arith}
+use Rattle.std.proofs.lemmas.Grind.{common_steps}
 use Rattle.nc_output.proofs.shown.push_all_shown.Goals as goal
 
 pub loop-text-preserved : goal.loop-text-preserved
-loop-text-preserved c =
-    shown_both c.args.out.now.items c.loop-text.out.items c.push_shown.new.out.items c.loop-text.invariant c.in_ok-push_shown.ensures
+loop-text-preserved c = grind (arith, common_steps)
+
+pub returns : goal.returns
+returns c = grind (arith, common_steps)
