@@ -85,8 +85,8 @@ fn write_where_new(
 ///
 /// `code` has the bytes that stand from the address `base` on, and `new` the instructions that come from the index `from` on, in
 /// ascending order. One whose bytes stand there already has no act, and one of a single byte has one put. Any other has a stop at
-/// its first byte, a settling, the puts of its other bytes, in ascending order, a settling, and the put of its first byte. It stops
-/// early where the new bytes begin no instruction.
+/// its first byte, a settling, the puts of its other bytes, in ascending order, a settling, and the put of its first byte. What is
+/// written for bytes that aren't whole permitted instructions is not promised, but for its length.
 pub fn write_patch(
     acts: &mut [NcAct],
     count: usize,
