@@ -7,9 +7,6 @@ ghost use Rattle.nc_entries.specs.Shown.{act_of, entry_of};
 
 use crate::act::NcAct;
 
-/// The byte of the instruction hlt.
-pub(crate) const STOP: u8 = 0xF4;
-
 /// A put of this byte at this address.
 pub(crate) fn put(at: u32, byte: u8) -> NcAct
     ensures { result ≡ act_of (Act.Put at byte) }

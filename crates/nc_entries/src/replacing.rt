@@ -8,7 +8,8 @@ ghost use Rattle.nc_entries.specs.Written.{Adds};
 ghost use Rattle.nc_entries.specs.machinery.Writing.{HasPutUpTo};
 
 use crate::act::NcAct;
-use crate::entries::{STOP, put, settle, write};
+use crate::entries::{put, settle, write};
+use nc_acts::STOP;
 use nc_decode::decode;
 
 /// Whether the code has these bytes from this place on.
