@@ -1,5 +1,5 @@
 pub mod Places
-pub mod Puts
+pub mod OneMoreByte
 pub mod Chosen
 pub mod Logged
 pub mod SoFar

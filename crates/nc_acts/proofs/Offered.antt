@@ -3,7 +3,7 @@
 pub use Rattle.nc_acts.proofs.Places.{Before, Within, Behind, place_of, unused_is_start, unused_at_start, is_inside_false}
 pub use Rattle.nc_acts.proofs.Places.{is_start_false, start_or_not, span_within, span_before, before_span, span_behind}
 pub use Rattle.nc_acts.proofs.Places.{within_span, is_inside_true, is_start_true}
-pub use Rattle.nc_acts.proofs.Puts.{put_none, put_more, put_passed, byte_at_other, byte_at_same}
+pub use Rattle.nc_acts.proofs.OneMoreByte.{put_none, put_more, put_passed, byte_at_other, byte_at_same}
 pub use Rattle.nc_acts.proofs.Chosen.{puts_append}
 pub use Rattle.nc_acts.proofs.Logged.{told_logged, acts_back, deleted_acts, acts_join, acts_before, logs_more, logs_none}
 pub use Rattle.nc_acts.proofs.Logged.{logs_acts, created_acts, logs_after, log_put, ends_settled}

@@ -17,13 +17,13 @@ use Rattle.nc_calls.specs.Calls.{KnowsNoMore, StandsFor, HasLedTo}
 use Rattle.nc_calls.specs.Histories.{IsCall, Creates, Patches, Deletes, Reclaims, UsesKeeper, Refuses, Keeps, Turn, AreTurns, IsHistory}
 use Rattle.nc_calls.specs.Histories.{happened, region_at_end, AllStand}
 use Rattle.nc_calls.specs.Whole.{AllFetchWhole}
-use Rattle.nc_calls.proofs.Histories.{Grows, goes_on, created, deleted}
+use Rattle.nc_calls.proofs.OneMoreCall.{Grows, goes_on, created, deleted}
 use Rattle.nc_calls.proofs.Keeping.{begins, keeper}
 use Rattle.nc_calls.proofs.Modified.{modified}
 use Rattle.nc_calls.proofs.Reclaimed.{reclaimed}
 use Rattle.nc_calls.proofs.Refusals.{refusal_same, refusal_silent}
 use Rattle.nc_calls.proofs.Fetching.{fetch_whole_after}
-use Rattle.nc_calls.proofs.Whole.{whole_settled, StaysWhole, whole_append}
+use Rattle.nc_calls.proofs.StaysWhole.{whole_settled, StaysWhole, whole_append}
 use Rattle.nc_calls.proofs.StillRegion.{still_created, still_patched, still_deleted, still_reclaimed}
 
 -- what is kept from one call to the next

@@ -23,7 +23,7 @@ use Rattle.nc_calls.proofs.Parting.{Kept}
 use Rattle.nc_calls.proofs.Putting.{with_text, settled, Views, Leads, Reaches, leads_none, leads_more, settling_leads, settled_views, MayLay}
 use Rattle.nc_calls.proofs.Putting.{lay_all}
 use Rattle.nc_calls.proofs.RetiredSpans.{AreSpansOf}
-use Rattle.nc_calls.proofs.Whole.{PutsWhole}
+use Rattle.nc_calls.proofs.StaysWhole.{PutsWhole}
 
 -- ---- the first events of a deletion
 

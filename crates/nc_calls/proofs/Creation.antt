@@ -35,7 +35,7 @@ use Rattle.nc_calls.proofs.Entries.{events_of, create_is}
 use Rattle.nc_calls.proofs.Good.{text_of, Good, KeepsInstruction, good_by_places, stop_ends}
 use Rattle.nc_calls.proofs.OnePut.{good_put_unread, byte_beside, byte_there}
 use Rattle.nc_calls.proofs.PutsWhole.{put_in_both, whole_put_unread, whole_put_marked}
-use Rattle.nc_calls.proofs.Whole.{PutsWhole, whole_settled}
+use Rattle.nc_calls.proofs.StaysWhole.{PutsWhole, whole_settled}
 use Rattle.nc_calls.proofs.Parting.{Kept, region_good, region_stopped}
 use Rattle.nc_calls.proofs.Putting.{with_text, settled, Views, Leads, Reaches, leads_one, leads_more, settling_leads, settled_views, MayLay, lay_all}
 use Rattle.nc_calls.proofs.RetiredSpans.{AreSpansOf, retired_insert}

@@ -8,7 +8,7 @@ use Rattle.nc_region.specs.schedules.World.{World, Seat, first_seat, first_world
 use Rattle.nc_region.specs.schedules.Events.{Event, world_after, AreAllowed}
 use Rattle.nc_region.proofs.Offered.{Keeps, keeps_reached, allowed_front, if_map}
 use Rattle.nc_calls.specs.Whole.{StoodWhole, AllFetchWhole}
-use Rattle.nc_calls.proofs.Whole.{IsWholeIn, StaysWhole, whole_between}
+use Rattle.nc_calls.proofs.StaysWhole.{IsWholeIn, StaysWhole, whole_between}
 
 -- a thread inside is at a marked place, or in the zone
 all_fetch_whole : (w : World) → Keeps w → IsWholeIn w → AllFetchWhole w

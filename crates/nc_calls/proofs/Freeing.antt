@@ -22,7 +22,7 @@ use Rattle.nc_calls.specs.Interleaving.{writers}
 use Rattle.nc_calls.specs.Whole.{StoodWhole}
 use Rattle.nc_calls.proofs.Deletion.{marked_state, unmarked_or_mark}
 use Rattle.nc_calls.proofs.Reclaiming.{FreesMay}
-use Rattle.nc_calls.proofs.Whole.{IsWholeIn, StaysWhole}
+use Rattle.nc_calls.proofs.StaysWhole.{IsWholeIn, StaysWhole}
 
 -- the bytes, now and before, are the same, and what is marked now was marked before
 pub record IsThinned (w v : World) : Type 0 where

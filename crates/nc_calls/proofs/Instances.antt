@@ -14,7 +14,7 @@ use Rattle.nc_region.specs.Region.{Region}
 use Rattle.nc_calls.specs.Interleaving.{writers, IsKeepers, ThreadsMay}
 use Rattle.nc_calls.specs.Calls.{KnowsNoMore, HasLedTo}
 use Rattle.nc_calls.specs.Histories.{IsRefusal}
-use Rattle.nc_calls.proofs.Histories.{Grows, goes_on}
+use Rattle.nc_calls.proofs.OneMoreCall.{Grows, goes_on}
 use Rattle.nc_calls.proofs.Keeping.{begins, keeper}
 use Rattle.nc_calls.proofs.Knowing.{knows_as_much}
 use Rattle.nc_calls.proofs.Refusals.{refusal_same, refusal_silent}

@@ -6,7 +6,7 @@ use Rattle.nc_region.specs.schedules.Events.{Event, Steps, Enters, Exits, Takes,
 use Rattle.nc_region.specs.schedules.Events.{Looks}
 use Rattle.nc_region.specs.schedules.Events.{IsAllowed, after, world_after, AreAllowed}
 use Rattle.nc_calls.specs.Interleaving.{is_writers, writers, ThreadsMay}
-use Rattle.nc_calls.proofs.Whole.{StaysWhole, whole_first}
+use Rattle.nc_calls.proofs.StaysWhole.{StaysWhole, whole_first}
 
 -- the world with these seats
 abbrev pub seated : World → List Seat → World

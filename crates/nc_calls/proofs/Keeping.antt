@@ -15,7 +15,7 @@ use Rattle.nc_region.proofs.Offered.{region_of_new}
 use Rattle.nc_calls.specs.Views.{ViewsKeep}
 use Rattle.nc_calls.specs.Interleaving.{writers, IsKeepers, ThreadsMay}
 use Rattle.nc_calls.specs.Calls.{KnowsNoMore, HasLedTo}
-use Rattle.nc_calls.proofs.Histories.{Grows, grown}
+use Rattle.nc_calls.proofs.OneMoreCall.{Grows, grown}
 use Rattle.nc_calls.proofs.Knowing.{knows_as_much}
 use Rattle.nc_calls.proofs.Looking.{KeeperOnly, keeper_interleaved, placed}
 use Rattle.nc_calls.proofs.Parting.{Kept, region_kept}

@@ -1,6 +1,6 @@
 pub mod Good
 pub mod OnePut
-pub mod Whole
+pub mod StaysWhole
 pub mod PutsWhole
 pub mod RetiredSpans
 pub mod Parting
@@ -13,7 +13,7 @@ pub mod Deletion
 pub mod Attempts
 pub mod Patching
 pub mod Knowing
-pub mod Histories
+pub mod OneMoreCall
 pub mod Modified
 pub mod Looking
 pub mod Keeping

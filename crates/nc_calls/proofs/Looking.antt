@@ -14,7 +14,7 @@ use Rattle.nc_region.specs.schedules.Events.{IsAllowed, after, world_after, AreA
 use Rattle.nc_region.proofs.Offered.{Keeps}
 use Rattle.nc_calls.specs.Interleaving.{is_writers, writers, IsKeepers, ThreadsMay}
 use Rattle.nc_calls.specs.Calls.{KnowsNoMore}
-use Rattle.nc_calls.proofs.Whole.{IsWholeIn, StaysWhole}
+use Rattle.nc_calls.proofs.StaysWhole.{IsWholeIn, StaysWhole}
 
 -- ---- the least number
 

@@ -17,7 +17,7 @@ use Rattle.nc_calls.specs.Interleaving.{writers, ThreadsMay}
 use Rattle.nc_calls.specs.Calls.{KnowsNoMore, HasLedTo, modify_events}
 use Rattle.nc_calls.proofs.Creation.{start_good}
 use Rattle.nc_calls.proofs.Entries.{patch_events, modify_is}
-use Rattle.nc_calls.proofs.Histories.{Grows, grown_beside, kept_there}
+use Rattle.nc_calls.proofs.OneMoreCall.{Grows, grown_beside, kept_there}
 use Rattle.nc_calls.proofs.Parting.{Kept}
 use Rattle.nc_calls.proofs.Patching.{Sound, patch_leads, patch_can, patch_ends}
 use Rattle.nc_calls.proofs.Putting.{Views, Reaches, reaches_as}

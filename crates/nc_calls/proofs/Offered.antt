@@ -2,7 +2,7 @@
 -- to. The other files are private.
 pub use Rattle.nc_calls.proofs.Attempts.{IsPart, OfMarked, OfOthers, is_part}
 pub use Rattle.nc_calls.proofs.Entries.{events_of}
-pub use Rattle.nc_calls.proofs.Histories.{Grows, goes_on, created, deleted}
+pub use Rattle.nc_calls.proofs.OneMoreCall.{Grows, goes_on, created, deleted}
 pub use Rattle.nc_calls.proofs.Modified.{modified}
 pub use Rattle.nc_calls.proofs.Reclaimed.{reclaimed}
 pub use Rattle.nc_calls.proofs.Instances.{begins_unused, refused}
@@ -10,6 +10,6 @@ pub use Rattle.nc_calls.proofs.Looking.{KeeperOnly, keeper_interleaved}
 pub use Rattle.nc_calls.proofs.StillRegion.{still_created, still_patched, still_deleted, still_reclaimed}
 pub use Rattle.nc_calls.proofs.Refusals.{refusal_same, refusal_silent}
 pub use Rattle.nc_calls.proofs.Knowing.{knows_as_much, knows_raised}
-pub use Rattle.nc_calls.proofs.Whole.{IsWholeIn, StaysWhole, whole_settled, whole_append, whole_front}
+pub use Rattle.nc_calls.proofs.StaysWhole.{IsWholeIn, StaysWhole, whole_settled, whole_append, whole_front}
 pub use Rattle.nc_calls.proofs.Fetching.{fetch_whole_after}
 pub use Rattle.nc_calls.proofs.AllTurns.{Stays, same_region, call_stays, all_stand}

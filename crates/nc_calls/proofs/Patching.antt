@@ -36,7 +36,7 @@ use Rattle.nc_calls.proofs.Good.{text_of, Good, marked_inside, stop_ends}
 use Rattle.nc_calls.proofs.OnePut.{good_put_marked, good_put_unread, byte_beside, byte_there, not_unmarked}
 use Rattle.nc_calls.proofs.Parting.{region_good, region_stopped}
 use Rattle.nc_calls.proofs.PutsWhole.{whole_put_unread, whole_put_marked, whole_put_single, whole_put_stop}
-use Rattle.nc_calls.proofs.Whole.{PutsWhole}
+use Rattle.nc_calls.proofs.StaysWhole.{PutsWhole}
 use Rattle.nc_calls.proofs.Putting.{with_text, settled, Views, Leads, Reaches, leads_none, leads_more, put_leads, settling_leads, settled_views, MayLay, lay_all}
 use Rattle.nc_calls.proofs.RetiredSpans.{AreSpansOf}
 

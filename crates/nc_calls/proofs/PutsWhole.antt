@@ -13,7 +13,7 @@ use Rattle.nc_region.specs.schedules.Spans.{RetiredSpan}
 use Rattle.nc_region.proofs.Offered.{some_same}
 use Rattle.nc_calls.proofs.Good.{Good, stop_ends}
 use Rattle.nc_calls.proofs.OnePut.{byte_beside, byte_there, other_clear}
-use Rattle.nc_calls.proofs.Whole.{PutsWhole}
+use Rattle.nc_calls.proofs.StaysWhole.{PutsWhole}
 
 -- an instruction of a good text that doesn't have the place was there before the put
 was_there : (marks : List Mark) (spans : List RetiredSpan) (view : List ℕ) (at byte : ℕ) (now : State) (i : Instr)

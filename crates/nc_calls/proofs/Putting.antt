@@ -14,7 +14,7 @@ use Rattle.nc_region.proofs.Offered.{put_none, put_more, put_passed}
 use Rattle.nc_calls.specs.Calls.{Details}
 use Rattle.nc_calls.proofs.Entries.{events_of}
 use Rattle.nc_calls.proofs.Good.{text_of, Good}
-use Rattle.nc_calls.proofs.Whole.{PutsWhole, whole_after_put, whole_settled, IsWholeIn, StaysWhole, whole_append}
+use Rattle.nc_calls.proofs.StaysWhole.{PutsWhole, whole_after_put, whole_settled, IsWholeIn, StaysWhole, whole_append}
 
 -- the world with these bytes, after those that stood before
 abbrev pub with_text : World → List ℕ → List (List ℕ) → World

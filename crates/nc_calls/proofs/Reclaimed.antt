@@ -19,7 +19,7 @@ use Rattle.nc_calls.specs.Calls.{KnowsNoMore, HasLedTo, no_details, reclaim_even
 use Rattle.nc_calls.specs.Views.{ViewsKeep}
 use Rattle.nc_calls.proofs.Entries.{unsettled_events}
 use Rattle.nc_calls.proofs.Freeing.{thins, views_thinned}
-use Rattle.nc_calls.proofs.Histories.{Grows, grown}
+use Rattle.nc_calls.proofs.OneMoreCall.{Grows, grown}
 use Rattle.nc_calls.proofs.Looking.{KeeperOnly, looks_are, keeper_interleaved, placed, part, threads_parted}
 use Rattle.nc_calls.proofs.Putting.{Leads, leads_more}
 use Rattle.nc_calls.proofs.Reclaiming.{FreesMay, frees, frees_same, frees_interleaved, frees_done, finds_all, keeper_stays}

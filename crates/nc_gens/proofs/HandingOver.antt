@@ -13,7 +13,7 @@ use Rattle.nc_gens.specs.declared.view.View.{View}
 use Rattle.nc_gens.specs.Rule.{FitsPass, FitsKeeper, FitsView, HasKeeper, HasSeat, StandsAt, Ruled}
 use Rattle.nc_gens.specs.machinery.Views.{given_one_more, new_pass_view}
 use Rattle.nc_gens.specs.machinery.Views.{without_pass, without_keeper, with_pass_of, spent_view}
-use Rattle.nc_gens.proofs.Views.{views_stay, set_there, still_there, split_views_stay, split_still_there, added_there}
+use Rattle.nc_gens.proofs.ChangedViews.{views_stay, set_there, still_there, split_views_stay, split_still_there, added_there}
 
 -- the first number where P holds, and the second where it doesn't
 abbrev pick : {P : Type 0} → Dec P → ℕ → ℕ → ℕ

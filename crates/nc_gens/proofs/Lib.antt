@@ -3,4 +3,4 @@ pub mod FirstTable
 pub mod HandingOver
 pub mod LeastNumber
 pub mod StepsKeep
-pub mod Views
+pub mod ChangedViews

@@ -13,7 +13,7 @@ use Rattle.nc_gens.specs.Rule.{left_word, last_generation, generation_taken, gen
 use Rattle.nc_gens.specs.Rule.{generation_raised, word_taken, FitsPass, FitsView, HasKeeper, HasSeat, Ruled}
 use Rattle.nc_gens.specs.machinery.Steps.{Known, TakesGeneration}
 use Rattle.nc_gens.specs.machinery.Steps.{SeesGeneration, StoresSince, StoresLeft, AddsOne, TakesWord}
-use Rattle.nc_gens.proofs.Views.{views_stay, still_there}
+use Rattle.nc_gens.proofs.ChangedViews.{views_stay, still_there}
 
 -- the table as the rule sees it
 abbrev Words : Type 0

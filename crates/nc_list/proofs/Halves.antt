@@ -6,7 +6,7 @@ use Rattle.nc_list.specs.Each.{Each}
 use Rattle.nc_list.specs.Stamps.{AreSince, BeginsAt}
 use Rattle.nc_list.specs.Parts.{HaveSome, IsRow, AreParted, all_of, starts_of}
 use Rattle.nc_list.proofs.EachMember.{each_append, each_take, each_drop, each_map}
-use Rattle.nc_list.proofs.Stamps.{since_both, begins_first}
+use Rattle.nc_list.proofs.LowerBounds.{since_both, begins_first}
 use Rattle.nc_list.proofs.Pieces.{all_append, starts_append, starts_more, starts_less, starts_get, starts_low, starts_high, starts_long}
 use Rattle.nc_list.proofs.Rows.{begins_all}
 

@@ -2,7 +2,7 @@ pub mod EachMember
 pub mod Rising
 pub mod Pieces
 pub mod Taking
-pub mod Stamps
+pub mod LowerBounds
 pub mod Combining
 pub mod Searching
 pub mod Mapped

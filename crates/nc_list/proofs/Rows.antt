@@ -9,7 +9,7 @@ use Rattle.nc_list.specs.Stamps.{IsSince, AreSince, BeginsAt}
 use Rattle.nc_list.specs.Parts.{HaveSome, OthersHaveSome, IsRow, IsPut, IsPartFor, BeginAbove, all_of, starts_of}
 use Rattle.nc_list.proofs.EachMember.{each_append, each_take, each_drop, each_get, each_set, each_map, each_in, each_out}
 use Rattle.nc_list.proofs.Rising.{rises_first, rises_rest, meets_first, meets_rest}
-use Rattle.nc_list.proofs.Stamps.{all_below, begins_first}
+use Rattle.nc_list.proofs.LowerBounds.{all_below, begins_first}
 use Rattle.nc_list.proofs.Pieces.{all_around, all_more, around, around_set, starts_around, starts_more, starts_less, starts_get, starts_low, starts_high, starts_long, some_at, part_is}
 use Rattle.nc_list.proofs.Parting.{starts_at, take_seam, drop_seam, starts_before, starts_many}
 use Rattle.nc_list.proofs.Combining.{put_within, retired_within, next_within}

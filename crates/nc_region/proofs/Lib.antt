@@ -1,4 +1,4 @@
-pub mod schedules
+pub mod events
 pub mod RegionParts
 pub mod chunks
 pub mod patching

@@ -4,7 +4,7 @@
 pub use Rattle.nc_list.proofs.Offered.{each_map, each_both, each_take, each_drop}
 pub use Rattle.nc_list.proofs.Offered.{each_append, each_set, each_get, each_contains, each_from, each_at_set, each_middle}
 pub use Rattle.nc_region.proofs.walking.OneWalk.{one_trace}
-pub use Rattle.nc_region.proofs.chunks.Creating.{final_all, final_but_starts}
+pub use Rattle.nc_region.proofs.chunks.StaysClosed.{final_all, final_but_starts}
 pub use Rattle.nc_acts.proofs.Offered.{same_code}
 pub use Rattle.nc_region.proofs.chunks.Inserting.{unused_if_apart, region_with_chunk, region_of_new}
 pub use Rattle.nc_acts.proofs.Offered.{Joins, chunk_joins, chunk_keeps}
@@ -30,12 +30,12 @@ pub use Rattle.nc_acts.proofs.Offered.{told_logged, deleted_acts}
 pub use Rattle.nc_region.proofs.deleting.Freed.{region_freed}
 pub use Rattle.nc_region.proofs.patching.NewInstructions.{Parted, parted, not_found, none_of_none, slice_rest, some_same}
 pub use Rattle.nc_region.proofs.patching.Exchanging.{Where, Here, Earlier, Later, where_is}
-pub use Rattle.nc_region.proofs.schedules.Unmarking.{shut_if_quiet, freed_was}
-pub use Rattle.nc_region.proofs.schedules.Invariant.{Keeps, if_map}
-pub use Rattle.nc_region.proofs.schedules.Schedules.{keeps_event, keeps_all, keeps_reached, safe_after, none_is_within_freed}
-pub use Rattle.nc_region.proofs.schedules.Schedules.{allowed_append, allowed_front, after_append}
-pub use Rattle.nc_region.proofs.schedules.Seeing.{as_it_stands, only_as_it_stands, views_after_put}
-pub use Rattle.nc_region.proofs.schedules.WriterEvents.{may_free_now}
+pub use Rattle.nc_region.proofs.events.Unmarking.{shut_if_quiet, freed_was}
+pub use Rattle.nc_region.proofs.events.Invariant.{Keeps, if_map}
+pub use Rattle.nc_region.proofs.events.Schedules.{keeps_event, keeps_all, keeps_reached, safe_after, none_is_within_freed}
+pub use Rattle.nc_region.proofs.events.Schedules.{allowed_append, allowed_front, after_append}
+pub use Rattle.nc_region.proofs.events.Seeing.{as_it_stands, only_as_it_stands, views_after_put}
+pub use Rattle.nc_region.proofs.events.WriterEvents.{may_free_now}
 pub use Rattle.nc_region.proofs.Constructing.{deleted_region, deleted_at, deleted_exists, created_region}
 pub use Rattle.nc_region.proofs.Constructing.{created_at, created_exists}
 pub use Rattle.nc_region.proofs.Constructing.{pages_made, pages_get_ready, modified_region, modified_exists}

@@ -3,5 +3,5 @@ pub mod QuietSpans
 pub mod Freed
 pub mod Due
 pub mod Least
-pub mod Freeing
+pub mod TakingOut
 pub mod Deleted

@@ -10,7 +10,7 @@ use Rattle.nc_reading.specs.declared.class.Class.{Class}
 use Rattle.nc_report.specs.declared.totals.Counts.{Counts}
 use Rattle.nc_report.specs.Further.{fault_at}
 use Rattle.nc_report.specs.Totals.{is_crosses, is_not_permitted, is_bare, is_bad_target, counts_to, total}
-use Rattle.nc_report.specs.machinery.Totals.{counted}
+use Rattle.nc_report.specs.machinery.CountedFault.{counted}
 
 -- a range parts
 pub range_append : (a m n : ℕ) → range_with_len a (m + n) ≡ range_with_len a m ++ range_with_len (a + m) n

@@ -13,7 +13,7 @@ use Rattle.nc_reading.specs.declared.class.Class.TheVariants.{Inside, Skipped, E
 use Rattle.nc_reading.specs.Quiet.{is_quiet}
 use Rattle.nc_report.specs.Further.{may_go, has_bad_target, fault_by, fault_at, listed, others_at, others_to}
 use Rattle.nc_report.specs.Totals.{counts_to}
-use Rattle.nc_report.specs.machinery.Totals.{counted}
+use Rattle.nc_report.specs.machinery.CountedFault.{counted}
 use Rattle.nc_report.proofs.CountedFaults.{counts_more}
 use Rattle.nc_report.proofs.FurtherTexts.{others_more}
 

@@ -2,7 +2,7 @@
 use Rattle.std.proofs.Common.{◌≡◌, ℕ, ◌<◌, Bool, true, false, List, [], ◌∷◌, ◌++◌, if◌then◌else◌, refl, sym, ◌∙◌, ap, codes, not, ◌==◌, ◌||◌, decimal, append_assoc, Bor, ◌+◌, length, get_or, drop, map}
 use Rattle.std.proofs.lemmas.List.{drop_more}
 use Rattle.nc_report.specs.Totals.{kinds_from}
-use Rattle.nc_report.specs.machinery.Totals.{kind_words}
+use Rattle.nc_report.specs.machinery.CountedFault.{kind_words}
 
 -- the words for the first kind and the others, by whether its number is 0
 kind_by : (zero begun : Bool) (rest : Bool → List ℕ) (digits name : List ℕ)

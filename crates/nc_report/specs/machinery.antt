@@ -3,5 +3,5 @@ pub mod Added
 pub mod Found
 pub mod Counts
 pub mod Runs
-pub mod Totals
+pub mod CountedFault
 pub mod Texts

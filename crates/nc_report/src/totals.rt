@@ -6,7 +6,7 @@ ghost use Rattle.nc_output.specs.Shown.{detail_line};
 ghost use Rattle.nc_report.specs.Report.{Shows, counts_text};
 ghost use Rattle.nc_report.specs.Totals.{total, kinds_from, totals_line};
 ghost use Rattle.nc_output.specs.Adds.{Adds};
-ghost use Rattle.nc_report.specs.machinery.Totals.{counted, kind_words};
+ghost use Rattle.nc_report.specs.machinery.CountedFault.{counted, kind_words};
 
 use crate::further::{class_at, is_begun};
 use crate::numbers::{choose, push_all, push_text};

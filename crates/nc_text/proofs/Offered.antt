@@ -8,5 +8,5 @@ pub use Rattle.nc_text.proofs.Fresh.{marked_within, new_is_text, unused_closed}
 pub use Rattle.nc_text.proofs.SpanElements.{length-with_span, is_with_span, get_or-with_span_in, get_or-with_span_below, get_or-with_span_above}
 pub use Rattle.nc_text.proofs.Closing.{step_of, closed_after_put}
 pub use Rattle.nc_text.proofs.Fetch.{KeepsBytes, same_instruction}
-pub use Rattle.nc_text.proofs.Headline.{stands_if_safe}
+pub use Rattle.nc_text.proofs.HeadlineStates.{stands_if_safe}
 pub use Rattle.nc_text.proofs.BitPlaces.{doubled_low, doubled_high}

@@ -9,7 +9,7 @@ use Rattle.nc_region.specs.Each.{Each}
 use Rattle.nc_region.specs.Quiet.{RetiredSpan, IsQuiet}
 use Rattle.nc_region.specs.Region.{IsLive, IsInChunk, IsRising, HoldsValid, IsRegion}
 use Rattle.nc_region.proofs.chunks.AgreesOutside.{AgreesOutside, LiesBeside, still_holds}
-use Rattle.nc_region.proofs.schedules.Unmarking.{shut_if_quiet, MayFree, freed_within, freed_before, freed_behind, freed_long, freed_closed}
+use Rattle.nc_region.proofs.events.Unmarking.{shut_if_quiet, MayFree, freed_within, freed_before, freed_behind, freed_long, freed_closed}
 use Rattle.nc_region.proofs.deleting.QuietSpans.{quiet_chunks}
 use Rattle.nc_acts.proofs.Offered.{place_of, Before, Within, Behind}
 

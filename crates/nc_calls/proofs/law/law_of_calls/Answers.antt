@@ -2,7 +2,7 @@ use Rattle.std.proofs.Common.{[]}
 use Rattle.nc_region.proofs.Offered.{safe_after}
 use Rattle.nc_calls.specs.Histories.{NoneYet}
 use Rattle.nc_calls.proofs.Keeping.{begins, keeper}
-use Rattle.nc_calls.proofs.Histories.{goes_on, created, deleted}
+use Rattle.nc_calls.proofs.OneMoreCall.{goes_on, created, deleted}
 use Rattle.nc_calls.proofs.Modified.{modified}
 use Rattle.nc_calls.proofs.Reclaimed.{reclaimed}
 use Rattle.nc_calls.proofs.Refusals.{refused_same}

@@ -4,7 +4,7 @@ use Rattle.nc_list.specs.declared.chunk.Chunk.{Chunk}
 use Rattle.nc_list.specs.Chunks.{is_due, freed}
 use Rattle.nc_list.specs.Stamps.{AreSince}
 use Rattle.nc_list.proofs.Taking.{none_more}
-use Rattle.nc_list.proofs.Stamps.{since_last}
+use Rattle.nc_list.proofs.LowerBounds.{since_last}
 use Rattle.nc_list.proofs.leaf.count_kept.Goals as goal
 
 pub loop-i-preserved : goal.loop-i-preserved

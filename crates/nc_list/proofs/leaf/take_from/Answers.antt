@@ -5,7 +5,7 @@ use Rattle.nc_list.specs.declared.chunk.Chunk.{Chunk}
 use Rattle.nc_list.specs.Chunks.{is_due, freed}
 use Rattle.nc_list.specs.Stamps.{AreSince}
 use Rattle.nc_list.proofs.Taking.{gone_before, gone_taken, gone_on}
-use Rattle.nc_list.proofs.Stamps.{since_last}
+use Rattle.nc_list.proofs.LowerBounds.{since_last}
 use Rattle.nc_list.proofs.Mapped.{rest_more, here_same}
 use Rattle.nc_list.proofs.leaf.take_from.Goals as goal
 use Rattle.nc_list.proofs.leaf.take_from.Goals.{then-is_due+then-count-room, else-is_due, else-is_due-via-then-is_due+else-count-room, else-is_due-via-else-is_due}

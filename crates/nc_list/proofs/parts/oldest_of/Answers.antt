@@ -4,7 +4,7 @@ use Rattle.std.proofs.lemmas.List.{length-map}
 use Rattle.nc_list.specs.Stamps.{AreSince}
 use Rattle.nc_list.specs.Parts.{all_of}
 use Rattle.nc_list.proofs.Pieces.{part_is, all_more}
-use Rattle.nc_list.proofs.Stamps.{since_both}
+use Rattle.nc_list.proofs.LowerBounds.{since_both}
 use Rattle.nc_list.proofs.parts.oldest_of.Goals as goal
 
 pub loop-k-preserved : goal.loop-k-preserved

@@ -5,7 +5,7 @@ use Rattle.nc_list.specs.declared.chunk.Chunk.{Chunk}
 use Rattle.nc_list.specs.Chunks.{AreTaken, freed}
 use Rattle.nc_list.proofs.Pieces.{inside_too, part_is}
 use Rattle.nc_list.proofs.Parting.{kept_parts}
-use Rattle.nc_list.proofs.Stamps.{none_freed}
+use Rattle.nc_list.proofs.LowerBounds.{none_freed}
 use Rattle.nc_list.proofs.Taking.{taken_at, taken_nothing, passed_more}
 use Rattle.nc_list.proofs.parts.take_one.Goals as goal
 use Rattle.nc_list.proofs.parts.take_one.Goals.{then-oldest-least+else-count-ne0, else-oldest-least}

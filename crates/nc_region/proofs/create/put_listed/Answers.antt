@@ -10,7 +10,7 @@ use Rattle.nc_acts.specs.Chunks.{IsClosedChunk, IsUnused, with_chunk}
 use Rattle.nc_region.specs.machinery.Between.{IsFinalBut}
 use Rattle.nc_acts.proofs.Offered.{logs_more}
 use Rattle.nc_acts.proofs.Offered.{Joins, chunk_joins, chunk_keeps}
-use Rattle.nc_region.proofs.chunks.Creating.{inside_closed, final_but_closed, final_but_starts, final_all, starts_final}
+use Rattle.nc_region.proofs.chunks.StaysClosed.{inside_closed, final_but_closed, final_but_starts, final_all, starts_final}
 use Rattle.nc_acts.proofs.Offered.{same_code}
 use Rattle.nc_region.proofs.create.put_listed.Given.{Over}
 use Rattle.nc_region.proofs.create.put_listed.Goals.{After-put_where, After-mark_listed}

@@ -1,6 +1,6 @@
-use Rattle.nc_region.proofs.schedules.Schedules.{safe_after, none_is_within_freed, usable_after_freed}
-use Rattle.nc_region.proofs.schedules.Moving.{moves_at, bytes_at}
-use Rattle.nc_region.proofs.schedules.Seeing.{as_it_stands, only_as_it_stands, lasts, mixed}
+use Rattle.nc_region.proofs.events.Schedules.{safe_after, none_is_within_freed, usable_after_freed}
+use Rattle.nc_region.proofs.events.Moving.{moves_at, bytes_at}
+use Rattle.nc_region.proofs.events.Seeing.{as_it_stands, only_as_it_stands, lasts, mixed}
 use Rattle.nc_region.proofs.law.law_of_schedules.Goals as goal
 
 pub returns-clause-safe : goal.returns-clause-safe

@@ -1,4 +1,4 @@
-use Rattle.nc_region.proofs.deleting.Freeing.{freed_all, freed_rest}
+use Rattle.nc_region.proofs.deleting.TakingOut.{freed_all, freed_rest}
 use Rattle.nc_region.proofs.reclaim.free_few.Goals as goal
 
 pub returns-then-not-free_until-clause-freed : goal.returns-then-not-free_until-clause-freed

@@ -2,7 +2,7 @@ use Rattle.std.proofs.Common.{◌≡◌, false, arith}
 use Rattle.std.proofs.lemmas.Bool.{false_from_ne_true}
 use Rattle.std.proofs.lemmas.List.{length-replicate}
 use Rattle.nc_list.specs.declared.chunk.Chunk.{Chunk}
-use Rattle.nc_region.proofs.deleting.Freeing.{freed_all}
+use Rattle.nc_region.proofs.deleting.TakingOut.{freed_all}
 use Rattle.nc_region.proofs.reclaim.free_many.Goals as goal
 
 pub returns-clause-freed : goal.returns-clause-freed

@@ -2,7 +2,7 @@ use Rattle.std.proofs.Common.{◌≡◌, ℕ, List, [], length, take, refl, ap, 
 use Rattle.std.proofs.lemmas.List.{length-take-le}
 use Rattle.nc_list.specs.declared.chunk.Chunk.{Chunk}
 use Rattle.nc_region.specs.machinery.Freeing.{AreFreed}
-use Rattle.nc_region.proofs.deleting.Freeing.{taken_out, taken_shorter, none_due, freed_none, freed_more, freed_same}
+use Rattle.nc_region.proofs.deleting.TakingOut.{taken_out, taken_shorter, none_due, freed_none, freed_more, freed_same}
 use Rattle.nc_region.proofs.reclaim.free_until.Given.{Over}
 use Rattle.nc_region.proofs.reclaim.free_until.Goals as goal
 use Rattle.nc_region.proofs.reclaim.free_until.Goals.{After-unmark_taken, Then-count-eq0}

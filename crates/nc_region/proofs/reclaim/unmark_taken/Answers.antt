@@ -4,9 +4,9 @@ use Rattle.nc_text.specs.MarkedText.{MarkedText}
 use Rattle.nc_list.specs.declared.chunk.Chunk.{Chunk}
 use Rattle.nc_region.specs.Quiet.{IsQuiet}
 use Rattle.nc_region.specs.machinery.Freeing.{AreTakenOut, AreUnmarked}
-use Rattle.nc_region.proofs.schedules.Unmarking.{freed_closed}
+use Rattle.nc_region.proofs.events.Unmarking.{freed_closed}
 use Rattle.nc_region.proofs.deleting.Freed.{span_of}
-use Rattle.nc_region.proofs.deleting.Freeing.{taken_at, taken_more, none_taken, unmarks_none, unmarks_one, unmarks_more}
+use Rattle.nc_region.proofs.deleting.TakingOut.{taken_at, taken_more, none_taken, unmarks_none, unmarks_one, unmarks_more}
 use Rattle.nc_region.proofs.reclaim.unmark_taken.Goals as goal
 
 pub loop-i-init : goal.loop-i-init

@@ -5,7 +5,7 @@ use Rattle.nc_report.specs.Totals.{counts_to, total}
 use Rattle.nc_report.specs.Report.{TellsEach}
 use Rattle.nc_report.specs.declared.totals.Counts.{Counts}
 use Rattle.nc_report.specs.machinery.Added.{WritesOn}
-use Rattle.nc_report.specs.machinery.Totals.{counted}
+use Rattle.nc_report.specs.machinery.CountedFault.{counted}
 use Rattle.nc_report.proofs.Additions.{writes_none, writes_more, cut_here, cut_in}
 use Rattle.nc_report.proofs.CountedFaults.{counts_more, total_small}
 use Rattle.nc_report.proofs.FurtherTexts.{completed, told_more, told_there}

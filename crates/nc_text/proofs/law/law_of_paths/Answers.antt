@@ -1,5 +1,5 @@
 use Rattle.std.proofs.Common.{refl}
-use Rattle.nc_text.proofs.Headline.{path_stands, path_more}
+use Rattle.nc_text.proofs.HeadlineStates.{path_stands, path_more}
 use Rattle.nc_text.proofs.law.law_of_paths.Goals as goal
 
 pub returns-clause-stands : goal.returns-clause-stands

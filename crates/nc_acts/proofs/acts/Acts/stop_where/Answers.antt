@@ -6,7 +6,7 @@ use Rattle.nc_acts.specs.Puts.{HasPut}
 use Rattle.nc_text.specs.Ready.{IsReady}
 use Rattle.nc_acts.specs.Acts.{marked_if}
 use Rattle.nc_acts.proofs.SoFar.{none_yet, one_put, one_passed, all_logged, mark_chosen, mark_passed}
-use Rattle.nc_acts.proofs.Puts.{put_more}
+use Rattle.nc_acts.proofs.OneMoreByte.{put_more}
 use Rattle.nc_acts.proofs.acts.Acts.stop_where.Goals.{then-mark_bit-at_marked, else-mark_bit-at_marked}
 use Rattle.nc_acts.proofs.acts.Acts.stop_where.Goals as goal
 

@@ -4,7 +4,7 @@ use Rattle.nc_list.specs.declared.chunk.ChunkState.{ChunkState}
 use Rattle.nc_list.specs.Chunks.{IsRising, HasBase}
 use Rattle.nc_list.specs.Stamps.{IsSince}
 use Rattle.nc_list.specs.Parts.{BeginTo, BeginAbove}
-use Rattle.nc_list.proofs.Stamps.{since_set}
+use Rattle.nc_list.proofs.LowerBounds.{since_set}
 use Rattle.nc_list.proofs.Finding.{last_has, retired_at, begins_set}
 use Rattle.nc_list.proofs.leaf.LeafPart.retire.Goals as goal
 

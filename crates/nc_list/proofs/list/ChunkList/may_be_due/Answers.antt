@@ -1,7 +1,7 @@
 use Rattle.std.proofs.Common.{subst}
 use Rattle.std.proofs.lemmas.Bool.{leb-false}
 use Rattle.nc_list.specs.Stamps.{AreSince}
-use Rattle.nc_list.proofs.Stamps.{none_freed}
+use Rattle.nc_list.proofs.LowerBounds.{none_freed}
 use Rattle.nc_list.proofs.list.ChunkList.may_be_due.Goals as goal
 
 pub returns : goal.returns

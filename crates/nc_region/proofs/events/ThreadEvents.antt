@@ -9,9 +9,9 @@ use Rattle.nc_gens.specs.Rule.{generation_taken, generation_seen, left_word}
 use Rattle.nc_region.specs.schedules.Spans.{RetiredSpan, IsWithin, IsShut}
 use Rattle.nc_region.specs.schedules.World.{World, seat_at}
 use Rattle.nc_region.specs.schedules.Events.{Steps, Enters, Exits, Takes, Sees, Stores, Leaves, IsAllowed, after, with_seat}
-use Rattle.nc_region.proofs.schedules.Invariant.{Keeps, CameBefore, if_none, some_at, none_is_some, with_seat_keeps}
-use Rattle.nc_region.proofs.schedules.Seeing.{as_it_stands}
-use Rattle.nc_region.proofs.schedules.Unmarking.{none_steps_in}
+use Rattle.nc_region.proofs.events.Invariant.{Keeps, CameBefore, if_none, some_at, none_is_some, with_seat_keeps}
+use Rattle.nc_region.proofs.events.Seeing.{as_it_stands}
+use Rattle.nc_region.proofs.events.Unmarking.{none_steps_in}
 
 -- the world's invariant stays when a thread takes a step
 pub keeps_steps : (w : World) (k : ℕ) (next : State) → Keeps w → IsAllowed w (Steps k next) → Keeps (after w (Steps k next))

@@ -14,11 +14,11 @@ use Rattle.nc_region.specs.schedules.World.{IsUsable, AllStandSafe, NoneIsWithin
 use Rattle.nc_region.specs.schedules.Events.{Event, Steps, Enters, Exits, Takes, Sees, Stores, Leaves, Puts, Settles, Marks, Bumps, Retires, Frees}
 use Rattle.nc_region.specs.schedules.Events.{Looks}
 use Rattle.nc_region.specs.schedules.Events.{IsAllowed, after, world_after, AreAllowed}
-use Rattle.nc_region.proofs.schedules.Invariant.{Keeps, SeatKeeps, if_map}
-use Rattle.nc_region.proofs.schedules.Seeing.{only_as_it_stands}
-use Rattle.nc_region.proofs.schedules.ThreadEvents.{keeps_steps, keeps_enters, keeps_exits, keeps_takes, keeps_sees, keeps_stores, keeps_leaves}
-use Rattle.nc_region.proofs.schedules.WriterEvents.{keeps_puts, keeps_settles, keeps_marks, keeps_bumps, keeps_retires, keeps_frees, keeps_looks}
-use Rattle.nc_region.proofs.schedules.WriterEvents.{none_is_within, freed_is_usable}
+use Rattle.nc_region.proofs.events.Invariant.{Keeps, SeatKeeps, if_map}
+use Rattle.nc_region.proofs.events.Seeing.{only_as_it_stands}
+use Rattle.nc_region.proofs.events.ThreadEvents.{keeps_steps, keeps_enters, keeps_exits, keeps_takes, keeps_sees, keeps_stores, keeps_leaves}
+use Rattle.nc_region.proofs.events.WriterEvents.{keeps_puts, keeps_settles, keeps_marks, keeps_bumps, keeps_retires, keeps_frees, keeps_looks}
+use Rattle.nc_region.proofs.events.WriterEvents.{none_is_within, freed_is_usable}
 
 -- the world's invariant (`Keeps`) stays at each allowed event
 pub keeps_event : (w : World) (event : Event) → Keeps w → IsAllowed w event → Keeps (after w event)

@@ -16,7 +16,7 @@ use Rattle.nc_region.specs.Deletion.{is_due, freed, kept, unmarked, unmarkings}
 use Rattle.nc_region.specs.Quiet.{IsQuiet}
 use Rattle.nc_region.specs.Region.{IsRegion}
 use Rattle.nc_region.specs.machinery.Freeing.{AreTakenOut, AreUnmarked, AreFreed, AllFreed}
-use Rattle.nc_region.proofs.schedules.Unmarking.{MayFree}
+use Rattle.nc_region.proofs.events.Unmarking.{MayFree}
 use Rattle.nc_region.proofs.deleting.Freed.{span_of, dead_is_quiet, frees, region_freed}
 use Rattle.nc_region.proofs.deleting.Due.{due_dead, kept_and_freed}
 use Rattle.nc_acts.proofs.Offered.{logs_none, logs_acts}

@@ -10,7 +10,7 @@ use Rattle.nc_region.specs.schedules.World.{World, Seat, first_seat, first_world
 use Rattle.nc_region.specs.schedules.Events.{Event, Steps, Enters, Exits, Takes, Sees, Stores, Leaves, Puts, Settles, Marks, Bumps, Retires, Frees}
 use Rattle.nc_region.specs.schedules.Events.{Looks}
 use Rattle.nc_region.specs.schedules.Events.{IsAllowed, after, world_after, AreAllowed, IsMove, AllMove, ChangesBytes}
-use Rattle.nc_region.proofs.schedules.Schedules.{allowed_back}
+use Rattle.nc_region.proofs.events.Schedules.{allowed_back}
 
 -- who stays where it is moves as a thread may
 pub stays : (w : World) (inside : Option State) → IsMove w inside inside

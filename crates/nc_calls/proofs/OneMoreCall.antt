@@ -34,7 +34,7 @@ use Rattle.nc_calls.proofs.Parting.{Kept}
 use Rattle.nc_calls.proofs.Putting.{Leads, Reaches, Views, leads_none}
 use Rattle.nc_calls.proofs.RetiredSpans.{retired_insert, same_spans_retired}
 use Rattle.nc_calls.proofs.Turning.{puts_keep}
-use Rattle.nc_calls.proofs.Whole.{IsWholeIn, StaysWhole}
+use Rattle.nc_calls.proofs.StaysWhole.{IsWholeIn, StaysWhole}
 use Rattle.nc_calls.proofs.Interleaved.{ArePlain, interleave, seated}
 
 -- puts before plain events are plain with them

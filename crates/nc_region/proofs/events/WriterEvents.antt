@@ -15,9 +15,9 @@ use Rattle.nc_text.proofs.Offered.{IsKnown, length-with_span}
 use Rattle.nc_region.specs.schedules.Spans.{RetiredSpan, IsWithin, IsShut}
 use Rattle.nc_region.specs.schedules.World.{World, Seat, first_seat, seat_at, IsViewOf, IsWhole, AreApart, IsUsable, is_same_span, NoneIsWithin}
 use Rattle.nc_region.specs.schedules.Events.{Puts, Settles, Marks, Bumps, Retires, Frees, Looks, IsAllowed, after, new_span}
-use Rattle.nc_region.proofs.schedules.Invariant.{Keeps, SeatKeeps, OthersApart, CameBefore, if_map, some_at, none_is_some}
-use Rattle.nc_region.proofs.schedules.Unmarking.{MayFree, freed_marks, freed_long, freed_stays, freed_closed, freed_shut}
-use Rattle.nc_region.proofs.schedules.Seeing.{as_it_stands, settled_view}
+use Rattle.nc_region.proofs.events.Invariant.{Keeps, SeatKeeps, OthersApart, CameBefore, if_map, some_at, none_is_some}
+use Rattle.nc_region.proofs.events.Unmarking.{MayFree, freed_marks, freed_long, freed_stays, freed_closed, freed_shut}
+use Rattle.nc_region.proofs.events.Seeing.{as_it_stands, settled_view}
 
 -- the world's invariant stays when a byte is put
 pub keeps_puts : (w : World) (at byte : ℕ) → Keeps w → IsAllowed w (Puts at byte) → Keeps (after w (Puts at byte))
