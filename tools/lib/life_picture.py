@@ -6,7 +6,7 @@ from transcripts import scripts
 
 FILE, ABOUT = "reuse.txt", "The life of a span: "
 BASE, BUNDLE = 0x10000, constant("BUNDLE", "crates/nc_decode/src/bundles.rt")
-STOP = constant("STOP", "crates/nc_acts/src/acts.rt")
+STOP = constant("STOP", "crates/nc_decode/src/instruction.rt")
 # The lengths of the script's instructions, by their first bytes.
 LENGTHS = {0xEB: 2, 0x90: 1}
 COLORS = {"unused": GRAY, "live": BLUE, "retired": ORANGE}

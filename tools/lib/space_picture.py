@@ -4,7 +4,7 @@ from sources import Unread, constant, found, number
 from svg import BLUE, FILLS, GRAY, GREEN, INK, ORANGE, RED, Picture
 
 CONSTANTS = "crates/nc_decode/src/bundles.rt"
-STOPS = "crates/nc_acts/src/acts.rt"
+STOPS = "crates/nc_decode/src/instruction.rt"
 RANGE = "crates/nc_vet/specs/Chunk.antt"
 LIMIT = "crates/nc_decode/specs/Bundles.antt"
 

@@ -11,3 +11,4 @@ pub use Rattle.nc_acts.proofs.Alone.{alone, alone_fits_bytes, alone_within, alon
 pub use Rattle.nc_acts.proofs.Alone.{alone_marks_long}
 pub use Rattle.nc_acts.proofs.Joining.{Joins, chunk_joins, chunk_keeps}
 pub use Rattle.nc_acts.proofs.Stopping.{same_code, all_stops, admits_is_mark}
+pub use Rattle.nc_acts.proofs.SoFar.{bit_is_mark}

@@ -5,7 +5,8 @@ use Rattle.std.proofs.Math.Bool.{beq}
 use Rattle.std.proofs.lemmas.List.{take_all}
 use Rattle.nc_decode.specs.declared.instruction.Mark.{Mark}
 use Rattle.nc_decode.specs.declared.instruction.Mark.TheVariants.{Unmarked, Plain, After}
-use Rattle.nc_text.specs.Marks.{mark_at, mark_bit}
+use Rattle.nc_decode.specs.Bits.{mark_bit}
+use Rattle.nc_text.specs.Marks.{mark_at}
 use Rattle.nc_acts.specs.declared.acts.Act.TheVariants.{Put}
 use Rattle.nc_acts.specs.declared.acts.Entry.{Entry}
 use Rattle.nc_acts.specs.declared.acts.Entry.TheVariants.{Did}
@@ -87,7 +88,8 @@ small_mark_bit Unmarked = omega arith
 small_mark_bit Plain = omega arith
 small_mark_bit (After register) = omega arith
 
-bit_is_mark : (mark : Mark) → (mark_bit mark == 1) ≡ is_mark mark
+-- the bit of a mark is set where the mark stands for a state
+pub bit_is_mark : (mark : Mark) → (mark_bit mark == 1) ≡ is_mark mark
 bit_is_mark Unmarked = refl
 bit_is_mark Plain = refl
 bit_is_mark (After register) = refl

@@ -4,9 +4,9 @@ ghost use Rattle.std.specs.Prelude.{◌≡◌, ◌+◌, ◌%◌, ◌^◌, ◌<�
 ghost use Rattle.std.specs.Prelude.{IsTrue, OnOk, OnErr, Bool, true, false};
 ghost use Rattle.std.specs.Int.{bit_at};
 ghost use Rattle.nc_decode.specs.declared.instruction.Mark.{Mark};
-ghost use Rattle.nc_decode.specs.Bits.{marks_in};
+ghost use Rattle.nc_decode.specs.Bits.{mark_bit, marks_in};
 ghost use Rattle.nc_decode.specs.Bundles.{IsBundleStart};
-ghost use Rattle.nc_text.specs.Marks.{IsClosed, mark_at, mark_bit};
+ghost use Rattle.nc_text.specs.Marks.{IsClosed, mark_at};
 ghost use Rattle.nc_text.specs.Places.{InRegion, SpanInRegion, byte_at, limit_of};
 ghost use Rattle.nc_text.specs.MarkedText.{MarkedText, IsText, with_byte, with_chunk, with_stops, with_marks, without_marks, NamesRegister};
 ghost use Rattle.nc_text.specs.MarkedText.{KeepsMarks, AreStops};
@@ -20,12 +20,9 @@ ghost use Rattle.nc_acts.specs.Acts.{puts_where, starts_if, marked_if, is_marked
 ghost use Rattle.nc_acts.specs.Chunks.{HasGoodSpan, IsClosedChunk, IsUnused};
 ghost use Rattle.nc_acts.specs.Log.{Logs, unsettled, log_of_create, log_of_stops};
 
-use nc_decode::{Bundle, Mark};
+use nc_decode::{Bundle, Mark, STOP, mark_bit};
 use nc_gens::{GensFull, Pass};
 use nc_text::TextFault;
-
-/// The byte of the instruction hlt, a *stop*.
-pub const STOP: u8 = 0xF4;
 
 /// One atomic change that a region makes, or one look at its generations.
 #[derive(Clone, Copy, Debug, PartialEq, Eq)]
@@ -305,14 +302,4 @@ pub trait Acts {
     fn generation(&self) -> u64
         ensures generation { result ≡ (keeper self.now).numbers.generation }
         ensures in_range { result ≤ 2 ^ 62 };
-}
-
-/// The bit of a mark among those of marked places: 1 for a mark that stands for some state, otherwise 0.
-fn mark_bit(mark: Mark) -> u32
-    ensures { result ≡ mark_bit mark }
-{
-    match mark {
-        Mark::Unmarked => 0,
-        Mark::Plain | Mark::After(_) => 1,
-    }
 }

@@ -15,7 +15,7 @@ mod history;
 mod plain;
 mod recorder;
 
-pub use acts::{Act, Acts, Entry, STOP};
+pub use acts::{Act, Acts, Entry};
 pub use history::{History, Note};
 pub use plain::{GensRef, Plain, PlainOf};
 pub use recorder::Recorder;

@@ -6,4 +6,3 @@ pub mod PermittedIsListed
 pub mod RowAndEntry
 pub mod OperandTable
 pub mod PlainOpcodes
-pub mod TransferTable

@@ -1,4 +1,4 @@
--- The marks of a chunk, computed from the bits of its bundles.
+-- The marks of a chunk, computed from the bits of its bundles, and the bit of a mark.
 use Rattle.std.specs.Prelude.{ℕ, ◌+◌, ◌-◌, ◌/◌, ◌%◌, Bool, List, length, map, get_or, slice_index, ◌==◌, ◌||◌, if◌then◌else◌}
 use Rattle.std.specs.Int.{bit_at}
 use Rattle.std.specs.List.{range_with_len}
@@ -29,3 +29,9 @@ mark_by_bits code bundles k = bit_mark (get_or bundles (k / 32) no_bits) (k % 32
 -- the marks at all offsets of a chunk, by the bits of its bundles
 abbrev pub marks_in : List ℕ → List Bundle → List Mark
 marks_in code bundles = map (mark_by_bits code bundles) (range_with_len 0 (length code))
+
+-- 1 for a mark that admits some state, 0 for `Unmarked`
+abbrev pub mark_bit : Mark → ℕ
+mark_bit Unmarked = 0
+mark_bit Plain = 1
+mark_bit (After register) = 1

@@ -45,6 +45,6 @@ pub use bundles::{
     is_region_size,
 };
 pub use decoding::decode;
-pub use instruction::{DecodeFault, Flow, Instr, Mark};
+pub use instruction::{DecodeFault, Flow, Instr, Mark, STOP, mark_bit};
 pub use law::{law_of_automaton, law_of_fronts};
 pub use transfer::may_transfer;

@@ -34,15 +34,12 @@ ghost use Rattle.std.specs.Prelude.{◌≡◌, ◌+◌, ◌*◌, ◌↔◌, OnOk
 ghost use Rattle.nc_decode.specs.Bundles.{IsLawfulLimit};
 ghost use Rattle.nc_text.specs.MarkedText.{unused_text};
 
-use nc_decode::{BUNDLE, Mark, START};
+use nc_decode::{BUNDLE, Mark, START, STOP};
 use nc_gens::{Gens, GensFull, Keeper, Pass};
 use nc_region::{Acts, Plain, RegionFault};
 use nc_text::{Text, TextFault};
 use std::alloc::Global;
 use std::fmt;
-
-/// The instruction hlt.
-const STOP: u8 = 0xF4;
 
 /// A text, and a host's memory, which holds the same bytes after every act.
 ///

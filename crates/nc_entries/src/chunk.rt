@@ -3,7 +3,7 @@
 ghost use Rattle.std.specs.Prelude.{◌≡◌, ◌+◌, ◌%◌, ◌<◌, ◌≤◌, ℕ, List, length, slice_index};
 ghost use Rattle.std.specs.Int.{bit_at};
 ghost use Rattle.nc_decode.specs.declared.instruction.Mark.{Mark};
-ghost use Rattle.nc_text.specs.Marks.{mark_bit};
+ghost use Rattle.nc_decode.specs.Bits.{mark_bit};
 
 /// A chunk, wherever it is stored, read place by place. A place is an index into its code.
 ///

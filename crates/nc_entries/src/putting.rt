@@ -12,7 +12,7 @@ ghost use Rattle.nc_entries.specs.machinery.Writing.{HasPutUpTo, starts_if, mark
 use crate::act::NcAct;
 use crate::chunk::ReadChunk;
 use crate::entries::{bump, mark_span, put, settle, write};
-use nc_acts::STOP;
+use nc_decode::STOP;
 use nc_text::lowest_place;
 
 /// Writes the puts of a bundle's bytes but for the first, in ascending order. Returns the new number of acts.

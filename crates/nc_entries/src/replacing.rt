@@ -9,8 +9,7 @@ ghost use Rattle.nc_entries.specs.machinery.Writing.{HasPutUpTo};
 
 use crate::act::NcAct;
 use crate::entries::{put, settle, write};
-use nc_acts::STOP;
-use nc_decode::decode;
+use nc_decode::{STOP, decode};
 
 /// Whether the code has these bytes from this place on.
 fn stands(code: &[u8], from: usize, bytes: &[u8]) -> bool

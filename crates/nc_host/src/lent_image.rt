@@ -9,12 +9,9 @@ ghost use Rattle.nc_host.specs.Outcomes.{IsAccepted, IsChunkFault, IsOutcome};
 
 use crate::lent_answers::NcVerdict;
 use crate::lent_vet::verdict_of;
-use nc_decode::{BUNDLE, MAX_BUNDLES, START};
+use nc_decode::{BUNDLE, MAX_BUNDLES, START, STOP};
 use nc_vet::judge;
 use std::alloc::Global;
-
-/// The byte of `hlt`.
-const STOP: u8 = 0xF4;
 
 /// The limit of a region whose text has this many bytes; 0 if no region has so many.
 fn limit_for(size: usize) -> u32

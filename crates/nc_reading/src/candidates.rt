@@ -2,20 +2,11 @@
 
 ghost use Rattle.std.specs.Prelude.{◌≡◌, ◌≤◌, ◌<◌, ◌+◌, ◌%◌, ◌==◌, ℕ, true, length, get_or, slice_index, if◌then◌else◌};
 ghost use Rattle.std.specs.Int.{bit_at};
-ghost use Rattle.nc_decode.specs.Transfers.{may_transfer};
 ghost use Rattle.nc_reading.specs.Quiet.{is_quiet};
 
 use crate::class::Class;
-use nc_decode::BUNDLE;
+use nc_decode::{BUNDLE, may_transfer};
 use std::simd::prelude::*;
-
-/// Whether a direct transfer may begin with this byte. No branches and no look-up, so that many bytes are tested at once.
-#[inline(always)]
-fn may_transfer(byte: u8) -> bool
-    ensures { result ≡ may_transfer byte }
-{
-    (byte == 0x0F) | ((0x70 <= byte) & (byte <= 0x7F)) | ((0xE0 <= byte) & (byte <= 0xEB))
-}
 
 /// A place whose byte has this class and this value has no fault, whatever the targets of transfers. Either no fault begins at
 /// a byte of the class, or it is an entry and the value begins no direct transfer.

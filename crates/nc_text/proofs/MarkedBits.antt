@@ -6,7 +6,7 @@ use Rattle.std.proofs.lemmas.Bool.{cases_eq}
 use Rattle.std.proofs.lemmas.Bool.Decides.{nat_tests}
 use Rattle.std.proofs.lemmas.Nat.Bits.{bit_at-pow_other}
 use Rattle.nc_decode.specs.declared.instruction.Mark.TheVariants.{Unmarked, Plain, After}
-use Rattle.nc_text.specs.Marks.{mark_bit}
+use Rattle.nc_decode.specs.Bits.{mark_bit}
 use Rattle.nc_text.specs.MarkedText.{unused_mark}
 
 -- a place is marked if it is plain or a second half

@@ -26,10 +26,9 @@ pub(crate) struct Masks {
 
 impl Masks {
     ghost use Rattle.std.specs.Prelude.{◌≡◌, ◌≢◌, ℕ, ◌+◌, ◌^◌, ◌<◌, ◌≤◌, ◌⊎◌, All, length, slice_index, slice_index_or};
-    ghost use Rattle.nc_decode.specs.Bits.{bit_mark};
+    ghost use Rattle.nc_decode.specs.Bits.{bit_mark, mark_bit};
     ghost use Rattle.nc_decode.specs.declared.instruction.Mark.TheVariants.{Unmarked};
     ghost use Rattle.std.specs.Int.{bit_at};
-    ghost use Rattle.nc_text.specs.Marks.{mark_bit};
     ghost use Rattle.nc_text.specs.machinery.Masks.{mark_in, unused_masks};
     ghost use Rattle.nc_text.specs.MarkedText.{NamesRegister, unused_mark};
 

@@ -1,10 +1,7 @@
 //! One page of a text.
 
 use crate::masks::Masks;
-use nc_decode::{Bundle, Mark, bundle_at};
-
-/// The byte of the instruction hlt, with which all unused text is filled.
-pub(crate) const STOP: u8 = 0xF4;
+use nc_decode::{Bundle, Mark, STOP, bundle_at};
 
 /// The number of places on a page.
 pub(crate) const PAGE: usize = 4096;
@@ -25,10 +22,9 @@ pub(crate) struct Page {
 impl Page {
     ghost use Rattle.std.specs.Prelude.{◌≡◌, ◌≢◌, ℕ, ◌+◌, ◌%◌, ◌^◌, ◌<◌, ◌≤◌, ◌⊎◌, ◌==◌, if◌then◌else◌, All, length, slice_index};
     ghost use Rattle.std.specs.Prelude.{slice_index_or, IfOk};
-    ghost use Rattle.nc_decode.specs.Bits.{mark_by_bits};
+    ghost use Rattle.nc_decode.specs.Bits.{mark_bit, mark_by_bits};
     ghost use Rattle.nc_decode.specs.declared.instruction.Mark.TheVariants.{Unmarked};
     ghost use Rattle.std.specs.Int.{bit_at};
-    ghost use Rattle.nc_text.specs.Marks.{mark_bit};
     ghost use Rattle.nc_text.specs.machinery.Pages.{byte_on, mark_on};
     ghost use Rattle.nc_text.specs.machinery.Masks.{mark_in};
     ghost use Rattle.nc_text.specs.MarkedText.{unused_mark, NamesRegister};

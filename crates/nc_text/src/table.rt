@@ -5,13 +5,13 @@ ghost use Rattle.std.specs.Prelude.{slice_index, slice_index_or, replicate, ◌^
 ghost use Rattle.nc_decode.specs.declared.instruction.Mark.TheVariants.{Unmarked};
 ghost use Rattle.std.specs.Int.{bit_at};
 ghost use Rattle.std.specs.Option.{is_some};
-ghost use Rattle.nc_text.specs.Marks.{mark_bit};
+ghost use Rattle.nc_decode.specs.Bits.{mark_bit};
 ghost use Rattle.nc_text.specs.machinery.Pages.{byte_on, mark_on, byte_of, mark_in_pages, page_of};
 ghost use Rattle.nc_text.specs.MarkedText.{unused_mark, NamesRegister};
 
 use crate::change::Change;
-use crate::page::{BUNDLE, PAGE, Page, STOP};
-use nc_decode::Mark;
+use crate::page::{BUNDLE, PAGE, Page};
+use nc_decode::{Mark, STOP};
 use std::alloc::{AllocError, Global};
 
 /// The marked places of a bundle on a page that isn't allocated: only its start.

@@ -4,8 +4,8 @@ ghost use Rattle.std.specs.Prelude.{◌≡◌, ◌+◌, ◌%◌, ◌-◌, ◌*�
 ghost use Rattle.std.specs.Prelude.{IfOk, IfErr, IsTrue, All, ◌↔◌, ◌⊎◌};
 ghost use Rattle.std.specs.Int.{bit_at};
 ghost use Rattle.nc_decode.specs.Bundles.{IsBundleStart, IsLawfulLimit};
-ghost use Rattle.nc_decode.specs.Bits.{marks_in};
-ghost use Rattle.nc_text.specs.Marks.{IsClosed, mark_at, mark_bit};
+ghost use Rattle.nc_decode.specs.Bits.{mark_bit, marks_in};
+ghost use Rattle.nc_text.specs.Marks.{IsClosed, mark_at};
 ghost use Rattle.nc_text.specs.Places.{InRegion, SpanInRegion, byte_at, limit_of};
 ghost use Rattle.nc_text.specs.MarkedText.{MarkedText, IsText, with_byte, with_chunk, with_stops, with_marks, without_marks, unused_text, NamesRegister};
 ghost use Rattle.nc_text.specs.MarkedText.{KeepsMarks, AreStops};

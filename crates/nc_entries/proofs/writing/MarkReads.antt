@@ -3,9 +3,10 @@ use Rattle.std.proofs.Common.{◌≡◌, ℕ, zero, suc, ◌+◌, ◌-◌, ◌%�
 use Rattle.std.specs.Int.{bit_at, bit_not}
 use Rattle.std.proofs.lemmas.Nat.Bits.{bit_at_not, bit_at_lowest, bit_at-suc, bit_at-zero, bit_at-lt}
 use Rattle.nc_decode.specs.declared.instruction.Mark.TheVariants.{Unmarked, Plain, After}
-use Rattle.nc_text.specs.Marks.{mark_bit}
+use Rattle.nc_decode.specs.Bits.{mark_bit}
 use Rattle.nc_acts.specs.Acts.{is_start, is_inside, is_mark}
 use Rattle.nc_decode.specs.declared.instruction.Mark.{Mark}
+use Rattle.nc_acts.proofs.Offered.{bit_is_mark}
 use Rattle.nc_region.proofs.Offered.{is_start_false}
 use Rattle.nc_entries.specs.machinery.Writing.{mark_if, marks_if}
 
@@ -13,12 +14,6 @@ use Rattle.nc_entries.specs.machinery.Writing.{mark_if, marks_if}
 pub mark_read : (marked : Bool) (marks : ℕ → Mark) (base i : ℕ) → marks_if marked marks base (base + i) ≡ mark_if marked (marks i)
 mark_read marked marks base i =
     let here : base + i - base ≡ i = omega arith in ap (λ (k : ℕ). mark_if marked (marks k)) here
-
--- the bit of a mark is set where the mark stands for a state
-pub bit_is_mark : (mark : Mark) → (mark_bit mark == 1) ≡ is_mark mark
-bit_is_mark Unmarked = refl
-bit_is_mark Plain = refl
-bit_is_mark (After register) = refl
 
 -- the opposite of the bit of a mark is set where the mark stands for no state
 pub bit_is_none : (mark : Mark) → (1 - mark_bit mark == 1) ≡ not (is_mark mark)

@@ -12,7 +12,8 @@ use Rattle.nc_decode.specs.declared.instruction.Mark.TheVariants.{Unmarked, Plai
 use Rattle.nc_decode.specs.Transfers.{is_indirect}
 use Rattle.nc_vet.specs.Chunk.{Piece, place, AreSpelled, marks_of}
 use Rattle.nc_vet.proofs.Offered.{marks_of-append, length-marks_of}
-use Rattle.nc_text.specs.Marks.{mark_at, mark_bit}
+use Rattle.nc_decode.specs.Bits.{mark_bit}
+use Rattle.nc_text.specs.Marks.{mark_at}
 use Rattle.nc_text.specs.MarkedText.{MarkedText, IsText}
 use Rattle.nc_list.specs.declared.chunk.Chunk.{Chunk}
 use Rattle.nc_region.specs.machinery.PatchSteps.{Begins}

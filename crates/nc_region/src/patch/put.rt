@@ -19,8 +19,8 @@ ghost use Rattle.nc_region.specs.Patch.{AreBytesOf, stands_there, any_place, log
 ghost use Rattle.nc_region.specs.machinery.PatchSteps.{IsReplacing, CanReplace, IsInterim, CanPatch};
 
 use crate::patch::judge::stands_there;
-use nc_acts::{Acts, STOP};
-use nc_decode::decode;
+use nc_acts::Acts;
+use nc_decode::{STOP, decode};
 use nc_list::Chunk;
 
 /// Replaces the instructions from an address on, in ascending order, with others of the same lengths. An instruction whose

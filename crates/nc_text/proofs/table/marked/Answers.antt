@@ -1,6 +1,6 @@
 use Rattle.std.proofs.Common.{◌+◌, ◌/◌, ◌%◌, None, arith, ap, sym, ◌∙◌}
 use Rattle.std.proofs.lemmas.List.{get_or_default}
-use Rattle.nc_text.specs.Marks.{mark_bit}
+use Rattle.nc_decode.specs.Bits.{mark_bit}
 use Rattle.nc_text.specs.declared.page.Page.{Page}
 use Rattle.nc_text.specs.machinery.Pages.{Slot, mark_on, mark_if_made}
 use Rattle.nc_text.proofs.MarkedBits.{unused_bit, unused_from}

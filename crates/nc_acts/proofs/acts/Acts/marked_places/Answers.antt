@@ -1,7 +1,8 @@
 use Rattle.std.proofs.Common.{◌≡◌, ℕ, ◌+◌, ◌-◌, ◌*◌, ◌<◌, ◌^◌, zero, suc, arith, ap, ◌∙◌}
 use Rattle.std.specs.Int.{bit_at}
 use Rattle.std.proofs.Math.Nat.{pow-succ'}
-use Rattle.nc_text.specs.Marks.{mark_at, mark_bit}
+use Rattle.nc_decode.specs.Bits.{mark_bit}
+use Rattle.nc_text.specs.Marks.{mark_at}
 use Rattle.nc_text.proofs.Offered.{doubled_low, doubled_high}
 use Rattle.nc_acts.proofs.SoFar.{small_mark_bit}
 use Rattle.nc_acts.proofs.acts.Acts.marked_places.Goals as goal

@@ -1,6 +1,7 @@
 use Rattle.std.proofs.Common.{◌≡◌, ℕ, ◌+◌, ◌-◌, ◌<◌, ◌^◌}
 use Rattle.std.specs.Int.{bit_at}
-use Rattle.nc_text.specs.Marks.{mark_at, mark_bit}
+use Rattle.nc_decode.specs.Bits.{mark_bit}
+use Rattle.nc_text.specs.Marks.{mark_at}
 use Rattle.nc_acts.proofs.acts.Acts.marked_places.Given as goal
 
 abbrev pub invariant-loop-n : goal.invariant-loop-n

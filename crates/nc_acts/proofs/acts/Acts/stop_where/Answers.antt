@@ -1,7 +1,8 @@
 use Rattle.std.proofs.Common.{Bool, true, ◌≡◌, ℕ, ◌+◌, ◌-◌, ◌<◌, List, length, set, replicate, refl, arith, sym, subst, ap, ◌∙◌}
 use Rattle.std.proofs.lemmas.List.{length-replicate, get_or-replicate}
 use Rattle.nc_decode.specs.declared.instruction.Mark.{Mark}
-use Rattle.nc_text.specs.Marks.{IsClosed, mark_at, mark_bit}
+use Rattle.nc_decode.specs.Bits.{mark_bit}
+use Rattle.nc_text.specs.Marks.{IsClosed, mark_at}
 use Rattle.nc_acts.specs.Puts.{HasPut}
 use Rattle.nc_text.specs.Ready.{IsReady}
 use Rattle.nc_acts.specs.Acts.{marked_if}

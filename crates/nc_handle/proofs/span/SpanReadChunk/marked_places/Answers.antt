@@ -1,5 +1,6 @@
 use Rattle.std.proofs.Common.{ℕ, ◌+◌, arith, ap, ◌∙◌}
-use Rattle.nc_text.specs.Marks.{mark_at, mark_bit}
+use Rattle.nc_decode.specs.Bits.{mark_bit}
+use Rattle.nc_text.specs.Marks.{mark_at}
 use Rattle.nc_text.specs.MarkedText.{MarkedText}
 use Rattle.nc_handle.proofs.SpanReads.{span_long, span_high}
 use Rattle.nc_handle.proofs.span.SpanReadChunk.marked_places.Goals as goal

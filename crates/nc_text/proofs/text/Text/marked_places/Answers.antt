@@ -1,5 +1,5 @@
 use Rattle.std.proofs.Common.{arith, ap, ◌∙◌}
-use Rattle.nc_text.specs.Marks.{mark_bit}
+use Rattle.nc_decode.specs.Bits.{mark_bit}
 use Rattle.nc_text.proofs.Views.{IsLent, page_inside, mark_there}
 use Rattle.nc_text.proofs.text.Text.marked_places.Goals.{After-deref}
 use Rattle.nc_text.proofs.text.Text.marked_places.Goals as goal

@@ -1,5 +1,5 @@
 use Rattle.std.proofs.Common.{rules}
-use Rattle.nc_acts.proofs.acts.mark_bit.Goals as goal
+use Rattle.nc_decode.proofs.instruction.mark_bit.Goals as goal
 
 pub returns-in-Unmarked : goal.returns-in-Unmarked
 returns-in-Unmarked c = search rules
