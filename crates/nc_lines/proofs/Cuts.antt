@@ -128,19 +128,15 @@ lines_of-next lines part more h o =
 
 -- ---- what is kept
 
--- what is kept and not too long is of a part that is not too long
-kept_fits : (n : ℕ) (kept part : List ℕ) → kept ≡ take (n + 1) part → length kept ≤ n → length part ≤ n
-kept_fits n kept part e l = omega (arith, ap length e ∙ length-take (n + 1) part)
+-- a part of which at most n bytes are kept has at most n bytes
+pub kept_is_short : (n : ℕ) (kept part : List ℕ) → kept ≡ take (n + 1) part → length kept ≤ n → length part ≤ n
+kept_is_short n kept part e l = omega (arith, ap length e ∙ length-take (n + 1) part)
 
 -- what is kept and not too long is all of the part
 pub kept_is_all : (n : ℕ) (kept part : List ℕ) → kept ≡ take (n + 1) part → length kept ≤ n → kept ≡ part
 kept_is_all n kept part e l =
-    let fits = kept_fits n kept part e l in
+    let fits = kept_is_short n kept part e l in
     e ∙ take_all (n + 1) part (omega arith)
-
--- a part of which at most n bytes are kept has at most n bytes
-pub kept_is_short : (n : ℕ) (kept part : List ℕ) → kept ≡ take (n + 1) part → length kept ≤ n → length part ≤ n
-kept_is_short = kept_fits
 
 -- a part of which more than n bytes are kept has more than n bytes
 pub kept_is_long : (n : ℕ) (kept part : List ℕ) → kept ≡ take (n + 1) part → n < length kept → n < length part

@@ -1,3 +1,3 @@
 mod ReadSteps
-mod QuickReading
+mod BundleReading
 mod MarkBits

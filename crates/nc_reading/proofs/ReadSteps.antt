@@ -1,10 +1,10 @@
 -- Code that is read step by step.
-use Rattle.std.proofs.Common.{◌≡◌, ◌≢◌, ℕ, suc, ◌+◌, ◌-◌, ◌%◌, ◌<◌, ◌≤◌, List, [], ◌∷◌, ◌++◌, length, take, drop, set, refl, sym, subst, ◌∙◌, ap, arith, replicate, slice_set, append_assoc, append-nil, Option, None, Some}
+use Rattle.std.proofs.Common.{◌≡◌, ◌≢◌, ℕ, suc, ◌+◌, ◌-◌, ◌%◌, ◌<◌, ◌≤◌, List, [], ◌∷◌, ◌++◌, length, drop, set, refl, sym, subst, ◌∙◌, ap, arith}
+use Rattle.std.proofs.Common.{replicate, slice_set, append_assoc, append-nil, Option, None, Some}
 use Rattle.std.proofs.lemmas.List.{length-append, length-replicate, drop-drop, length-drop, drop_all, set_at, replicate-append-replicate}
-use Rattle.std.proofs.Math.Seq.{take-append-add}
 use Rattle.nc_decode.specs.declared.instruction.Instr.{Instr}
 use Rattle.nc_decode.specs.Spelling.{IsAtFront}
-use Rattle.nc_decode.proofs.Offered.{exact, spells_some}
+use Rattle.nc_decode.proofs.Offered.{exact}
 use Rattle.nc_vet.proofs.Offered.{flat_map-append}
 use Rattle.nc_reading.specs.Lengths.{known_length}
 use Rattle.nc_reading.specs.declared.class.Class.{Class}
@@ -44,19 +44,6 @@ one_step code at next room masked after classes new s h left step is_room some e
 -- before the last byte something is left
 pub some_after : (code : List ℕ) (at : ℕ) → at < length code → drop at code ≢ []
 some_after code at lt e = absurd (omega (arith, length-drop at code, ap (λ (z : List ℕ). length z) e, lt))
-
--- an instruction at the front of some bytes is at the front of the first of them that it fits in
-pub front_cut : (bytes : List ℕ) (i : Instr) (w : ℕ) → IsAtFront bytes i → i.len ≤ w → IsAtFront (take w bytes) i
-front_cut bytes i w f long =
-    let len = (spells_some f.front i f.spells).0 in
-    record {
-      front = f.front;
-      rest = take (w - length f.front) f.rest;
-      parts = ap (take w) f.parts
-          ∙ ap (λ (n : ℕ). take n (f.front ++ f.rest)) {x = w} {y = length f.front + (w - length f.front)} (omega (arith, len, long))
-          ∙ take-append-add f.front f.rest (w - length f.front);
-      spells = f.spells;
-    }
 
 -- one class more is written
 pub one_put : (front put after classes : List Class) (at k count : ℕ) (v : Class) → length front ≡ at → length put ≡ k → k < count

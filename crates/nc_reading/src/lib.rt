@@ -5,7 +5,7 @@
 //! transfer may have a fault that classes don't show, a bad target, which depends on the base and the limit too.
 //!
 //! A reading is a list of [`Step`]s, as `specs/Reading` defines. `steps` makes it, with the lengths of instructions that aren't
-//! permitted from `lengths`, and `quick` reads bundles without a fault, four at a time. `candidates` tests 32 places at a time.
+//! permitted from `lengths`, and `fast_path` reads bundles without a fault, four at a time. `candidates` tests 32 places at a time.
 //!
 //! ```
 //! // A bundle with a return, which isn't permitted, and 31 nops.
@@ -17,8 +17,8 @@
 
 mod candidates;
 mod class;
+mod fast_path;
 mod lengths;
-mod quick;
 mod steps;
 
 pub use candidates::next_candidate;

@@ -6,8 +6,8 @@ ghost use Rattle.nc_reading.specs.declared.class.Class.{Class};
 ghost use Rattle.nc_reading.specs.Reading.{extent, masked_by, class_of, later_class, step_classes, Finds, IsStep, HasClasses};
 
 use crate::class::Class;
+use crate::fast_path::read_bundles;
 use crate::lengths::known_len;
-use crate::quick::read_bundles;
 use nc_decode::{BUNDLE, DecodeFault, Instr, decode};
 use std::alloc::{AllocError, Global};
 

@@ -5,6 +5,7 @@ pub use Rattle.nc_vet.proofs.OneVerdict.{one_fault, one_reading}
 pub use Rattle.nc_vet.proofs.OneReading.{one_at_front, same_pieces, none_after}
 pub use Rattle.nc_vet.proofs.Splits.{split_none, split_push, flat_map-append}
 pub use Rattle.nc_vet.proofs.Pieces.{code_of-append, place-push, place-append, marks_of-append, spelled_after, length-marks_of, valid_len}
+pub use Rattle.nc_vet.proofs.Pieces.{front_cut}
 pub use Rattle.nc_vet.proofs.MarkedPlaces.{Begins, marked, mark_at, first_plain, plain_entry, entry_plain}
 pub use Rattle.nc_vet.proofs.MarkedPlaces.{target_inside, plain_inside, target_outside, starts_outside}
 pub use Rattle.nc_vet.proofs.LaneBits.{compared, equal_small, equal_bit, loaded}

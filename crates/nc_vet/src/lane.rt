@@ -78,15 +78,15 @@ fn ended(states: u8x32) -> u32
 
 /// The bits of a bundle that one lane has read.
 #[inline(always)]
-pub(crate) fn told(lane: &Lane) -> Bundle
+pub(crate) fn bundle_bits(lane: &Lane) -> Bundle
     ensures { TellsStates lane.now.states result }
 {
-    told_by(&lane.states)
+    bits_of_states(&lane.states)
 }
 
 /// The bits of a bundle, by the states after its bytes, which are the first of these.
 #[inline(always)]
-pub(crate) fn told_by(states: &[u8]) -> Bundle
+pub(crate) fn bits_of_states(states: &[u8]) -> Bundle
     requires { 32 ≤ length states.now }
     ensures { TellsStates states.now result }
 {

@@ -5,7 +5,7 @@ ghost use Rattle.std.specs.Int.{bit_at};
 ghost use Rattle.nc_decode.specs.Bits.{no_bits};
 ghost use Rattle.nc_vet.specs.machinery.Running.{TellsBundle, AreEightRuns, AreTold, EndsFront};
 
-use crate::lane::{Lane, step_at, told, told_by};
+use crate::lane::{Lane, bits_of_states, bundle_bits, step_at};
 use nc_decode::{Bundle, Row};
 use std::alloc::Global;
 
@@ -78,7 +78,7 @@ fn push_whole(bundles: &mut Vec<Bundle>, code: &[u8], states: &[u8; 256]) -> Opt
     ensures room { vec_capacity bundles.new ≡ vec_capacity bundles.old }
 {
     for n in 0..LANES {
-        let bundle = told_by(&states[32 * n..]);
+        let bundle = bits_of_states(&states[32 * n..]);
         if bundle.ends >> LAST & 1 == 0 {
             return Some(bundle);
         }
@@ -89,7 +89,7 @@ fn push_whole(bundles: &mut Vec<Bundle>, code: &[u8], states: &[u8; 256]) -> Opt
 
 /// The bits of the bundle at place `at`, read by itself.
 #[inline(always)]
-fn one(code: &[u8], at: usize) -> Bundle
+fn read_one(code: &[u8], at: usize) -> Bundle
     requires start { at % 32 ≡ 0 }
     requires room { at + 32 ≤ length code.now }
     ensures { TellsBundle code.now at result }
@@ -98,12 +98,12 @@ fn one(code: &[u8], at: usize) -> Bundle
     for i in 0..32 {
         a.step(i, code[at + i]);
     }
-    told(&a)
+    bundle_bits(&a)
 }
 
 /// The bits of the two bundles from place `at` on.
 #[inline(always)]
-fn two(code: &[u8], at: usize) -> (Bundle, Bundle)
+fn read_two(code: &[u8], at: usize) -> (Bundle, Bundle)
     requires start { at % 32 ≡ 0 }
     requires room { at + 64 ≤ length code.now }
     ensures first { TellsBundle code.now at result.0 }
@@ -115,13 +115,13 @@ fn two(code: &[u8], at: usize) -> (Bundle, Bundle)
         a.step(i, code[at + i]);
         b.step(i, code[at + 32 + i]);
     }
-    (told(&a), told(&b))
+    (bundle_bits(&a), bundle_bits(&b))
 }
 
 /// The bits of the four bundles from place `at` on. A lane whose bundle would be after the end of the code reads the last
 /// bundle instead.
 #[inline(always)]
-fn four(code: &[u8], at: usize) -> [Bundle; FEW_LANES]
+fn read_four(code: &[u8], at: usize) -> [Bundle; FEW_LANES]
     requires start { at % 32 ≡ 0 }
     requires bundles { length code.now % 32 ≡ 0 }
     requires room { at < length code.now }
@@ -141,7 +141,12 @@ fn four(code: &[u8], at: usize) -> [Bundle; FEW_LANES]
         c.step(i, code[third + i]);
         d.step(i, code[fourth + i]);
     }
-    [told(&a), told(&b), told(&c), told(&d)]
+    [
+        bundle_bits(&a),
+        bundle_bits(&b),
+        bundle_bits(&c),
+        bundle_bits(&d),
+    ]
 }
 
 /// The number of bundles at the front such that an instruction ends at the end of each.
@@ -204,7 +209,7 @@ fn read_last(bundles: Vec<Bundle>, code: &[u8]) -> Option<Front>
     requires told { AreTold code.now bundles.items }
     ensures { IfSome result (λ front. EndsFront code.now front.bundles.items front.end) }
 {
-    let last = one(code, code.len() - 32);
+    let last = read_one(code, code.len() - 32);
     with_last(bundles, code, last)
 }
 
@@ -216,7 +221,7 @@ fn read_last_two(mut bundles: Vec<Bundle>, code: &[u8]) -> Option<Front>
     ensures { IfSome result (λ front. EndsFront code.now front.bundles.items front.end) }
 {
     let start = code.len() - 64;
-    let (first, last) = two(code, start);
+    let (first, last) = read_two(code, start);
     if first.ends >> LAST & 1 == 0 {
         let end = last_end(code, start, first.ends);
         return Some(Front { bundles, end });
@@ -276,7 +281,7 @@ pub(crate) fn read_bundles(alloc: Global, code: &[u8]) -> Option<Front>
         _ => {}
     }
     while bundles.len() < count {
-        let more = four(code, 32 * bundles.len());
+        let more = read_four(code, 32 * bundles.len());
         let few = FEW_LANES.min(count - bundles.len());
         let whole = whole_front(&more[..few]);
         bundles.extend_from_slice(&more[..whole]).ok()?;

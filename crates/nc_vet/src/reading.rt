@@ -97,7 +97,7 @@ fn unmarked(alloc: Global, n: usize) -> Result<Vec<Mark>, AllocError>
 }
 
 /// The marks of all of the code, found instruction by instruction.
-pub(crate) fn read_exactly(alloc: Global, base: u32, code: &[u8]) -> Result<Vec<Mark>, VetFault>
+pub(crate) fn read_slow_path(alloc: Global, base: u32, code: &[u8]) -> Result<Vec<Mark>, VetFault>
     requires bundles { length code.now % 32 ≡ 0 }
     requires fits { base + length code.now < 2 ^ 32 }
     ensures read { IfOk result (λ marks. HasReadAll code.now marks.items) }
@@ -158,5 +158,5 @@ pub(crate) fn read(alloc: Global, base: u32, code: &[u8]) -> Result<Marks, VetFa
             return Err(fault);
         }
     }
-    Ok(Marks::Each(read_exactly(alloc, base, code)?))
+    Ok(Marks::Each(read_slow_path(alloc, base, code)?))
 }

@@ -64,8 +64,8 @@ pub fn judge(alloc: Global, base: u32, limit: u32, code: &[u8]) -> Result<Marks,
 /// there is none of these, and the first bad one is reported. No other code in the region is examined: any bundle start
 /// outside the chunk is a permitted target.
 ///
-/// The chunk is first read quickly, several bundles at once, by an automaton. Code that this reading accepts is valid. Code
-/// that it doesn't accept is read once more, instruction by instruction; the second reading decides and names the fault.
+/// On the fast path an automaton reads several bundles at once. Code that it accepts is valid. Code that it doesn't accept is
+/// read once more, instruction by instruction; this slow path decides and names the fault.
 ///
 /// Nothing is promised about what the code does with data, or that memory is available; a valid chunk is refused only for
 /// lack of memory. Every refusal gives the code back.

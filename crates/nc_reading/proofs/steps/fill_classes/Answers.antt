@@ -3,7 +3,7 @@ use Rattle.std.proofs.lemmas.List.{take_rest, length-drop}
 use Rattle.nc_reading.specs.Reading.{IsStep}
 use Rattle.nc_reading.specs.machinery.Seen.{HasFilled}
 use Rattle.nc_reading.proofs.ReadSteps.{none_filled_yet, one_filled, some_after, all_filled}
-use Rattle.nc_reading.proofs.QuickReading.{masked_at_start, none_masked_past}
+use Rattle.nc_reading.proofs.BundleReading.{masked_at_start, none_masked_past}
 use Rattle.nc_reading.proofs.steps.fill_classes.Goals as goal
 
 pub loop-at-init : goal.loop-at-init

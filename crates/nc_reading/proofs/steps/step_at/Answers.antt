@@ -1,6 +1,7 @@
 use Rattle.std.proofs.Common.{refl, arith}
 use Rattle.nc_decode.specs.Spelling.{IsAtFront}
-use Rattle.nc_reading.proofs.ReadSteps.{extent_of, front_cut}
+use Rattle.nc_vet.proofs.Offered.{front_cut}
+use Rattle.nc_reading.proofs.ReadSteps.{extent_of}
 use Rattle.nc_reading.proofs.steps.step_at.Goals as goal
 
 pub returns-in-Ok-clause-step : goal.returns-in-Ok-clause-step

@@ -14,8 +14,8 @@ returns-then-bundle-eq0-clause-told c = c.loop-n.invariant.told
 pub returns-then-bundle-eq0-clause-stop : goal.returns-then-bundle-eq0-clause-stop
 returns-then-bundle-eq0-clause-stop c =
     moved c.args.code.now _ _ _ (omega (arith, c.loop-n.invariant.count))
-    (lane_told c.args.code.now (32 * vec_len c.args.bundles.now) c.loop-n.n c.args.states.now c.told_by-bundle.result
-    c.loop-n-test.true c.requires.states c.told_by-bundle.ensures)
+    (lane_told c.args.code.now (32 * vec_len c.args.bundles.now) c.loop-n.n c.args.states.now c.bits_of_states-bundle.result
+    c.loop-n-test.true c.requires.states c.bits_of_states-bundle.ensures)
 
 pub returns-then-bundle-eq0-clause-within : goal.returns-then-bundle-eq0-clause-within
 returns-then-bundle-eq0-clause-within c = omega (arith, c.loop-n.invariant.count, c.loop-n-test.true)
@@ -25,12 +25,14 @@ push_reserved-requires c = omega (arith, c.loop-n.invariant.count, c.loop-n.inva
 
 pub loop-n-preserved : goal.loop-n-preserved
 loop-n-preserved c =
-    let items : c.push_reserved.new.self.items ≡ c.loop-n.bundles.items ++ c.told_by-bundle.result ∷ [] = search (rules, c.push_reserved.ensures.items) in
-    let set : bit_at c.told_by-bundle.result.ends 31 ≡ 1 = omega
-    (arith, shr_and_one c.told_by-bundle.result.ends 31, bit_at-lt c.told_by-bundle.result.ends 31, c.if-bundle-eq0.false) in
-    let tells = lane_told c.args.code.now (32 * vec_len c.args.bundles.now) c.loop-n.n c.args.states.now c.told_by-bundle.result
-    c.loop-n-test.true c.requires.states c.told_by-bundle.ensures in
-    let w = told_next c.args.code.now c.loop-n.bundles.items c.push_reserved.new.self.items c.told_by-bundle.result c.loop-n.invariant.told items
+    let items : c.push_reserved.new.self.items ≡ c.loop-n.bundles.items ++ c.bits_of_states-bundle.result ∷ [] =
+    search (rules, c.push_reserved.ensures.items) in
+    let set : bit_at c.bits_of_states-bundle.result.ends 31 ≡ 1 = omega
+    (arith, shr_and_one c.bits_of_states-bundle.result.ends 31, bit_at-lt c.bits_of_states-bundle.result.ends 31, c.if-bundle-eq0.false) in
+    let tells = lane_told c.args.code.now (32 * vec_len c.args.bundles.now) c.loop-n.n c.args.states.now c.bits_of_states-bundle.result
+    c.loop-n-test.true c.requires.states c.bits_of_states-bundle.ensures in
+    let w = told_next c.args.code.now c.loop-n.bundles.items c.push_reserved.new.self.items c.bits_of_states-bundle.result
+    c.loop-n.invariant.told items
     (moved c.args.code.now _ _ _ (omega (arith, c.loop-n.invariant.count, c.loop-n.bundles.ok.0)) tells) set in
     record {
       told = w.0;
