@@ -1,10 +1,11 @@
 //! The request that a line makes.
 
-ghost use Rattle.std.specs.Prelude.{◌≡◌, ◌≤◌, IfOk, ◌∷◌};
+ghost use Rattle.std.specs.Prelude.{◌≡◌, ◌≤◌, IfOk, [], ◌∷◌};
 ghost use Rattle.std.specs.Option.{option_copied, option_map};
+ghost use Rattle.nc_lines.specs.Lines.{words_in};
 ghost use Rattle.nc_lines.specs.Words.{words_after};
 ghost use Rattle.nc_script.specs.Requests.{request_in, create_in, modify_in, delete_in, of_seat_in, walk_in};
-ghost use Rattle.nc_script.specs.Requests.{addresses_in, ask_in, chunk_in, single_in};
+ghost use Rattle.nc_script.specs.Requests.{addresses_in, chunk_in};
 ghost use Rattle.nc_script.specs.Requests as spec;
 ghost use Rattle.nc_script.specs.machinery.Shown.{shown};
 
@@ -35,102 +36,64 @@ pub(crate) enum Request {
     Ask { query: Query },
 }
 
-/// The request made by the words after `create`.
-fn create_of(alloc: Global, rest: Option<&[u8]>) -> Result<Option<Request>, AllocError>
-    ensures { IfOk result (λ found. option_map shown found ≡ create_in (words_after (option_copied rest.entry))) }
+/// The request made by the text after `create`.
+fn create_of(alloc: Global, text: &[u8]) -> Result<Option<Request>, AllocError>
+    ensures { IfOk result (λ found. option_map shown found ≡ create_in (words_in text.now)) }
 {
-    let Some(text) = rest else {
-        return Ok(None);
-    };
     match placed_at(alloc, text)? {
         Some((at, bytes)) => Ok(Some(Request::Create { at, bytes })),
         None => Ok(None),
     }
 }
 
-/// The request made by the words after `modify`.
-fn modify_of(alloc: Global, rest: Option<&[u8]>) -> Result<Option<Request>, AllocError>
-    ensures { IfOk result (λ found. option_map shown found ≡ modify_in (words_after (option_copied rest.entry))) }
+/// The request made by the text after `modify`.
+fn modify_of(alloc: Global, text: &[u8]) -> Result<Option<Request>, AllocError>
+    ensures { IfOk result (λ found. option_map shown found ≡ modify_in (words_in text.now)) }
 {
-    let Some(text) = rest else {
-        return Ok(None);
-    };
     match placed_at(alloc, text)? {
         Some((at, bytes)) => Ok(Some(Request::Modify { at, bytes })),
         None => Ok(None),
     }
 }
 
-/// The request made by the words after `delete`.
-fn delete_of(rest: Option<&[u8]>) -> Option<Request>
-    ensures { option_map shown result ≡ delete_in (words_after (option_copied rest.entry)) }
+/// The request made by the text after `delete`.
+fn delete_of(text: &[u8]) -> Option<Request>
+    ensures { option_map shown result ≡ delete_in (words_in text.now) }
 {
-    let Some(text) = rest else {
-        return None;
-    };
     match address_of(text) {
         Some(base) => Some(Request::Delete { base }),
         None => None,
     }
 }
 
-/// The request made by the words after `checkin`.
-fn check_in_of(rest: Option<&[u8]>) -> Option<Request>
-    ensures { option_map shown result ≡ of_seat_in spec.CheckIn (words_after (option_copied rest.entry)) }
+/// The request made by the text after `checkin`.
+fn check_in_of(text: &[u8]) -> Option<Request>
+    ensures { option_map shown result ≡ of_seat_in spec.CheckIn (words_in text.now) }
 {
-    let Some(text) = rest else {
-        return None;
-    };
     match seat_of(text) {
         Some(seat) => Some(Request::CheckIn { seat }),
         None => None,
     }
 }
 
-/// The request made by the words after `leave`.
-fn leave_of(rest: Option<&[u8]>) -> Option<Request>
-    ensures { option_map shown result ≡ of_seat_in spec.Leave (words_after (option_copied rest.entry)) }
+/// The request made by the text after `leave`.
+fn leave_of(text: &[u8]) -> Option<Request>
+    ensures { option_map shown result ≡ of_seat_in spec.Leave (words_in text.now) }
 {
-    let Some(text) = rest else {
-        return None;
-    };
     match seat_of(text) {
         Some(seat) => Some(Request::Leave { seat }),
         None => None,
     }
 }
 
-/// The request made by the words after `chunk`.
-fn chunk_of(rest: Option<&[u8]>) -> Option<Request>
-    ensures { option_map shown result ≡ chunk_in (words_after (option_copied rest.entry)) }
+/// The request made by the text after `chunk`.
+fn chunk_of(text: &[u8]) -> Option<Request>
+    ensures { option_map shown result ≡ chunk_in (words_in text.now) }
 {
-    let Some(text) = rest else {
-        return None;
-    };
     match address_of(text) {
         Some(at) => Some(Request::Ask {
             query: Query::ChunkAt { at },
         }),
-        None => None,
-    }
-}
-
-/// This request, if no words follow its own.
-fn single_of(request: Request, rest: Option<&[u8]>) -> Option<Request>
-    ensures { option_map shown result ≡ single_in (shown request) (words_after (option_copied rest.entry)) }
-{
-    match rest {
-        None => Some(request),
-        Some(_) => None,
-    }
-}
-
-/// The request made by the word of a query, if no words follow it.
-fn ask_of(word: &[u8], rest: Option<&[u8]>) -> Option<Request>
-    ensures { option_map shown result ≡ ask_in word.now (words_after (option_copied rest.entry)) }
-{
-    match query_of(word) {
-        Some(query) => single_of(Request::Ask { query }, rest),
         None => None,
     }
 }
@@ -166,13 +129,10 @@ fn addresses_of(alloc: Global, rest: Option<&[u8]>) -> Result<Option<Vec<u32>>, 
     Ok(Some(choices))
 }
 
-/// The request made by the words after `walk`.
-fn walk_of(alloc: Global, rest: Option<&[u8]>) -> Result<Option<Request>, AllocError>
-    ensures { IfOk result (λ found. option_map shown found ≡ walk_in (words_after (option_copied rest.entry))) }
+/// The request made by the text after `walk`.
+fn walk_of(alloc: Global, text: &[u8]) -> Result<Option<Request>, AllocError>
+    ensures { IfOk result (λ found. option_map shown found ≡ walk_in (words_in text.now)) }
 {
-    let Some(text) = rest else {
-        return Ok(None);
-    };
     let Some((start, choices)) = first_address_of(text) else {
         return Ok(None);
     };
@@ -199,29 +159,47 @@ pub(crate) fn request_of(alloc: Global, line: &[u8]) -> Result<Option<Request>, 
 fn asked_by(alloc: Global, key: &[u8], rest: Option<&[u8]>) -> Result<Option<Request>, AllocError>
     ensures { IfOk result (λ found. option_map shown found ≡ spec.request_of (key.now ∷ words_after (option_copied rest.entry))) }
 {
+    match rest {
+        Some(text) => asked_with(alloc, key, text),
+        None => Ok(asked_alone(key)),
+    }
+}
+
+/// The request made by the only word of a line.
+fn asked_alone(key: &[u8]) -> Option<Request>
+    ensures { option_map shown result ≡ spec.request_of (key.now ∷ []) }
+{
+    if is_word(key, b"reclaim") {
+        return Some(Request::Reclaim);
+    }
+    let query = query_of(key)?;
+    Some(Request::Ask { query })
+}
+
+/// The request made by the first word of a line and the text after it.
+fn asked_with(alloc: Global, key: &[u8], text: &[u8]) -> Result<Option<Request>, AllocError>
+    ensures { IfOk result (λ found. option_map shown found ≡ spec.request_of (key.now ∷ words_in text.now)) }
+{
     if is_word(key, b"create") {
-        return create_of(alloc, rest);
+        return create_of(alloc, text);
     }
     if is_word(key, b"modify") {
-        return modify_of(alloc, rest);
+        return modify_of(alloc, text);
     }
     if is_word(key, b"delete") {
-        return Ok(delete_of(rest));
+        return Ok(delete_of(text));
     }
     if is_word(key, b"checkin") {
-        return Ok(check_in_of(rest));
+        return Ok(check_in_of(text));
     }
     if is_word(key, b"leave") {
-        return Ok(leave_of(rest));
-    }
-    if is_word(key, b"reclaim") {
-        return Ok(single_of(Request::Reclaim, rest));
+        return Ok(leave_of(text));
     }
     if is_word(key, b"walk") {
-        return walk_of(alloc, rest);
+        return walk_of(alloc, text);
     }
     if is_word(key, b"chunk") {
-        return Ok(chunk_of(rest));
+        return Ok(chunk_of(text));
     }
-    Ok(ask_of(key, rest))
+    Ok(None)
 }

@@ -1,16 +1,19 @@
 -- The requests that the words of a text make, read of the text.
-use Rattle.std.proofs.Common.{◌≡◌, ◌≢◌, ◌++◌, ◌+◌, ◌<◌, ◌≤◌, ◌==◌, ℕ, zero, suc, false, List, [], ◌∷◌, Option, Some, None, length, take, drop}
+use Rattle.std.proofs.Common.{◌≡◌, ◌≢◌, ◌++◌, ◌+◌, ◌<◌, ◌≤◌, ◌==◌, ℕ, zero, suc, Bool, true, false, List, [], ◌∷◌, Option, Some, None, length, take, drop}
 use Rattle.std.proofs.Common.{slice_index, refl, sym, ap, ◌∙◌, subst, append_assoc, arith}
 use Rattle.std.proofs.lemmas.List.{drop_more, take_all, take-append-drop}
 use Rattle.std.proofs.lemmas.List.Elements.{All-nil, All-cons}
 use Rattle.std.proofs.lemmas.List.Splits.{slice_split_at, slice_split_none}
+use Rattle.std.specs.Prelude.{codes, if◌then◌else◌}
 use Rattle.std.specs.List.{All}
 use Rattle.std.specs.Option.{option_map, option_and_then}
 use Rattle.nc_output.proofs.Offered.{eqb_no}
 use Rattle.nc_lines.specs.Lines.{line_limit, words_in}
 use Rattle.nc_lines.specs.Words.{address_in, first_address_in}
 use Rattle.nc_lines.proofs.Offered.{words_some, of_one, of_one-text, address_in-spaced}
-use Rattle.nc_script.specs.Requests.{Request, Delete, Walk, Ask, addresses_in, delete_in, chunk_in, digit_in, next_digit, of_seat_in, request_in, request_of, seat_in, single_in, walk_in}
+use Rattle.nc_script.specs.Queries.{is_word, query_in}
+use Rattle.nc_script.specs.Requests.{Request, Delete, Reclaim, Walk, Ask, addresses_in, delete_in, chunk_in, digit_in, next_digit, of_seat_in}
+use Rattle.nc_script.specs.Requests.{request_in, request_of, seat_in, single_in, walk_in}
 use Rattle.nc_script.specs.declared.query.Query.TheVariants.{ChunkAt}
 
 -- ---- one word
@@ -71,11 +74,32 @@ seat_text request text =
     one_seat request (words_in text)
     ∙ of_one-text (λ word. option_map request (seat_in word)) text (λ front back. ap (option_map request) (seat_in-spaced front back))
 
+-- ---- words that no others may follow
+
 -- a text has words, so it makes no request of one word
-pub single_text : (request : Request) (text : List ℕ) → single_in request (words_in text) ≡ None
+single_text : (request : Request) (text : List ℕ) → single_in request (words_in text) ≡ None
 single_text request text =
     let (word, words, e) = words_some text in
     ap (single_in request) e
+
+-- a choice by a test that fails
+passed : {X : Type 0} (b : Bool) (x y z : X) → b ≡ false → y ≡ z → (if b then x else y) ≡ z
+passed true x y z fails e = absurd cc
+passed false x y z _ e = e
+
+-- a choice between nothing and nothing
+neither : {X : Type 0} (b : Bool) (x y : Option X) → x ≡ None → y ≡ None → (if b then x else y) ≡ None
+neither true x y e f = e
+neither false x y e f = f
+
+-- a text makes no request after a word that wants none
+pub none_with : (word text : List ℕ) → is_word word (codes "create") ≡ false → is_word word (codes "modify") ≡ false
+    → is_word word (codes "delete") ≡ false → is_word word (codes "checkin") ≡ false → is_word word (codes "leave") ≡ false
+    → is_word word (codes "walk") ≡ false → is_word word (codes "chunk") ≡ false → None ≡ request_of (word ∷ words_in text)
+none_with word text create modify delete checkin leave walk chunk =
+    sym (passed _ _ _ None create (passed _ _ _ None modify (passed _ _ _ None delete (passed _ _ _ None checkin (passed _ _ _ None leave
+    (neither _ _ _ (single_text Reclaim text) (passed _ _ _ None walk (passed _ _ _ None chunk
+    (nothing_after (query_in word) _ (λ query. single_text (Ask query) text))))))))))
 
 -- ---- addresses
 
