@@ -24,7 +24,7 @@ use Rattle.nc_acts.specs.Acts.{is_mark, is_marked_at, is_unmarked_at, puts_where
 use Rattle.nc_acts.specs.Chunks.{HasGoodSpan}
 use Rattle.nc_acts.specs.Puts.{HasPut}
 use Rattle.nc_region.specs.Each.{Each}
-use Rattle.nc_region.specs.Region.{IsLive, IsRising, IsRegion}
+use Rattle.nc_region.specs.Region.{IsLive, IsAscending, IsRegion}
 use Rattle.nc_region.proofs.Offered.{region_deleted, all_stops, each_get, each_from, each_at_set, quiet_chunks, rises_get}
 use Rattle.nc_region.proofs.Offered.{apart_by_index, place_of, Before, Within, Behind, before_span}
 use Rattle.nc_calls.specs.Calls.{no_details}
@@ -55,21 +55,21 @@ stop_byte : (len k : ℕ) → k < len → get_or (replicate {A = ℕ} len 244) k
 stop_byte len k lt = get_or-replicate len k 244 0 lt
 
 -- the retired spans lie beside a live chunk
-pub live_beside : (chunks : List Chunk) (k : ℕ) (c : Chunk) → IsRising 65536 chunks → k < length chunks → get_or chunks k c ≡ c
+pub live_beside : (chunks : List Chunk) (k : ℕ) (c : Chunk) → IsAscending 65536 chunks → k < length chunks → get_or chunks k c ≡ c
     → IsLive c.state
     → Each (λ (d : Chunk). (stamp : ℕ) → d.state ≡ Retired stamp → IsBeside c.base c.length
     (record { base = d.base; length = d.length; stamp = stamp })) chunks
-live_beside chunks k c rising lt here live =
+live_beside chunks k c ascending lt here live =
     each_from (λ (d : Chunk). (stamp : ℕ) → d.state ≡ Retired stamp → IsBeside c.base c.length
     (record { base = d.base; length = d.length; stamp = stamp })) chunks c
     (λ i inside stamp is. (
-      rises_get 65536 chunks i c rising inside,
+      rises_get 65536 chunks i c ascending inside,
       ⊎_elim
-          (λ (before : i < k). inl (omega (arith, apart_by_index 65536 chunks c rising i k before lt, ap (λ (x : Chunk). x.base) here)))
+          (λ (before : i < k). inl (omega (arith, apart_by_index 65536 chunks c ascending i k before lt, ap (λ (x : Chunk). x.base) here)))
           (λ (from : k ≤ i).
           ⊎_elim
           (λ (behind : k < i). inr
-          (omega (arith, apart_by_index 65536 chunks c rising k i behind inside, ap (λ (x : Chunk). x.base + x.length) here)))
+          (omega (arith, apart_by_index 65536 chunks c ascending k i behind inside, ap (λ (x : Chunk). x.base + x.length) here)))
           (λ (to : i ≤ k).
           let same : i ≡ k = omega (arith, from, to) in
           let at : get_or chunks i c ≡ c = ap (λ (n : ℕ). get_or chunks n c) same ∙ here in
@@ -99,7 +99,7 @@ placed_there w chunks k c r =
 beside_there : (w : World) (chunks : List Chunk) (k : ℕ) (c : Chunk) → IsDeleting w chunks k c → All (IsBeside c.base c.length) w.retired
 beside_there w chunks k c r =
     all_spans (IsBeside c.base c.length) w.retired chunks r.spans
-    (retired_each (IsBeside c.base c.length) chunks (live_beside chunks k c r.region.rising r.inside r.here r.live))
+    (retired_each (IsBeside c.base c.length) chunks (live_beside chunks k c r.region.ascending r.inside r.here r.live))
 
 -- ---- stops at the marked places
 

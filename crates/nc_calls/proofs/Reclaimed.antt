@@ -59,7 +59,7 @@ reclaimed limit seats before events old new count h region is own threads found 
     subst (λ (m : MarkedText). IsRegion m old.chunks) (sym here) region in
     let f = frees_done (least_number new.keeper.numbers) (retired_spans old.chunks) old.chunks []
     (placed (world_after (first_world limit seats) before) a.keeper_after a.seats_after) region_mid
-    (finds_all 65536 (limit_of old.marked.bytes) old.chunks region.rising region.placed) h.stands.spans in
+    (finds_all 65536 (limit_of old.marked.bytes) old.chunks region.ascending region.placed) h.stands.spans in
     let may : FreesMay w.retired (least_number new.keeper.numbers) (writers p.second) =
     subst (FreesMay w.retired (least_number new.keeper.numbers)) (sym p.second_is) f.may in
     let keeper_is : (world_after (first_world limit seats) (before ++ events)).keeper ≡ a.keeper_after =

@@ -24,7 +24,7 @@ use Rattle.nc_acts.specs.Chunks.{HasGoodSpan}
 use Rattle.nc_region.specs.Deletion.{is_due, freed, kept, unmarked, unmarkings}
 use Rattle.nc_region.specs.Each.{Each}
 use Rattle.nc_region.specs.Quiet.{with_retired, retired_spans}
-use Rattle.nc_region.specs.Region.{IsLive, IsRising, IsRegion}
+use Rattle.nc_region.specs.Region.{IsLive, IsAscending, IsRegion}
 use Rattle.nc_region.proofs.Offered.{each_map, each_both, each_contains, each_middle, region_freed, rises_above}
 use Rattle.nc_calls.specs.Interleaving.{writers, ThreadsMay}
 use Rattle.nc_calls.specs.Calls.{KnowsNoMore, span_from}
@@ -146,24 +146,24 @@ same_itself a =
 abbrev IsClear : ℕ → RetiredSpan → Type 0
 IsClear base span = base ≢ span.base
 
--- in a rising list each retired chunk but a given one has another base
-others_clear : (from : ℕ) (before after : List Chunk) (c : Chunk) (limit : ℕ) → IsRising from (before ++ c ∷ after)
+-- in a ascending list each retired chunk but a given one has another base
+others_clear : (from : ℕ) (before after : List Chunk) (c : Chunk) (limit : ℕ) → IsAscending from (before ++ c ∷ after)
     → Each (λ (d : Chunk). HasGoodSpan d.base limit d.length) (before ++ c ∷ after)
     → Each (λ (d : Chunk). (stamp : ℕ) → d.state ≡ Retired stamp → IsClear c.base
     (record { base = d.base; length = d.length; stamp = stamp })) (before ++ after)
-others_clear from [] after c limit rising placed =
+others_clear from [] after c limit ascending placed =
     each_map (λ (d : Chunk). c.base + c.length ≤ d.base)
     (λ (d : Chunk). (stamp : ℕ) → d.state ≡ Retired stamp → IsClear c.base (record { base = d.base; length = d.length; stamp = stamp }))
-    (λ d h stamp is e. omega (arith, h, e, placed.0.some)) after (rises_above (c.base + c.length) after rising.1)
-others_clear from (b ∷ before) after c limit rising placed = (
+    (λ d h stamp is e. omega (arith, h, e, placed.0.some)) after (rises_above (c.base + c.length) after ascending.1)
+others_clear from (b ∷ before) after c limit ascending placed = (
   λ stamp is e. omega (
     arith,
     each_middle (λ (d : Chunk). b.base + b.length ≤ d.base) before after c
-        (rises_above (b.base + b.length) (before ++ c ∷ after) rising.1),
+        (rises_above (b.base + b.length) (before ++ c ∷ after) ascending.1),
     e,
     placed.0.some,
   ),
-  others_clear (b.base + b.length) before after c limit rising.1 placed.1,
+  others_clear (b.base + b.length) before after c limit ascending.1 placed.1,
 )
 
 -- a span freed leaves those of the other chunks
@@ -225,17 +225,17 @@ found_first c s spans stamp is =
     ∙ ap (λ (b : Bool). cond b (record { base = c.base; length = c.length; stamp = stamp }) (span_from spans c.base))
     (eq-eqb c.base c.base refl)
 
--- each chunk of a rising list finds its span
-pub finds_all : (from limit : ℕ) (chunks : List Chunk) → IsRising from chunks
+-- each chunk of a ascending list finds its span
+pub finds_all : (from limit : ℕ) (chunks : List Chunk) → IsAscending from chunks
     → Each (λ (d : Chunk). HasGoodSpan d.base limit d.length) chunks
     → Each (Finds (retired_spans chunks)) chunks
-finds_all from limit [] rising placed = tt
-finds_all from limit (x ∷ rest) rising placed = (
+finds_all from limit [] ascending placed = tt
+finds_all from limit (x ∷ rest) ascending placed = (
   λ stamp is. found_first x x.state (retired_spans rest) stamp is,
   each_both (λ (d : Chunk). x.base + x.length ≤ d.base) (Finds (retired_spans rest)) (Finds (retired_spans (x ∷ rest)))
       (λ d above finds stamp is. found_behind x d x.state (retired_spans rest)
       (record { base = d.base; length = d.length; stamp = stamp }) (λ e. omega (arith, above, e, placed.0.some)) (finds stamp is))
-      rest (rises_above (x.base + x.length) rest rising.1) (finds_all (x.base + x.length) limit rest rising.1 placed.1),
+      rest (rises_above (x.base + x.length) rest ascending.1) (finds_all (x.base + x.length) limit rest ascending.1 placed.1),
 )
 
 -- what is due was retired with a stamp of at most the number
@@ -264,7 +264,7 @@ free_one : (least : ℕ) (all : List RetiredSpan) (done rest : List Chunk) (c : 
 free_one least all done rest c v region finds same go stamp is le =
     let sp : RetiredSpan = record { base = c.base; length = c.length; stamp = stamp } in
     let clear = retired_each (λ (s : RetiredSpan). IsClear c.base s) (done ++ rest)
-    (others_clear 65536 done rest c (limit_of v.marked.bytes) region.rising region.placed) in
+    (others_clear 65536 done rest c (limit_of v.marked.bytes) region.ascending region.placed) in
     let next = same_spans_freed v.retired done rest c stamp is clear same in
     let r = go (after v (Frees (record { base = c.base; length = c.length; stamp = stamp })))
     (region_freed v.marked done rest c region (retired_dead c.state stamp is)) next in

@@ -15,7 +15,7 @@ later_base : (marked : MarkedText) (chunks : List Chunk) (d : Chunk) → IsRegio
     → (get_or chunks i d).base < (get_or chunks j d).base
 later_base marked chunks d region i j before lt =
     let good = each_get (λ (x : Chunk). HasGoodSpan x.base (limit_of marked.bytes) x.length) chunks i d (omega (arith, before, lt)) region.placed in
-    omega (arith, good.some, apart_by_index 0x10000 chunks d region.rising i j before lt)
+    omega (arith, good.some, apart_by_index 0x10000 chunks d region.ascending i j before lt)
 
 -- listed chunks of one base are one
 pub one_of_base : (marked : MarkedText) (chunks : List Chunk) (c d : Chunk) → IsRegion marked chunks → Contains chunks c

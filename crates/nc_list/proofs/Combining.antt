@@ -7,7 +7,7 @@ use Rattle.nc_list.specs.Chunks.{IsAboveAll, IsBelowAll, IsNextChunk, IsRetired,
 use Rattle.nc_list.specs.Parts.{IsPut, BeginAbove, all_of}
 use Rattle.nc_list.proofs.EachMember.{each_append}
 use Rattle.nc_list.proofs.Pieces.{all_around}
-use Rattle.nc_list.proofs.Rising.{meets_rest}
+use Rattle.nc_list.proofs.Ascending.{meets_rest}
 
 -- chunks above a place don't overlap a free span that begins there
 pub above_free : (base len : ℕ) (chunks : List Chunk) → BeginAbove base chunks → ¬ Meets base len chunks → IsBelowAll (base + len) chunks

@@ -1,33 +1,33 @@
--- Chunks around a place in a rising list.
+-- Chunks around a place in a ascending list.
 use Rattle.std.proofs.Common.{◌≡◌, ℕ, zero, suc, ◌+◌, ◌-◌, ◌<◌, ◌≤◌, List, [], ◌∷◌, ◌++◌, length, get_or, set, take, drop, refl, sym, ap, ◌∙◌, subst, inl, inr, arith, length-take, length-drop, take-append-drop, get_or-take, get_or-drop}
 use Rattle.std.proofs.lemmas.Bool.{cases_lt}
 use Rattle.std.proofs.lemmas.List.{get_or_default}
 use Rattle.std.specs.List.{insert}
 use Rattle.nc_list.specs.declared.chunk.Chunk.{Chunk}
 use Rattle.nc_list.specs.declared.chunk.ChunkState.TheVariants.{Retired}
-use Rattle.nc_list.specs.Chunks.{IsRising, IsAboveAll, IsNextChunk, HasBase, IsRetired, Meets, live}
+use Rattle.nc_list.specs.Chunks.{IsAscending, IsAboveAll, IsNextChunk, HasBase, IsRetired, Meets, live}
 use Rattle.nc_list.specs.Stamps.{BeginsAt}
 use Rattle.nc_list.specs.Parts.{IsPut, BeginTo, BeginAbove}
 use Rattle.nc_list.proofs.EachMember.{each_get, each_take_from, each_drop_from}
-use Rattle.nc_list.proofs.Rising.{rises_at, rises_apart, meets_first, meets_rest}
+use Rattle.nc_list.proofs.Ascending.{rises_at, rises_apart, meets_first, meets_rest}
 use Rattle.nc_list.proofs.Pieces.{around, around_set}
 use Rattle.nc_list.proofs.Combining.{above_free}
 
 -- the chunks before one that begins at or below a place end at or below it
-pub before_begun : (chunks : List Chunk) (i at : ℕ) (d : Chunk) → IsRising 0 chunks → i < length chunks → (get_or chunks i d).base ≤ at
+pub before_begun : (chunks : List Chunk) (i at : ℕ) (d : Chunk) → IsAscending 0 chunks → i < length chunks → (get_or chunks i d).base ≤ at
     → IsAboveAll at (take i chunks)
-before_begun chunks i at d rising lt begun =
+before_begun chunks i at d ascending lt begun =
     each_take_from (λ (e : Chunk). e.base + e.length ≤ at) i chunks d (omega (arith, lt))
-    (λ j before. omega (arith, begun, rises_apart 0 chunks j i d rising before lt))
+    (λ j before. omega (arith, begun, rises_apart 0 chunks j i d ascending before lt))
 
 -- the chunks up to one that ends at or below a place end at or below it
-pub up_to_ended : (chunks : List Chunk) (k at : ℕ) (d : Chunk) → IsRising 0 chunks → k ≤ length chunks
+pub up_to_ended : (chunks : List Chunk) (k at : ℕ) (d : Chunk) → IsAscending 0 chunks → k ≤ length chunks
     → (0 < k → (get_or chunks (k - 1) d).base + (get_or chunks (k - 1) d).length ≤ at) → IsAboveAll at (take k chunks)
-up_to_ended chunks k at d rising le ended =
+up_to_ended chunks k at d ascending le ended =
     each_take_from (λ (e : Chunk). e.base + e.length ≤ at) k chunks d le (λ j before.
     let end = ended (omega (arith, before)) in
     elim (cases_lt j (k - 1)) [
-      | inl lt ↦ omega (arith, end, rises_apart 0 chunks j (k - 1) d rising lt (omega (arith, before, le)))
+      | inl lt ↦ omega (arith, end, rises_apart 0 chunks j (k - 1) d ascending lt (omega (arith, before, le)))
       | inr last ↦
           let same : j ≡ k - 1 = omega (arith, before, last) in
           subst (λ (n : ℕ). (get_or chunks n d).base + (get_or chunks n d).length ≤ at) (sym same) end
@@ -55,18 +55,22 @@ last_begun chunks k at d some le to =
     omega (arith, low, same)
 
 -- chunks up to one that begins at or below a place
-pub begun_to : (chunks : List Chunk) (k at : ℕ) (d : Chunk) → IsRising 0 chunks → k ≤ length chunks
+pub begun_to : (chunks : List Chunk) (k at : ℕ) (d : Chunk) → IsAscending 0 chunks → k ≤ length chunks
     → (0 < k → (get_or chunks (k - 1) d).base ≤ at) → BeginTo at (take k chunks)
-begun_to chunks k at d rising le begun =
+begun_to chunks k at d ascending le begun =
     each_take_from (λ (e : Chunk). e.base ≤ at) k chunks d le (λ j before.
-    omega (arith, begun (omega (arith, before)), rises_at 0 chunks j (k - 1) d rising (omega (arith, before)) (omega (arith, before, le))))
+    omega (
+      arith,
+      begun (omega (arith, before)),
+      rises_at 0 chunks j (k - 1) d ascending (omega (arith, before)) (omega (arith, before, le)),
+    ))
 
 -- chunks from one on that begins above a place
-pub begun_above : (chunks : List Chunk) (k at : ℕ) (d : Chunk) → IsRising 0 chunks → (k < length chunks → at < (get_or chunks k d).base)
+pub begun_above : (chunks : List Chunk) (k at : ℕ) (d : Chunk) → IsAscending 0 chunks → (k < length chunks → at < (get_or chunks k d).base)
     → BeginAbove at (drop k chunks)
-begun_above chunks k at d rising above =
+begun_above chunks k at d ascending above =
     each_drop_from (λ (e : Chunk). at < e.base) k chunks d (λ j from_it lt.
-    omega (arith, above (omega (arith, from_it, lt)), rises_at 0 chunks k j d rising from_it lt))
+    omega (arith, above (omega (arith, from_it, lt)), rises_at 0 chunks k j d ascending from_it lt))
 
 -- each chunk from an index on begins above a place where all of them do
 pub later_above : (chunks : List Chunk) (k at j : ℕ) (d : Chunk) → k ≤ j → j < length chunks → BeginAbove at (drop k chunks)
@@ -88,14 +92,14 @@ has_before chunks k base j d above lt has =
     ]
 
 -- the last chunk that begins at or below a base has it, if any does
-pub last_has : (chunks : List Chunk) (k base : ℕ) (d : Chunk) → IsRising 0 chunks → k ≤ length chunks → BeginTo base (take k chunks)
+pub last_has : (chunks : List Chunk) (k base : ℕ) (d : Chunk) → IsAscending 0 chunks → k ≤ length chunks → BeginTo base (take k chunks)
     → BeginAbove base (drop k chunks) → HasBase chunks base → (0 < k) × ((get_or chunks (k - 1) d).base ≡ base)
-last_has chunks k base d rising le to above has =
+last_has chunks k base d ascending le to above has =
     let j : ℕ = has.1.0 in
     let there = ap (λ (e : Chunk). e.base) (get_or_default chunks j d has.0 has.1.1 ∙ has.1.2) ∙ has.2 in
     let before : j < k = has_before chunks k base j d above has.1.1 there in
     let low = last_begun chunks k base d (omega (arith, before)) le to in
-    let rise = rises_at 0 chunks j (k - 1) d rising (omega (arith, before)) (omega (arith, before, le)) in
+    let rise = rises_at 0 chunks j (k - 1) d ascending (omega (arith, before)) (omega (arith, before, le)) in
     (omega (arith, before), omega (arith, low, rise, there))
 
 -- the chunk at an index is retired

@@ -1,5 +1,5 @@
 pub mod EachMember
-pub mod Rising
+pub mod Ascending
 pub mod Pieces
 pub mod Taking
 pub mod LowerBounds

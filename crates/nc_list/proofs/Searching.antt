@@ -2,28 +2,28 @@
 use Rattle.std.proofs.Common.{◌≡◌, ℕ, suc, ◌+◌, ◌<◌, ◌≤◌, List, [], ◌∷◌, ◌++◌, length, get_or, take, drop, map, sym, ap, ◌∙◌, arith, subst, drop-cons}
 use Rattle.std.proofs.lemmas.List.{length-map}
 use Rattle.nc_list.specs.declared.chunk.Chunk.{Chunk}
-use Rattle.nc_list.specs.Chunks.{IsRising, IsAboveAll}
+use Rattle.nc_list.specs.Chunks.{IsAscending, IsAboveAll}
 use Rattle.nc_list.specs.Stamps.{BeginsAt}
 use Rattle.nc_list.specs.Parts.{BeginAbove, HaveSome, all_of}
 use Rattle.nc_list.proofs.EachMember.{each_map}
 use Rattle.nc_list.proofs.Pieces.{around, all_around, part_is, some_at}
-use Rattle.nc_list.proofs.Rising.{rises_before, rises_behind}
+use Rattle.nc_list.proofs.Ascending.{rises_before, rises_behind}
 
 -- chunks before one that begins at or below a place
-before_one : (xs here ys : List Chunk) (first at : ℕ) → IsRising 0 (xs ++ (here ++ ys)) → 0 < length here → BeginsAt first here
+before_one : (xs here ys : List Chunk) (first at : ℕ) → IsAscending 0 (xs ++ (here ++ ys)) → 0 < length here → BeginsAt first here
     → first ≤ at → IsAboveAll at xs
-before_one xs [] ys first at rising some begins le = absurd (omega (arith, some))
-before_one xs (c ∷ here) ys first at rising some begins le =
+before_one xs [] ys first at ascending some begins le = absurd (omega (arith, some))
+before_one xs (c ∷ here) ys first at ascending some begins le =
     each_map (λ (d : Chunk). d.base + d.length ≤ c.base) (λ (d : Chunk). d.base + d.length ≤ at) (λ d h. omega (arith, h, le, begins)) xs
-    (rises_before 0 xs c (here ++ ys) rising)
+    (rises_before 0 xs c (here ++ ys) ascending)
 
 -- chunks from one on that begins above a place
-from_one : (xs here ys : List Chunk) (first at : ℕ) → IsRising 0 (xs ++ (here ++ ys)) → 0 < length here → BeginsAt first here
+from_one : (xs here ys : List Chunk) (first at : ℕ) → IsAscending 0 (xs ++ (here ++ ys)) → 0 < length here → BeginsAt first here
     → at < first → BeginAbove at (here ++ ys)
-from_one xs [] ys first at rising some begins lt = absurd (omega (arith, some))
-from_one xs (c ∷ here) ys first at rising some begins lt =
+from_one xs [] ys first at ascending some begins lt = absurd (omega (arith, some))
+from_one xs (c ∷ here) ys first at ascending some begins lt =
     each_map (λ (d : Chunk). c.base ≤ d.base) (λ (d : Chunk). at < d.base) (λ d h. omega (arith, h, lt, begins)) (c ∷ (here ++ ys))
-    (rises_behind 0 xs c (here ++ ys) rising)
+    (rises_behind 0 xs c (here ++ ys) ascending)
 
 -- at this index is a part that has a chunk, and it begins there
 pub record HasFirst (parts : List (List Chunk)) (k first : ℕ) : Type 0 where
@@ -43,18 +43,20 @@ has_first f xs k first p have several lt is begins =
     }
 
 -- the chunks before a part that begins at or below a place end there at the latest
-pub part_below : (parts : List (List Chunk)) (k first at : ℕ) → IsRising 0 (all_of parts) → HasFirst parts k first → first ≤ at
+pub part_below : (parts : List (List Chunk)) (k first at : ℕ) → IsAscending 0 (all_of parts) → HasFirst parts k first → first ≤ at
     → IsAboveAll at (all_of (take k parts))
-part_below parts k first at rising has le =
+part_below parts k first at ascending has le =
     before_one (all_of (take k parts)) (get_or parts k []) (all_of (drop (suc k) parts)) first at
-    (subst (IsRising 0) (ap all_of (around parts k [] has.inside) ∙ all_around (take k parts) (get_or parts k []) (drop (suc k) parts)) rising)
+    (subst (IsAscending 0)
+    (ap all_of (around parts k [] has.inside) ∙ all_around (take k parts) (get_or parts k []) (drop (suc k) parts)) ascending)
     has.some has.begins le
 
 -- the chunks of a part that begins above a place, and those behind it, begin above the place
-pub part_above : (parts : List (List Chunk)) (k first at : ℕ) → IsRising 0 (all_of parts) → HasFirst parts k first → at < first
+pub part_above : (parts : List (List Chunk)) (k first at : ℕ) → IsAscending 0 (all_of parts) → HasFirst parts k first → at < first
     → BeginAbove at (all_of (drop k parts))
-part_above parts k first at rising has above =
+part_above parts k first at ascending has above =
     subst (λ (z : List (List Chunk)). BeginAbove at (all_of z)) (sym (drop-cons parts k [] has.inside))
     (from_one (all_of (take k parts)) (get_or parts k []) (all_of (drop (suc k) parts)) first at
-    (subst (IsRising 0) (ap all_of (around parts k [] has.inside) ∙ all_around (take k parts) (get_or parts k []) (drop (suc k) parts)) rising)
+    (subst (IsAscending 0)
+    (ap all_of (around parts k [] has.inside) ∙ all_around (take k parts) (get_or parts k []) (drop (suc k) parts)) ascending)
     has.some has.begins above)

@@ -7,9 +7,9 @@ use Rattle.nc_list.specs.declared.chunk.ChunkState.TheVariants.{Live, Retired}
 use Rattle.nc_list.specs.Each.{Each}
 
 -- the chunks begin at or above this place, in ascending order and without overlap
-abbrev pub IsRising : ℕ → List Chunk → Type 0
-IsRising from [] = ⊤
-IsRising from (c ∷ rest) = (from ≤ c.base) × IsRising (c.base + c.length) rest
+abbrev pub IsAscending : ℕ → List Chunk → Type 0
+IsAscending from [] = ⊤
+IsAscending from (c ∷ rest) = (from ≤ c.base) × IsAscending (c.base + c.length) rest
 
 -- all chunks of the list end at or below the place
 abbrev pub IsAboveAll : ℕ → List Chunk → Type 0

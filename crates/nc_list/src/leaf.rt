@@ -1,7 +1,7 @@
 //! A leaf of the list: chunks in one piece of memory.
 
 ghost use Rattle.std.specs.Prelude.{◌≡◌, ◌+◌, ◌-◌, ◌<◌, ◌≤◌, ◌^◌, [], ◌++◌, length, take, drop, IsTrue, IfOk};
-ghost use Rattle.nc_list.specs.Chunks.{IsRising, AreTaken, freed};
+ghost use Rattle.nc_list.specs.Chunks.{IsAscending, AreTaken, freed};
 ghost use Rattle.nc_list.specs.Stamps.{AreSince, BeginsAt};
 ghost use Rattle.nc_list.specs.Parts.{BeginTo, BeginAbove};
 
@@ -42,7 +42,7 @@ impl Model for Leaf {
 
 /// The number of chunks whose base is at most this address, by binary search.
 fn count_to(entries: &[Entry], at: u32) -> usize
-    requires { IsRising 0 entries.now }
+    requires { IsAscending 0 entries.now }
     ensures bound { result ≤ length entries.now }
     ensures below { BeginTo at (take result entries.now) }
     ensures above { BeginAbove at (drop result entries.now) }
@@ -52,7 +52,7 @@ fn count_to(entries: &[Entry], at: u32) -> usize
 
 /// The first `count` chunks begin at or below this address.
 fn begin_to(entries: &[Entry], at: u32, count: usize) -> bool
-    requires rising { IsRising 0 entries.now }
+    requires ascending { IsAscending 0 entries.now }
     requires enough { count ≤ length entries.now }
     ensures { IsTrue result → BeginTo at (take count entries.now) }
 {
@@ -61,7 +61,7 @@ fn begin_to(entries: &[Entry], at: u32, count: usize) -> bool
 
 /// The chunks behind the first `count` begin above this address.
 fn begin_above(entries: &[Entry], at: u32, count: usize) -> bool
-    requires rising { IsRising 0 entries.now }
+    requires ascending { IsAscending 0 entries.now }
     requires enough { count ≤ length entries.now }
     ensures { IsTrue result → BeginAbove at (drop count entries.now) }
 {
@@ -70,7 +70,7 @@ fn begin_above(entries: &[Entry], at: u32, count: usize) -> bool
 
 /// The number of chunks whose base is at most this address, without a search if it is the guess.
 fn count_near(entries: &[Entry], at: u32, guess: usize) -> usize
-    requires { IsRising 0 entries.now }
+    requires { IsAscending 0 entries.now }
     ensures bound { result ≤ length entries.now }
     ensures below { BeginTo at (take result entries.now) }
     ensures above { BeginAbove at (drop result entries.now) }

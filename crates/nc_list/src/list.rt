@@ -1,7 +1,7 @@
 //! The list of chunks.
 
 ghost use Rattle.std.specs.Prelude.{◌≡◌, ◌+◌, ◌-◌, ◌<◌, ◌≤◌, ◌^◌, [], length, take, slice_get, IfSome, IsNone, false, OnOk, OnErr};
-ghost use Rattle.nc_list.specs.Chunks.{IsRising, IsAboveAll, IsInserted, IsNextChunk, Meets, HasBase, IsRetired, AreTaken, freed, live};
+ghost use Rattle.nc_list.specs.Chunks.{IsAscending, IsAboveAll, IsInserted, IsNextChunk, Meets, HasBase, IsRetired, AreTaken, freed, live};
 
 use crate::chunk::Chunk;
 use crate::entry::Entry;
@@ -64,7 +64,7 @@ impl ChunkList {
 
     /// The chunk that has this address, or else the first one above it. There is none if all chunks end at or below the address.
     pub fn chunk_at(&self, at: u32) -> Option<Chunk>
-        requires { IsRising 0 self.now }
+        requires { IsAscending 0 self.now }
         ensures found { IfSome result (IsNextChunk self.now at) }
         ensures none { IsNone result → IsAboveAll at self.now }
     {
@@ -73,7 +73,7 @@ impl ChunkList {
 
     /// The chunk that `chunk_at` returns, and the place for the address, with which `insert` and `retire` need no search.
     pub fn find(&self, at: u32) -> (Option<Chunk>, Place)
-        requires { IsRising 0 self.now }
+        requires { IsAscending 0 self.now }
         ensures found { IfSome result.0 (IsNextChunk self.now at) }
         ensures none { IsNone result.0 → IsAboveAll at self.now }
     {
@@ -83,7 +83,7 @@ impl ChunkList {
     /// Inserts a live chunk, without a search if `place` is the one for its base and no part is split. If an allocation is refused,
     /// the list stays as it was.
     pub fn insert(&mut self, base: u32, len: u32, place: Place) -> Result<(), AllocError>
-        requires rising { IsRising 0 self.old }
+        requires ascending { IsAscending 0 self.old }
         requires some { 0 < len }
         requires free { ¬ Meets base len self.old }
         requires few { length self.old < 2 ^ 32 - 1 }
@@ -96,7 +96,7 @@ impl ChunkList {
     /// Retires the chunk with this base, without a search if `place` is the one for it. The chunk stays in the list, with this
     /// stamp. No memory is allocated.
     pub fn retire(&mut self, base: u32, stamp: u64, place: Place)
-        requires rising { IsRising 0 self.old }
+        requires ascending { IsAscending 0 self.old }
         requires base { HasBase self.old base }
         requires stamp { stamp < 2 ^ 64 - 1 }
         ensures { IsRetired self.old self.new base stamp }

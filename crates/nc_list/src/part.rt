@@ -2,7 +2,7 @@
 
 ghost use Rattle.std.specs.Prelude.{◌≡◌, ◌+◌, ◌-◌, ◌<◌, ◌≤◌, ◌^◌, [], ◌++◌, List, length, take, slice_index_or, true, false, IsTrue, IfSome, IfOk, IfErr, OnOk, OnErr, IsNone, MatchOption};
 ghost use Rattle.nc_list.specs.declared.chunk.Chunk.{Chunk};
-ghost use Rattle.nc_list.specs.Chunks.{IsRising, IsAboveAll, IsNextChunk, Meets, HasBase, IsRetired, AreTaken, live};
+ghost use Rattle.nc_list.specs.Chunks.{IsAscending, IsAboveAll, IsNextChunk, Meets, HasBase, IsRetired, AreTaken, live};
 ghost use Rattle.nc_list.specs.Stamps.{AreSince, BeginsAt};
 ghost use Rattle.nc_list.specs.Parts.{IsPut, AreParted};
 
@@ -39,13 +39,13 @@ pub(crate) trait Part: Drop {
 
     /// The chunk that has this address, or the first one above it, and the place for the address.
     fn next(&self, at: u32) -> (Option<Chunk>, Place)
-        requires { IsRising 0 (items self.now) }
+        requires { IsAscending 0 (items self.now) }
         ensures found { IfSome result.0 (IsNextChunk (items self.now) at) }
         ensures none { IsNone result.0 → IsAboveAll at (items self.now) };
 
     /// Inserts a live chunk. A refusal leaves the chunks as they were.
     fn insert(&mut self, base: u32, len: u32, place: Place) -> Result<(), AllocError>
-        requires rising { IsRising 0 (items self.old) }
+        requires ascending { IsAscending 0 (items self.old) }
         requires some { 0 < len }
         requires free { ¬ Meets base len (items self.old) }
         requires few { length (items self.old) < 2 ^ 32 - 1 }
@@ -54,7 +54,7 @@ pub(crate) trait Part: Drop {
 
     /// Retires the chunk with this base.
     fn retire(&mut self, base: u32, stamp: u64, place: Place)
-        requires rising { IsRising 0 (items self.old) }
+        requires ascending { IsAscending 0 (items self.old) }
         requires base { HasBase (items self.old) base }
         requires stamp { stamp < 2 ^ 64 - 1 }
         ensures { IsRetired (items self.old) (items self.new) base stamp };

@@ -1,7 +1,7 @@
 //! The parts of a row.
 
 ghost use Rattle.std.specs.Prelude.{◌≡◌, ◌≢◌, ◌+◌, ◌-◌, ◌<◌, ◌≤◌, ◌^◌, [], ◌++◌, ℕ, List, length, map, take, drop, slice_index_or, false, IfOk, IfSome, IsNone, IsTrue, OnOk, OnErr};
-ghost use Rattle.nc_list.specs.Chunks.{IsRising, IsAboveAll, AreTaken, freed};
+ghost use Rattle.nc_list.specs.Chunks.{IsAscending, IsAboveAll, AreTaken, freed};
 ghost use Rattle.nc_list.specs.Stamps.{AreSince};
 ghost use Rattle.nc_list.specs.Parts.{IsPartFor, BeginAbove, HaveSome, OthersHaveSome, AreTakenFrom, all_of, starts_of};
 
@@ -13,7 +13,7 @@ use std::alloc::AllocError;
 fn part_for<T: Part>(parts: &[T], at: u32) -> usize
     requires some { 0 < length parts.now }
     requires have { HaveSome (map T.items parts.now) }
-    requires rising { IsRising 0 (all_of (map T.items parts.now)) }
+    requires ascending { IsAscending 0 (all_of (map T.items parts.now)) }
     ensures { IsPartFor (map T.items parts.now) result at }
 {
     let mut low = 0;
@@ -33,7 +33,7 @@ fn part_for<T: Part>(parts: &[T], at: u32) -> usize
 fn end_below<T: Part>(parts: &[T], at: u32, k: usize) -> bool
     requires inside { k < length parts.now }
     requires have { HaveSome (map T.items parts.now) }
-    requires rising { IsRising 0 (all_of (map T.items parts.now)) }
+    requires ascending { IsAscending 0 (all_of (map T.items parts.now)) }
     ensures { IsTrue result → IsAboveAll at (all_of (take k (map T.items parts.now))) }
 {
     k == 0 || parts[k].first() <= at
@@ -43,7 +43,7 @@ fn end_below<T: Part>(parts: &[T], at: u32, k: usize) -> bool
 fn begin_above<T: Part>(parts: &[T], at: u32, k: usize) -> bool
     requires inside { k < length parts.now }
     requires have { HaveSome (map T.items parts.now) }
-    requires rising { IsRising 0 (all_of (map T.items parts.now)) }
+    requires ascending { IsAscending 0 (all_of (map T.items parts.now)) }
     ensures { IsTrue result → BeginAbove at (all_of (drop (k + 1) (map T.items parts.now))) }
 {
     k + 1 == parts.len() || at < parts[k + 1].first()
@@ -53,7 +53,7 @@ fn begin_above<T: Part>(parts: &[T], at: u32, k: usize) -> bool
 pub(crate) fn part_near<T: Part>(parts: &[T], at: u32, guess: usize) -> usize
     requires some { 0 < length parts.now }
     requires have { HaveSome (map T.items parts.now) }
-    requires rising { IsRising 0 (all_of (map T.items parts.now)) }
+    requires ascending { IsAscending 0 (all_of (map T.items parts.now)) }
     ensures { IsPartFor (map T.items parts.now) result at }
 {
     if guess < parts.len() && end_below(parts, at, guess) && begin_above(parts, at, guess) {
@@ -138,7 +138,7 @@ pub(crate) fn part_for_new<T: Part>(
     requires few { length (all_of (map T.items parts.old.items)) < 2 ^ 32 - 1 }
     requires starts { starts.old.items ≡ starts_of 0 (map T.items parts.old.items) }
     requires have { HaveSome (map T.items parts.old.items) }
-    requires rising { IsRising 0 (all_of (map T.items parts.old.items)) }
+    requires ascending { IsAscending 0 (all_of (map T.items parts.old.items)) }
     ensures all { all_of (map T.items parts.new.items) ≡ all_of (map T.items parts.old.items) }
     ensures starts { starts.new.items ≡ starts_of 0 (map T.items parts.new.items) }
     ensures have { HaveSome (map T.items parts.new.items) }

@@ -14,7 +14,7 @@ use Rattle.nc_gens.specs.Seen.{KeeperState, HasLooked, least_number}
 use Rattle.nc_list.specs.declared.chunk.Chunk.{Chunk}
 use Rattle.nc_list.specs.declared.chunk.ChunkState.{ChunkState}
 use Rattle.nc_list.specs.declared.chunk.ChunkState.TheVariants.{Live, Retired}
-use Rattle.nc_list.specs.Chunks.{IsRising, FitsAt, Meets}
+use Rattle.nc_list.specs.Chunks.{IsAscending, FitsAt, Meets}
 use Rattle.nc_list.proofs.Offered.{each_map, rises_above}
 use Rattle.nc_acts.specs.declared.acts.Act.TheVariants.{Look}
 use Rattle.nc_acts.specs.Log.{unsettled, log_of_create, log_of_delete}
@@ -62,11 +62,11 @@ deleted_exists old base has room =
 
 -- ---- a creation
 
--- where a span fits among rising chunks of which it overlaps none
-fits_somewhere : (from base len : ℕ) (chunks : List Chunk) → IsRising from chunks → ¬ Meets base len chunks
+-- where a span fits among ascending chunks of which it overlaps none
+fits_somewhere : (from base len : ℕ) (chunks : List Chunk) → IsAscending from chunks → ¬ Meets base len chunks
     → (k : ℕ) × FitsAt base len chunks k
-fits_somewhere from base len [] rising free = (0, (omega arith, tt, tt))
-fits_somewhere from base len (d ∷ rest) rising free =
+fits_somewhere from base len [] ascending free = (0, (omega arith, tt, tt))
+fits_somewhere from base len (d ∷ rest) ascending free =
     elim (cases_lt base (d.base + d.length)) [
       | inl above ↦
           let le : base + len ≤ d.base =
@@ -78,12 +78,12 @@ fits_somewhere from base len (d ∷ rest) rising free =
               (
                 le,
                 each_map (λ (e : Chunk). d.base + d.length ≤ e.base) (λ (e : Chunk). base + len ≤ e.base)
-                    (λ e h. omega (arith, h, le)) rest (rises_above (d.base + d.length) rest rising.1),
+                    (λ e h. omega (arith, h, le)) rest (rises_above (d.base + d.length) rest ascending.1),
               ),
             ),
           )
       | inr below ↦
-          let r = fits_somewhere (d.base + d.length) base len rest rising.1 (λ m. free (inr m)) in
+          let r = fits_somewhere (d.base + d.length) base len rest ascending.1 (λ m. free (inr m)) in
           (suc r.0, (omega (arith, r.1.0), (below, r.1.1), r.1.2))
     ]
 
@@ -174,11 +174,11 @@ pub created_at : (old : Region) (v : MarkedChunk) (k : ℕ) (made : List Bool) �
 created_at old v k made fits gets = record { bytes = refl; marks = refl; chunks = (k, fits, refl); ready = gets; others = refl }
 
 -- a chunk that overlaps no other can be created
-pub created_exists : (old : Region) (v : MarkedChunk) (made : List Bool) → IsRising 65536 old.chunks
+pub created_exists : (old : Region) (v : MarkedChunk) (made : List Bool) → IsAscending 65536 old.chunks
     → ¬ Meets v.base (length v.code) old.chunks → GetsReady old.made made v.base (length v.code)
     → (new : Region) × IsCreated old new v
-created_exists old v made rising free gets =
-    let fits = fits_somewhere 65536 v.base (length v.code) old.chunks rising free in
+created_exists old v made ascending free gets =
+    let fits = fits_somewhere 65536 v.base (length v.code) old.chunks ascending free in
     (created_region old v fits.0 made, created_at old v fits.0 made fits.1 gets)
 
 -- ---- a patch

@@ -10,7 +10,7 @@ pub use Rattle.nc_region.proofs.chunks.Inserting.{unused_if_apart, region_with_c
 pub use Rattle.nc_acts.proofs.Offered.{Joins, chunk_joins, chunk_keeps}
 pub use Rattle.nc_region.proofs.chunks.Pieces.{valid_chunk_is_closed, chunk_names_registers}
 pub use Rattle.nc_list.proofs.Offered.{rises_above}
-pub use Rattle.nc_region.proofs.chunks.Rising.{rises_get}
+pub use Rattle.nc_region.proofs.chunks.Ascending.{rises_get}
 pub use Rattle.nc_acts.proofs.Offered.{Before, Within, Behind, place_of, unused_is_start, unused_at_start, is_inside_false}
 pub use Rattle.nc_acts.proofs.Offered.{is_start_false, start_or_not, span_within, span_before, before_span, span_behind}
 pub use Rattle.nc_region.proofs.deleting.Deleted.{region_deleted, listed_there}

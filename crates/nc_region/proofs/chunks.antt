@@ -4,7 +4,7 @@ pub mod Instructions
 pub mod Offsets
 pub mod Sound
 pub mod Pieces
-pub mod Rising
+pub mod Ascending
 pub mod AgreesOutside
 pub mod Inserting
 pub mod ReadyPlaces

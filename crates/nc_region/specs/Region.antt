@@ -13,7 +13,7 @@ use Rattle.nc_gens.specs.Seen.{KeeperState}
 use Rattle.nc_list.specs.declared.chunk.Chunk.{Chunk}
 use Rattle.nc_list.specs.declared.chunk.ChunkState.{ChunkState}
 use Rattle.nc_list.specs.declared.chunk.ChunkState.TheVariants.{Live, Retired}
-pub use Rattle.nc_list.specs.Chunks.{IsRising, IsAboveAll, IsBelowAll, IsNextChunk, FitsAt, Meets, IsInserted}
+pub use Rattle.nc_list.specs.Chunks.{IsAscending, IsAboveAll, IsBelowAll, IsNextChunk, FitsAt, Meets, IsInserted}
 use Rattle.nc_acts.specs.declared.acts.Act.{Act}
 use Rattle.nc_acts.specs.declared.acts.Entry.{Entry}
 use Rattle.nc_region.specs.declared.fault.CreateFault.{CreateFault}
@@ -60,7 +60,7 @@ pub record HoldsValid (marked : MarkedText) (c : Chunk) : Type 0 where
 -- only bundle starts are marked.
 pub record IsRegion (marked : MarkedText) (chunks : List Chunk) : Type 0 where
   pub whole : IsText marked
-  pub rising : IsRising 0x10000 chunks
+  pub ascending : IsAscending 0x10000 chunks
   pub placed : Each (λ (c : Chunk). HasGoodSpan c.base (limit_of marked.bytes) c.length) chunks
   pub live : Each (λ (c : Chunk). IsLive c.state → HoldsValid marked c) chunks
   pub stops : (at : ℕ) → InRegion marked.bytes at → Each (λ (c : Chunk). IsLive c.state → IsInChunk c at → ⊥) chunks

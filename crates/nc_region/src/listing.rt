@@ -5,7 +5,7 @@ ghost use Rattle.nc_list.specs.declared.chunk.Chunk.{Chunk};
 ghost use Rattle.nc_list.specs.declared.chunk.ChunkState.{ChunkState};
 ghost use Rattle.nc_region.specs.Each.{Each};
 ghost use Rattle.nc_region.specs.Deletion.{HasLive};
-ghost use Rattle.nc_region.specs.Region.{IsRising, IsLive, Meets};
+ghost use Rattle.nc_region.specs.Region.{IsAscending, IsLive, Meets};
 ghost use Rattle.nc_region.specs.Patch.{IsHeldBy, IsHeld};
 
 use nc_list::{Chunk, ChunkList, ChunkState, Place};
@@ -13,7 +13,7 @@ use nc_list::{Chunk, ChunkList, ChunkState, Place};
 /// The place for a chunk in the list, if its span overlaps no other.
 pub(crate) fn free_place(chunks: &ChunkList, base: u32, len: u32) -> Option<Place>
     requires fits { base + len < 2 ^ 32 }
-    requires rising { IsRising 0x10000 chunks.now }
+    requires ascending { IsAscending 0x10000 chunks.now }
     ensures free { IfSome result (λ place. ¬ Meets base len chunks.now) }
     ensures meets { IfNone result (Meets base len chunks.now) }
 {
@@ -28,7 +28,7 @@ pub(crate) fn free_place(chunks: &ChunkList, base: u32, len: u32) -> Option<Plac
 
 /// The live chunk in which the place lies.
 pub(crate) fn holder(chunks: &ChunkList, at: u32) -> Option<Chunk>
-    requires { IsRising 0x10000 chunks.now }
+    requires { IsAscending 0x10000 chunks.now }
     ensures some { IfSome result (IsHeldBy chunks.now at) }
     ensures none { IfNone result (¬ IsHeld chunks.now at) }
 {
@@ -42,7 +42,7 @@ pub(crate) fn holder(chunks: &ChunkList, at: u32) -> Option<Chunk>
 
 /// The live chunk with this base.
 pub(crate) fn live_at(chunks: &ChunkList, base: u32) -> Option<Chunk>
-    requires rising { IsRising 0x10000 chunks.now }
+    requires ascending { IsAscending 0x10000 chunks.now }
     requires some { Each (λ (d : Chunk). 0 < d.length) chunks.now }
     ensures some { IfSome result (λ c. Contains chunks.now c × (c.state ≡ ChunkState.Live) × (c.base ≡ base)) }
     ensures none { IfNone result (¬ HasLive chunks.now base) }
@@ -53,7 +53,7 @@ pub(crate) fn live_at(chunks: &ChunkList, base: u32) -> Option<Chunk>
 
 /// The live chunk with this base, and its place in the list.
 pub(crate) fn live_place(chunks: &ChunkList, base: u32) -> Option<(Chunk, Place)>
-    requires rising { IsRising 0x10000 chunks.now }
+    requires ascending { IsAscending 0x10000 chunks.now }
     requires some { Each (λ (d : Chunk). 0 < d.length) chunks.now }
     ensures some { IfSome result (λ r. Contains chunks.now r.0 × (r.0.state ≡ ChunkState.Live) × (r.0.base ≡ base)) }
     ensures none { IfNone result (¬ HasLive chunks.now base) }

@@ -15,7 +15,7 @@ use Rattle.nc_list.proofs.Offered.{each_map, each_both, each_take, each_drop, ea
 use Rattle.nc_acts.specs.Chunks.{HasGoodSpan, IsClosedChunk, with_chunk}
 use Rattle.nc_acts.specs.Chunks.{IsUnused}
 use Rattle.nc_region.specs.Each.{Each}
-use Rattle.nc_region.specs.Region.{IsNew, IsLive, IsInChunk, IsRising, HoldsValid, IsRegion, IsAboveAll, IsBelowAll}
+use Rattle.nc_region.specs.Region.{IsNew, IsLive, IsInChunk, IsAscending, HoldsValid, IsRegion, IsAboveAll, IsBelowAll}
 use Rattle.nc_region.proofs.chunks.AgreesOutside.{AgreesOutside, still_holds}
 use Rattle.nc_acts.proofs.Offered.{place_of, Before, Within, Behind, span_before, span_within, span_behind}
 
@@ -30,18 +30,18 @@ each_insert : {X : Type 0} (P : X → Type 0) (xs : List X) (k : ℕ) (x : X) �
     → Each P (insert xs k x)
 each_insert P xs k x p front back = each_append P (take k xs) (x ∷ drop k xs) front (p, back)
 
--- rising chunks that all begin at or above an address rise from it
-rising_from : (from to : ℕ) (chunks : List Chunk) → IsRising from chunks → IsBelowAll to chunks → IsRising to chunks
-rising_from from to [] rising below = tt
-rising_from from to (c ∷ rest) rising below = (below.0, rising.1)
+-- ascending chunks that all begin at or above an address rise from it
+ascending_from : (from to : ℕ) (chunks : List Chunk) → IsAscending from chunks → IsBelowAll to chunks → IsAscending to chunks
+ascending_from from to [] ascending below = tt
+ascending_from from to (c ∷ rest) ascending below = (below.0, ascending.1)
 
 -- a list with a chunk inserted rises
-rising_insert : (from : ℕ) (chunks : List Chunk) (k : ℕ) (c : Chunk) → IsRising from chunks → from ≤ c.base
-    → IsAboveAll c.base (take k chunks) → IsBelowAll (c.base + c.length) (drop k chunks) → IsRising from (insert chunks k c)
-rising_insert from chunks zero c rising low above below = (low, rising_from from (c.base + c.length) chunks rising below)
-rising_insert from [] (suc k) c rising low above below = (low, tt)
-rising_insert from (d ∷ rest) (suc k) c rising low above below =
-    (rising.0, rising_insert (d.base + d.length) rest k c rising.1 above.0 above.1 below)
+ascending_insert : (from : ℕ) (chunks : List Chunk) (k : ℕ) (c : Chunk) → IsAscending from chunks → from ≤ c.base
+    → IsAboveAll c.base (take k chunks) → IsBelowAll (c.base + c.length) (drop k chunks) → IsAscending from (insert chunks k c)
+ascending_insert from chunks zero c ascending low above below = (low, ascending_from from (c.base + c.length) chunks ascending below)
+ascending_insert from [] (suc k) c ascending low above below = (low, tt)
+ascending_insert from (d ∷ rest) (suc k) c ascending low above below =
+    (ascending.0, ascending_insert (d.base + d.length) rest k c ascending.1 above.0 above.1 below)
 
 -- what a new chunk's place and bytes keep
 pub record Inserts (marked : MarkedText) (chunks : List Chunk) (k : ℕ) (c : Chunk) (bytes : List ℕ) (marks : List Mark) : Type 0 where
@@ -114,7 +114,7 @@ region_with_chunk marked chunks k c bytes marks n live whole =
     let a = agrees marked chunks k c bytes marks n in
     record {
       whole = whole;
-      rising = rising_insert 65536 chunks k c n.region.rising n.chunk.placed.low n.above n.below;
+      ascending = ascending_insert 65536 chunks k c n.region.ascending n.chunk.placed.low n.above n.below;
       placed =
           subst (λ (l : ℕ). Each (λ (d : Chunk). HasGoodSpan d.base l d.length) (insert chunks k c)) (ap (λ (m : ℕ). 65536 + m) (sym a.as_long))
           (each_insert (λ (d : Chunk). HasGoodSpan d.base (limit_of marked.bytes) d.length) chunks k c
@@ -180,7 +180,7 @@ region_of_new marked new =
     subst (λ (c : MarkedText). IsRegion c []) (sym new.2)
     (record {
       whole = new_is_text new.0 new.1;
-      rising = tt;
+      ascending = tt;
       placed = tt;
       live = tt;
       stops = λ at inside free. get_or-replicate {A = ℕ} (new.0 - 65536) (at - 65536) 244 0

@@ -21,24 +21,24 @@ use Rattle.nc_gens.specs.Rule.{generation_raised}
 use Rattle.nc_acts.specs.Acts.{acts_of_delete}
 use Rattle.nc_acts.specs.Log.{Logs, log_of_delete}
 use Rattle.nc_region.specs.Deletion.{IsDeleted}
-use Rattle.nc_region.specs.Region.{Region, IsLive, IsInChunk, IsRising, HoldsValid, IsRegion}
+use Rattle.nc_region.specs.Region.{Region, IsLive, IsInChunk, IsAscending, HoldsValid, IsRegion}
 use Rattle.nc_region.proofs.chunks.AgreesOutside.{AgreesOutside, LiesBeside, still_holds}
 use Rattle.nc_region.proofs.patching.Runs.{apart_by_index}
 use Rattle.nc_acts.proofs.Offered.{place_of, Before, Within, Behind, span_within, span_before, span_behind}
 use Rattle.nc_acts.proofs.Offered.{told_logged, deleted_acts}
 
--- one chunk of a rising list put in place of another of the same span
-rising_set : (from : ℕ) (chunks : List Chunk) (k : ℕ) (c d : Chunk) → IsRising from chunks → k < length chunks → get_or chunks k c ≡ c
-    → d.base ≡ c.base → d.length ≡ c.length → IsRising from (set chunks k d)
-rising_set from [] k c d rising lt here b l = absurd (omega arith)
-rising_set from (x ∷ rest) zero c d rising lt here b l = (
-  omega (arith, rising.0, ap (λ (y : Chunk). y.base) here, b),
+-- one chunk of a ascending list put in place of another of the same span
+ascending_set : (from : ℕ) (chunks : List Chunk) (k : ℕ) (c d : Chunk) → IsAscending from chunks → k < length chunks → get_or chunks k c ≡ c
+    → d.base ≡ c.base → d.length ≡ c.length → IsAscending from (set chunks k d)
+ascending_set from [] k c d ascending lt here b l = absurd (omega arith)
+ascending_set from (x ∷ rest) zero c d ascending lt here b l = (
+  omega (arith, ascending.0, ap (λ (y : Chunk). y.base) here, b),
   (let end : x.base + x.length ≡ d.base + d.length =
       omega (arith, ap (λ (y : Chunk). y.base) here, ap (λ (y : Chunk). y.length) here, b, l) in
-      subst (λ (n : ℕ). IsRising n rest) end rising.1),
+      subst (λ (n : ℕ). IsAscending n rest) end ascending.1),
 )
-rising_set from (x ∷ rest) (suc k) c d rising lt here b l =
-    (rising.0, rising_set (x.base + x.length) rest k c d rising.1 (omega (arith, lt)) here b l)
+ascending_set from (x ∷ rest) (suc k) c d ascending lt here b l =
+    (ascending.0, ascending_set (x.base + x.length) rest k c d ascending.1 (omega (arith, lt)) here b l)
 
 -- where a chunk stands in the list
 pub listed_there : (chunks : List Chunk) (k : ℕ) (c : Chunk) → slice_get chunks k ≡ Some c → (k < length chunks) × (get_or chunks k c ≡ c)
@@ -92,15 +92,15 @@ stops_there old new chunks k c r at inside =
     ∙ (span_within old.bytes c.base (replicate c.length 244) at 0 p.low (omega (arith, n, p.high)) inside.0 (omega (arith, inside.1, n))
     ∙ get_or-replicate c.length (at - c.base) 244 0 (omega (arith, inside.0, inside.1)))
 
--- each other chunk of a rising list lies beside the one at an index
-others_beside : (old : MarkedText) (chunks : List Chunk) (k : ℕ) (c : Chunk) → IsRising 65536 chunks → k < length chunks
+-- each other chunk of a ascending list lies beside the one at an index
+others_beside : (old : MarkedText) (chunks : List Chunk) (k : ℕ) (c : Chunk) → IsAscending 65536 chunks → k < length chunks
     → get_or chunks k c ≡ c → (i : ℕ) → i < length chunks → i ≢ k → LiesBeside c (get_or chunks i c)
-others_beside old chunks k c rising inside here i lt other =
+others_beside old chunks k c ascending inside here i lt other =
     ⊎_elim
-    (λ (before : i < k). inl (omega (arith, apart_by_index 65536 chunks c rising i k before inside, ap (λ (x : Chunk). x.base) here)))
+    (λ (before : i < k). inl (omega (arith, apart_by_index 65536 chunks c ascending i k before inside, ap (λ (x : Chunk). x.base) here)))
     (λ (from : k ≤ i). inr (omega (
       arith,
-      apart_by_index 65536 chunks c rising k i
+      apart_by_index 65536 chunks c ascending k i
           (⊎_elim (λ (l : k < i). l) (λ (e : i ≤ k). absurd (other (omega (arith, e, from)))) (cases_lt k i)) lt,
       ap (λ (x : Chunk). x.base + x.length) here,
     )))
@@ -114,14 +114,14 @@ region_deleted old new chunks k c stamp r =
     let a = agrees old new chunks k c r in
     record {
       whole = r.whole;
-      rising = rising_set 65536 chunks k c (record c { state = Retired stamp }) r.region.rising r.inside r.here refl refl;
+      ascending = ascending_set 65536 chunks k c (record c { state = Retired stamp }) r.region.ascending r.inside r.here refl refl;
       placed = subst (λ (l : ℕ). Each (λ (x : Chunk). HasGoodSpan x.base l x.length) (set chunks k (record c { state = Retired stamp })))
           (ap (λ (n : ℕ). 65536 + n) (sym a.as_long))
           (each_set (λ (x : Chunk). HasGoodSpan x.base (limit_of old.bytes) x.length) chunks k
           (record c { state = Retired stamp }) r.region.placed p);
       live = each_set_but (λ (x : Chunk). IsLive x.state → HoldsValid new x) chunks k (record c { state = Retired stamp }) c
           (λ i lt other live. still_holds old new c (get_or chunks i c) a
-          (others_beside old chunks k c r.region.rising r.inside r.here i lt other)
+          (others_beside old chunks k c r.region.ascending r.inside r.here i lt other)
           (each_get (λ (x : Chunk). IsLive x.state → HoldsValid old x) chunks i c lt r.region.live live))
           (λ live. absurd live);
       stops = λ at inside free.
@@ -144,26 +144,26 @@ region_deleted old new chunks k c stamp r =
     }
 
 -- no two chunks of the list have the same base
-same_index : (chunks : List Chunk) (i k : ℕ) (c : Chunk) → IsRising 65536 chunks → Each (λ (d : Chunk). 0 < d.length) chunks
+same_index : (chunks : List Chunk) (i k : ℕ) (c : Chunk) → IsAscending 65536 chunks → Each (λ (d : Chunk). 0 < d.length) chunks
     → i < length chunks → k < length chunks → (get_or chunks i c).base ≡ (get_or chunks k c).base → i ≡ k
-same_index chunks i k c rising some here there is =
+same_index chunks i k c ascending some here there is =
     let long = each_get (λ (d : Chunk). 0 < d.length) chunks i c here some in
     let long' = each_get (λ (d : Chunk). 0 < d.length) chunks k c there some in
     ⊎_elim
-    (λ (before : i < k). absurd (omega (arith, apart_by_index 65536 chunks c rising i k before there, is, long)))
+    (λ (before : i < k). absurd (omega (arith, apart_by_index 65536 chunks c ascending i k before there, is, long)))
     (λ (from : k ≤ i). ⊎_elim
-    (λ (behind : k < i). absurd (omega (arith, apart_by_index 65536 chunks c rising k i behind here, is, long')))
+    (λ (behind : k < i). absurd (omega (arith, apart_by_index 65536 chunks c ascending k i behind here, is, long')))
     (λ (to : i ≤ k). omega (arith, from, to)) (cases_lt k i))
     (cases_lt i k)
 
 -- the list once the chunk at an index has been retired, by its base
-pub retired_set : (old new : List Chunk) (k base stamp : ℕ) (c : Chunk) → IsRising 65536 old → Each (λ (d : Chunk). 0 < d.length) old
+pub retired_set : (old new : List Chunk) (k base stamp : ℕ) (c : Chunk) → IsAscending 65536 old → Each (λ (d : Chunk). 0 < d.length) old
     → k < length old → get_or old k c ≡ c → c.base ≡ base → IsRetired old new base stamp
     → new ≡ set old k (record c { state = Retired stamp })
-retired_set old new k base stamp c rising some inside here base_is r =
+retired_set old new k base stamp c ascending some inside here base_is r =
     let i : ℕ = length r.before in
     let there : get_or old i c ≡ r.chunk = ap (λ (z : List Chunk). get_or z i c) r.was ∙ get_or-append_seam r.before r.chunk r.after c in
-    let same : i ≡ k = same_index old i k c rising some
+    let same : i ≡ k = same_index old i k c ascending some
     (omega (arith, ap (λ (z : List Chunk). length z) r.was, length-append r.before (r.chunk ∷ r.after))) inside
     (ap (λ (d : Chunk). d.base) there ∙ (r.base_is ∙ (sym base_is ∙ ap (λ (d : Chunk). d.base) (sym here)))) in
     let chunk_is : r.chunk ≡ c = sym there ∙ (ap (λ (j : ℕ). get_or old j c) same ∙ here) in

@@ -10,7 +10,7 @@ use Rattle.nc_acts.specs.declared.acts.Entry.{Entry}
 use Rattle.nc_acts.specs.declared.acts.Entry.TheVariants.{Did}
 use Rattle.nc_acts.specs.Chunks.{HasGoodSpan}
 use Rattle.nc_region.specs.Each.{Each}
-use Rattle.nc_region.specs.Region.{Region, IsLive, IsRising, told}
+use Rattle.nc_region.specs.Region.{Region, IsLive, IsAscending, told}
 use Rattle.nc_gens.specs.Seen.{HasLooked, least_number}
 use Rattle.nc_acts.specs.Log.{Logs, unsettled}
 use Rattle.nc_region.specs.Deletion.{is_due, freed, kept, unmarked, unmarkings, IsReclaimed}
@@ -39,11 +39,11 @@ kept_and_freed least [] = refl
 kept_and_freed least (c ∷ rest) = one_more least c rest (is_due least c.state) refl (kept_and_freed least rest)
 
 -- a list of chunks below a limit is no longer than the places there
-pub few : (limit from : ℕ) (chunks : List Chunk) → IsRising from chunks → Each (λ (c : Chunk). HasGoodSpan c.base limit c.length) chunks
+pub few : (limit from : ℕ) (chunks : List Chunk) → IsAscending from chunks → Each (λ (c : Chunk). HasGoodSpan c.base limit c.length) chunks
     → from ≤ limit → from + length chunks ≤ limit
-few limit from [] rising placed le = omega (arith, le)
-few limit from (c ∷ rest) rising placed le =
-    omega (arith, rising.0, placed.0.some, few limit (c.base + c.length) rest rising.1 placed.1 (omega (arith, placed.0.high)))
+few limit from [] ascending placed le = omega (arith, le)
+few limit from (c ∷ rest) ascending placed le =
+    omega (arith, ascending.0, placed.0.some, few limit (c.base + c.length) rest ascending.1 placed.1 (omega (arith, placed.0.high)))
 
 -- a region with these pages
 abbrev with_pages : Region → List Bool → Region

@@ -7,26 +7,27 @@ use Rattle.nc_list.proofs.Offered.{each_map, each_both, each_middle, each_out, e
 use Rattle.nc_acts.specs.Chunks.{HasGoodSpan}
 use Rattle.nc_region.specs.Each.{Each}
 use Rattle.nc_region.specs.Quiet.{RetiredSpan, IsQuiet}
-use Rattle.nc_region.specs.Region.{IsLive, IsInChunk, IsRising, HoldsValid, IsRegion}
+use Rattle.nc_region.specs.Region.{IsLive, IsInChunk, IsAscending, HoldsValid, IsRegion}
 use Rattle.nc_region.proofs.chunks.AgreesOutside.{AgreesOutside, LiesBeside, still_holds}
 use Rattle.nc_region.proofs.events.Unmarking.{shut_if_quiet, MayFree, freed_within, freed_before, freed_behind, freed_long, freed_closed}
 use Rattle.nc_region.proofs.deleting.QuietSpans.{quiet_chunks}
 use Rattle.nc_acts.proofs.Offered.{place_of, Before, Within, Behind}
 
 -- a list rises without one of its chunks
-rises_without : (from : ℕ) (before after : List Chunk) (c : Chunk) → IsRising from (before ++ c ∷ after) → IsRising from (before ++ after)
-rises_without from [] after c rising = rises_lower from (c.base + c.length) after (omega (arith, rising.0)) rising.1
-rises_without from (b ∷ before) after c rising = (rising.0, rises_without (b.base + b.length) before after c rising.1)
+rises_without : (from : ℕ) (before after : List Chunk) (c : Chunk) → IsAscending from (before ++ c ∷ after)
+    → IsAscending from (before ++ after)
+rises_without from [] after c ascending = rises_lower from (c.base + c.length) after (omega (arith, ascending.0)) ascending.1
+rises_without from (b ∷ before) after c ascending = (ascending.0, rises_without (b.base + b.length) before after c ascending.1)
 
--- in a rising list the other chunks lie beside each one
-lie_beside : (from : ℕ) (before after : List Chunk) (c : Chunk) → IsRising from (before ++ c ∷ after)
+-- in a ascending list the other chunks lie beside each one
+lie_beside : (from : ℕ) (before after : List Chunk) (c : Chunk) → IsAscending from (before ++ c ∷ after)
     → Each (LiesBeside c) (before ++ after)
-lie_beside from [] after c rising = each_map (λ (d : Chunk). c.base + c.length ≤ d.base) (LiesBeside c) (λ d h. inr h) after
-    (rises_above (c.base + c.length) after rising.1)
-lie_beside from (b ∷ before) after c rising = (
+lie_beside from [] after c ascending = each_map (λ (d : Chunk). c.base + c.length ≤ d.base) (LiesBeside c) (λ d h. inr h) after
+    (rises_above (c.base + c.length) after ascending.1)
+lie_beside from (b ∷ before) after c ascending = (
   inl (each_middle (λ (d : Chunk). b.base + b.length ≤ d.base) before after c
-      (rises_above (b.base + b.length) (before ++ c ∷ after) rising.1)),
-  lie_beside (b.base + b.length) before after c rising.1,
+      (rises_above (b.base + b.length) (before ++ c ∷ after) ascending.1)),
+  lie_beside (b.base + b.length) before after c ascending.1,
 )
 
 -- the span of a chunk
@@ -81,13 +82,13 @@ region_freed marked before after c region dead =
         closed =
             freed_closed marked (span_of c) f;
       };
-      rising = rises_without 65536 before after c region.rising;
+      ascending = rises_without 65536 before after c region.ascending;
       placed = each_out (λ (d : Chunk). HasGoodSpan d.base (limit_of marked.bytes) d.length) before after c region.placed;
       live =
           each_both (LiesBeside c) (λ (d : Chunk). IsLive d.state → HoldsValid marked d) (λ (d : Chunk). IsLive d.state
           → HoldsValid (without_marks marked c.base c.length) d)
           (λ d apart holds live. still_holds marked (without_marks marked c.base c.length) c d a apart (holds live)) (before ++ after)
-          (lie_beside 65536 before after c region.rising)
+          (lie_beside 65536 before after c region.ascending)
           (each_out (λ (d : Chunk). IsLive d.state → HoldsValid marked d) before after c region.live);
       stops = λ at inside free. region.stops at inside
           (each_in (λ (d : Chunk). IsLive d.state → IsInChunk d at → ⊥) before after c free (λ live in_c. dead live));

@@ -14,7 +14,7 @@ use Rattle.nc_list.proofs.Offered.{each_map, each_both, rises_above}
 use Rattle.nc_acts.specs.Chunks.{HasGoodSpan, IsClosedChunk}
 use Rattle.nc_region.specs.Each.{Each}
 use Rattle.nc_region.specs.Quiet.{RetiredSpan, IsQuiet, with_retired, retired_spans, AreQuiet}
-use Rattle.nc_region.specs.Region.{IsLive, IsInChunk, IsRising, HoldsValid, IsRegion}
+use Rattle.nc_region.specs.Region.{IsLive, IsInChunk, IsAscending, HoldsValid, IsRegion}
 use Rattle.nc_acts.proofs.Offered.{alone, alone_fits_bytes, alone_within, alone_before, alone_behind, alone_bytes_long, alone_marks_long}
 use Rattle.nc_region.proofs.chunks.Pieces.{valid_chunk_is_closed}
 use Rattle.nc_acts.proofs.Offered.{place_of, Before, Within, Behind, span_within, unused_is_start, within_span}
@@ -53,11 +53,11 @@ abbrev pub IsFree : List Chunk → ℕ → Type 0
 IsFree chunks at = Each (λ (c : Chunk). IsLive c.state → IsInChunk c at → ⊥) chunks
 
 -- no live chunk has a place of a retired one
-retired_free : (from : ℕ) (chunks : List Chunk) → IsRising from chunks
+retired_free : (from : ℕ) (chunks : List Chunk) → IsAscending from chunks
     → Each (λ (r : Chunk). (IsLive r.state → ⊥) → (at : ℕ) → IsInChunk r at → IsFree chunks at) chunks
-retired_free from [] rising = tt
-retired_free from (c ∷ rest) rising =
-    let above = rises_above (c.base + c.length) rest rising.1 in (
+retired_free from [] ascending = tt
+retired_free from (c ∷ rest) ascending =
+    let above = rises_above (c.base + c.length) rest ascending.1 in (
       λ dead at inside. (
         λ live here. dead live,
         each_map (λ (d : Chunk). c.base + c.length ≤ d.base) (λ (d : Chunk). IsLive d.state
@@ -66,7 +66,7 @@ retired_free from (c ∷ rest) rising =
       each_both (λ (d : Chunk). c.base + c.length ≤ d.base) (λ (r : Chunk). (IsLive r.state → ⊥) → (at : ℕ) → IsInChunk r at
           → IsFree rest at) (λ (r : Chunk). (IsLive r.state → ⊥) → (at : ℕ) → IsInChunk r at → IsFree (c ∷ rest) at)
           (λ r h free dead at inside. (λ live there. omega (arith, h, inside.0, there.1), free dead at inside)) rest above
-          (retired_free (c.base + c.length) rest rising.1),
+          (retired_free (c.base + c.length) rest ascending.1),
     )
 
 -- a live chunk is closed by itself
@@ -161,7 +161,7 @@ quiet_chunks marked chunks region =
     (λ (c : Chunk). (IsLive c.state → ⊥) → (stamp : ℕ)
     → IsQuiet marked.bytes marked.marks (record { base = c.base; length = c.length; stamp = stamp }))
     (λ c placed free dead stamp. quiet_one marked chunks region c placed (free dead) stamp) chunks region.placed
-    (retired_free 65536 chunks region.rising)
+    (retired_free 65536 chunks region.ascending)
 
 -- what holds of retired spans holds with that of one more chunk in front, live or not
 with_one : (Q : RetiredSpan → Type 0) (c : Chunk) (s : ChunkState) (spans : List RetiredSpan) → c.state ≡ s

@@ -11,7 +11,7 @@ use Rattle.nc_list.specs.declared.chunk.Chunk.{Chunk}
 use Rattle.nc_list.proofs.Offered.{each_get, each_from}
 use Rattle.nc_acts.specs.Chunks.{HasGoodSpan}
 use Rattle.nc_region.specs.Each.{Each}
-use Rattle.nc_region.specs.Region.{Region, IsLive, IsInChunk, IsRising, HoldsValid, IsRegion}
+use Rattle.nc_region.specs.Region.{Region, IsLive, IsInChunk, IsAscending, HoldsValid, IsRegion}
 use Rattle.nc_region.specs.Patch.{IsHeldBy, IsPatchSpan, IsPatch, IsRun, LeavesPairs, KeepsTargets, MayRefusePatch}
 use Rattle.nc_region.specs.machinery.PatchSteps.{CanPatch, MayRefuseIn}
 use Rattle.nc_region.specs.declared.fault.ModifyFault.{ModifyFault}
@@ -57,7 +57,7 @@ region_patched old new chunks c at bytes p =
     let is : get_or chunks p.held.0.0 c ≡ c = p.held.0.2 in
     record {
       whole = p.whole;
-      rising = p.region.rising;
+      ascending = p.region.ascending;
       placed = subst (λ (l : ℕ). Each (λ (d : Chunk). HasGoodSpan d.base l d.length) chunks)
           (ap (λ (n : ℕ). 65536 + n) (sym a.as_long)) p.region.placed;
       live = each_from (λ (d : Chunk). IsLive d.state → HoldsValid new d) chunks c (λ k lt live.
@@ -66,7 +66,7 @@ region_patched old new chunks c at bytes p =
           (λ (before : k < p.held.0.0). still_holds old new c (get_or chunks k c) a
           (inl (omega (
             arith,
-            apart_by_index 65536 chunks c p.region.rising k p.held.0.0 before p.held.0.1,
+            apart_by_index 65536 chunks c p.region.ascending k p.held.0.0 before p.held.0.1,
             ap (λ (x : Chunk). x.base) is,
           ))) h)
           (λ (from : p.held.0.0 ≤ k).
@@ -74,7 +74,7 @@ region_patched old new chunks c at bytes p =
           (λ (behind : p.held.0.0 < k). still_holds old new c (get_or chunks k c) a
           (inr (omega (
             arith,
-            apart_by_index 65536 chunks c p.region.rising p.held.0.0 k behind lt,
+            apart_by_index 65536 chunks c p.region.ascending p.held.0.0 k behind lt,
             ap (λ (x : Chunk). x.base + x.length) is,
           ))) h)
           (λ (to : k ≤ p.held.0.0). (let same : p.held.0.0 ≡ k = omega (arith, from, to) in
@@ -108,25 +108,26 @@ pub patch_lawful : (r : Region) (at : ℕ) (new : List ℕ) (c : Chunk) → IsPa
 patch_lawful r at new c span held p = (span, (c, held, (record { holds = p.holds; run = p.run }, p.pairs, p.targets)))
 
 -- what refuses the chunk's patch refuses that of the region
-pub refused_in : (r : Region) (at : ℕ) (new : List ℕ) (c : Chunk) (fault : ModifyFault) → IsRising 65536 r.chunks
+pub refused_in : (r : Region) (at : ℕ) (new : List ℕ) (c : Chunk) (fault : ModifyFault) → IsAscending 65536 r.chunks
     → IsPatchSpan at (length new) → IsHeldBy r.chunks at c → MayRefuseIn r.marked c at new fault → MayRefusePatch r at new fault
-refused_in r at new c BadSpan rising span held by = absurd by
-refused_in r at new c NotLive rising span held by = absurd by
-refused_in r at new c NotPermitted rising span held by = (span, (c, held), by)
-refused_in r at new c Boundaries rising span held by = (
+refused_in r at new c BadSpan ascending span held by = absurd by
+refused_in r at new c NotLive ascending span held by = absurd by
+refused_in r at new c NotPermitted ascending span held by = (span, (c, held), by)
+refused_in r at new c Boundaries ascending span held by = (
   span,
   (c, held),
   by.0,
-  λ f. by.1 (subst (λ (d : Chunk). IsRun r.marked d at new) (held_same r.chunks at c f.0 rising held f.1) f.2),
+  λ f. by.1 (subst (λ (d : Chunk). IsRun r.marked d at new) (held_same r.chunks at c f.0 ascending held f.1) f.2),
 )
-refused_in r at new c PairTouched rising span held by = (
+refused_in r at new c PairTouched ascending span held by = (
   span,
   (c, held, by.0),
-  λ f. by.1 (subst (λ (d : Chunk). (is : IsRun r.marked d at new) × LeavesPairs is.run) (held_same r.chunks at c f.0 rising held f.1) f.2),
+  λ f. by.1 (subst (λ (d : Chunk). (is : IsRun r.marked d at new) × LeavesPairs is.run)
+      (held_same r.chunks at c f.0 ascending held f.1) f.2),
 )
-refused_in r at new c BadTarget rising span held by = (
+refused_in r at new c BadTarget ascending span held by = (
   span,
   (c, held, by.0),
   λ p. by.1 (subst (λ (d : Chunk). (is : IsRun r.marked d at new) × LeavesPairs is.run × KeepsTargets (limit_of r.marked.bytes) is.run)
-      (held_same r.chunks at c p.1.0 rising held p.1.1) p.1.2),
+      (held_same r.chunks at c p.1.0 ascending held p.1.1) p.1.2),
 )

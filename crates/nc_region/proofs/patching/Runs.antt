@@ -12,13 +12,13 @@ use Rattle.nc_text.specs.Marks.{mark_at}
 use Rattle.nc_text.specs.MarkedText.{MarkedText, IsText}
 use Rattle.nc_list.specs.declared.chunk.Chunk.{Chunk}
 use Rattle.nc_list.proofs.Offered.{each_get}
-use Rattle.nc_region.specs.Region.{IsInChunk, IsRising, HoldsValid}
+use Rattle.nc_region.specs.Region.{IsInChunk, IsAscending, HoldsValid}
 use Rattle.nc_region.specs.Patch.{IsHeldBy, IsHeld, AreBytesOf, lengths, IsRun}
 use Rattle.nc_region.specs.machinery.PatchSteps.{Begins, Along, RunsAlong}
 use Rattle.nc_region.proofs.patching.Standing.{all_long, standing}
 use Rattle.nc_region.specs.Each.{Each}
 use Rattle.nc_region.specs.Deletion.{HasLive}
-use Rattle.nc_region.proofs.chunks.Rising.{rises_get}
+use Rattle.nc_region.proofs.chunks.Ascending.{rises_get}
 
 -- where a place of the chunk is marked, an instruction begins
 pub begins_marked : (marked : MarkedText) (c : Chunk) (at : ℕ) → HoldsValid marked c → IsInChunk c at
@@ -121,24 +121,25 @@ run_marked marked c at new t inside r e =
 -- ---- a place lies in one chunk
 
 -- a chunk ends at or below each later one
-pub apart_by_index : (from : ℕ) (chunks : List Chunk) (d : Chunk) → IsRising from chunks → (i j : ℕ) → i < j → j < length chunks
+pub apart_by_index : (from : ℕ) (chunks : List Chunk) (d : Chunk) → IsAscending from chunks → (i j : ℕ) → i < j → j < length chunks
     → (get_or chunks i d).base + (get_or chunks i d).length ≤ (get_or chunks j d).base
-apart_by_index from [] d rising i j le lt = absurd (omega arith)
-apart_by_index from (c ∷ rest) d rising zero zero le lt = absurd (omega arith)
-apart_by_index from (c ∷ rest) d rising (suc i) zero le lt = absurd (omega arith)
-apart_by_index from (c ∷ rest) d rising zero (suc j) le lt = rises_get (c.base + c.length) rest j d rising.1 (omega arith)
-apart_by_index from (c ∷ rest) d rising (suc i) (suc j) le lt =
-    apart_by_index (c.base + c.length) rest d rising.1 i j (omega arith) (omega arith)
+apart_by_index from [] d ascending i j le lt = absurd (omega arith)
+apart_by_index from (c ∷ rest) d ascending zero zero le lt = absurd (omega arith)
+apart_by_index from (c ∷ rest) d ascending (suc i) zero le lt = absurd (omega arith)
+apart_by_index from (c ∷ rest) d ascending zero (suc j) le lt = rises_get (c.base + c.length) rest j d ascending.1 (omega arith)
+apart_by_index from (c ∷ rest) d ascending (suc i) (suc j) le lt =
+    apart_by_index (c.base + c.length) rest d ascending.1 i j (omega arith) (omega arith)
 
 -- of two live chunks that hold a place none is before the other
-none_before : (chunks : List Chunk) (at : ℕ) (c d : Chunk) → IsRising 65536 chunks → (a : IsHeldBy chunks at c) (b : IsHeldBy chunks at d)
+none_before : (chunks : List Chunk) (at : ℕ) (c d : Chunk) → IsAscending 65536 chunks
+    → (a : IsHeldBy chunks at c) (b : IsHeldBy chunks at d)
     → a.0.0 < b.0.0 → ⊥
-none_before chunks at c d rising a b lt =
+none_before chunks at c d ascending a b lt =
     let is_c : get_or chunks a.0.0 c ≡ c = a.0.2 in
     let is_d : get_or chunks b.0.0 c ≡ d = get_or_default chunks b.0.0 c d b.0.1 ∙ b.0.2 in
     omega (
       arith,
-      apart_by_index 65536 chunks c rising a.0.0 b.0.0 lt b.0.1,
+      apart_by_index 65536 chunks c ascending a.0.0 b.0.0 lt b.0.1,
       ap (λ (x : Chunk). x.base + x.length) is_c,
       ap (λ (x : Chunk). x.base) is_d,
       a.2.1,
@@ -146,11 +147,12 @@ none_before chunks at c d rising a b lt =
     )
 
 -- two live chunks that hold a place are one
-pub held_same : (chunks : List Chunk) (at : ℕ) (c d : Chunk) → IsRising 65536 chunks → IsHeldBy chunks at c → IsHeldBy chunks at d → d ≡ c
-held_same chunks at c d rising a b =
+pub held_same : (chunks : List Chunk) (at : ℕ) (c d : Chunk) → IsAscending 65536 chunks
+    → IsHeldBy chunks at c → IsHeldBy chunks at d → d ≡ c
+held_same chunks at c d ascending a b =
     let is_c : get_or chunks a.0.0 c ≡ c = a.0.2 in
     let is_d : get_or chunks b.0.0 c ≡ d = get_or_default chunks b.0.0 c d b.0.1 ∙ b.0.2 in
-    let same : b.0.0 ≡ a.0.0 = omega (arith, none_before chunks at c d rising a b, none_before chunks at d c rising b a) in
+    let same : b.0.0 ≡ a.0.0 = omega (arith, none_before chunks at c d ascending a b, none_before chunks at d c ascending b a) in
     sym is_d ∙ (ap (λ (k : ℕ). get_or chunks k c) same ∙ is_c)
 
 -- a live chunk holds its base

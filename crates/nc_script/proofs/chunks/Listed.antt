@@ -4,7 +4,7 @@ use Rattle.std.specs.List.{slice_get}
 use Rattle.std.specs.Prelude.{Contains}
 use Rattle.nc_list.specs.declared.chunk.Chunk.{Chunk}
 use Rattle.nc_region.specs.Each.{Each}
-use Rattle.nc_region.specs.Region.{IsRising}
+use Rattle.nc_region.specs.Region.{IsAscending}
 
 -- what is made of a member is a member
 pub listed_map : {X Y : Type 0} (f : X → Y) (xs : List X) (x : X) → Contains xs x → Contains (map f xs) (f x)
@@ -28,14 +28,14 @@ listed_at (y ∷ ys) zero x e = (0, omega arith, cc)
 listed_at (y ∷ ys) (suc k) x e = let rest = listed_at ys k x e in (suc rest.0, omega (arith, rest.1), rest.2)
 
 -- chunks that rise from a place lie above it
-pub rising_listed : (from : ℕ) (chunks : List Chunk) (c : Chunk) → IsRising from chunks → Contains chunks c → from ≤ c.base
-rising_listed from [] c rising (k, l, e) = absurd (omega (arith, l))
-rising_listed from (d ∷ rest) c rising (zero, l, e) = subst (λ (x : Chunk). from ≤ x.base) e rising.0
-rising_listed from (d ∷ rest) c rising (suc k, l, e) =
-    omega (arith, rising.0, rising_listed (d.base + d.length) rest c rising.1 (k, omega (arith, l), e))
+pub ascending_listed : (from : ℕ) (chunks : List Chunk) (c : Chunk) → IsAscending from chunks → Contains chunks c → from ≤ c.base
+ascending_listed from [] c ascending (k, l, e) = absurd (omega (arith, l))
+ascending_listed from (d ∷ rest) c ascending (zero, l, e) = subst (λ (x : Chunk). from ≤ x.base) e ascending.0
+ascending_listed from (d ∷ rest) c ascending (suc k, l, e) =
+    omega (arith, ascending.0, ascending_listed (d.base + d.length) rest c ascending.1 (k, omega (arith, l), e))
 
 -- each of the chunks that rise from a place lies above it, and above lower ones
-pub rising_each : (from to : ℕ) (chunks : List Chunk) → to ≤ from → IsRising from chunks → Each (λ (c : Chunk). to ≤ c.base) chunks
-rising_each from to [] le rising = tt
-rising_each from to (d ∷ rest) le rising =
-    (omega (arith, le, rising.0), rising_each (d.base + d.length) to rest (omega (arith, le, rising.0)) rising.1)
+pub ascending_each : (from to : ℕ) (chunks : List Chunk) → to ≤ from → IsAscending from chunks → Each (λ (c : Chunk). to ≤ c.base) chunks
+ascending_each from to [] le ascending = tt
+ascending_each from to (d ∷ rest) le ascending =
+    (omega (arith, le, ascending.0), ascending_each (d.base + d.length) to rest (omega (arith, le, ascending.0)) ascending.1)

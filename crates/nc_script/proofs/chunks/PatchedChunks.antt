@@ -14,14 +14,14 @@ use Rattle.nc_list.specs.declared.chunk.ChunkState.TheVariants.{Live, Retired}
 use Rattle.nc_region.specs.Each.{Each}
 use Rattle.nc_region.proofs.Offered.{each_map}
 use Rattle.nc_acts.specs.Chunks.{HasGoodSpan}
-use Rattle.nc_region.specs.Region.{IsRising, IsLive}
+use Rattle.nc_region.specs.Region.{IsAscending, IsLive}
 use Rattle.nc_script.specs.Script as script
 use Rattle.nc_script.specs.Script.{standing_bytes, covers}
 use Rattle.nc_script.specs.Patching.{patched_state, patched_at}
 use Rattle.nc_script.specs.machinery.Session.{bytes_at, state_in, script_chunk}
 use Rattle.nc_script.proofs.chunks.RegionText.{length-bytes_at, length-state_in, get_or-bytes_at}
 use Rattle.nc_script.proofs.chunks.Creating.{state_in-apart}
-use Rattle.nc_script.proofs.chunks.Listed.{rising_listed, rising_each}
+use Rattle.nc_script.proofs.chunks.Listed.{ascending_listed, ascending_each}
 
 -- a chunk lies apart from a span, or it is live and has the whole of it
 abbrev pub IsApartOrAround : ℕ → ℕ → Chunk → Type 0
@@ -29,19 +29,19 @@ IsApartOrAround at len d =
     ((d.base + d.length ≤ at) ⊎ (at + len ≤ d.base)) ⊎ (IsLive d.state × (d.base ≤ at) × (at + len ≤ d.base + d.length))
 
 -- where a live chunk has a span, each chunk lies apart from it or has the whole of it
-pub apart_or_around : (from at len : ℕ) (chunks : List Chunk) (c : Chunk) → IsRising from chunks → Contains chunks c → IsLive c.state
+pub apart_or_around : (from at len : ℕ) (chunks : List Chunk) (c : Chunk) → IsAscending from chunks → Contains chunks c → IsLive c.state
     → c.base ≤ at → at + len ≤ c.base + c.length → Each (IsApartOrAround at len) chunks
-apart_or_around from at len [] c rising (k, l, e) live low high = tt
-apart_or_around from at len (d ∷ rest) c rising (zero, l, e) live low high = (
+apart_or_around from at len [] c ascending (k, l, e) live low high = tt
+apart_or_around from at len (d ∷ rest) c ascending (zero, l, e) live low high = (
   subst (IsApartOrAround at len) (sym e) (inr (live, low, high)),
   each_map (λ (x : Chunk). at + len ≤ x.base) (IsApartOrAround at len) (λ x h. inl (inr h)) rest
-      (rising_each (d.base + d.length) (at + len) rest
-      (subst (λ (x : Chunk). at + len ≤ x.base + x.length) (sym e) high) rising.1),
+      (ascending_each (d.base + d.length) (at + len) rest
+      (subst (λ (x : Chunk). at + len ≤ x.base + x.length) (sym e) high) ascending.1),
 )
-apart_or_around from at len (d ∷ rest) c rising (suc k, l, e) live low high =
+apart_or_around from at len (d ∷ rest) c ascending (suc k, l, e) live low high =
     let listed : Contains rest c = (k, omega (arith, l), e) in (
-      inl (inl (omega (arith, low, rising_listed (d.base + d.length) rest c rising.1 listed))),
-      apart_or_around (d.base + d.length) at len rest c rising.1 listed live low high,
+      inl (inl (omega (arith, low, ascending_listed (d.base + d.length) rest c ascending.1 listed))),
+      apart_or_around (d.base + d.length) at len rest c ascending.1 listed live low high,
     )
 
 -- the bytes of a span inside of which code was put
@@ -140,11 +140,11 @@ patched_each bytes code at (d ∷ rest) some low high placed apart =
 
 -- the chunks of the script after a patch of one of them
 pub patched_chunks : (bytes code : List ℕ) (at : ℕ) (chunks : List Chunk) (c : Chunk) → 0 < length code → at % 32 + length code ≤ 32
-    → IsRising 0x10000 chunks → Each (λ (d : Chunk). HasGoodSpan d.base (limit_of bytes) d.length) chunks
+    → IsAscending 0x10000 chunks → Each (λ (d : Chunk). HasGoodSpan d.base (limit_of bytes) d.length) chunks
     → HasGoodSpan c.base (limit_of bytes) c.length → Contains chunks c → IsLive c.state → c.base ≤ at → at < c.base + c.length
     → map (script_chunk (with_span bytes (at - 0x10000) code)) chunks ≡ map (patched_at at code) (map (script_chunk bytes) chunks)
-patched_chunks bytes code at chunks c some bundle rising placed here listed live from to =
+patched_chunks bytes code at chunks c some bundle ascending placed here listed live from to =
     let base_is : c.base % 32 ≡ 0 = here.start in
     let end : at + length code ≤ c.base + c.length = omega (arith, bundle, base_is, here.whole, from, to) in
     patched_each bytes code at chunks some (omega (arith, here.low, from)) (omega (arith, end, here.high)) placed
-    (apart_or_around 0x10000 at (length code) chunks c rising listed live from end)
+    (apart_or_around 0x10000 at (length code) chunks c ascending listed live from end)

@@ -10,7 +10,7 @@ use Rattle.nc_list.specs.declared.chunk.ChunkState.{ChunkState}
 use Rattle.nc_list.specs.declared.chunk.ChunkState.TheVariants.{Live, Retired}
 use Rattle.nc_region.specs.Each.{Each}
 use Rattle.nc_acts.specs.Chunks.{HasGoodSpan}
-use Rattle.nc_region.specs.Region.{Region, IsRegion, IsRising, IsLive, IsInChunk}
+use Rattle.nc_region.specs.Region.{Region, IsRegion, IsAscending, IsLive, IsInChunk}
 use Rattle.nc_script.specs.Script as script
 use Rattle.nc_script.specs.Script.{byte_in, standing_bytes, script_text}
 use Rattle.nc_script.specs.machinery.Session.{bytes_at, state_in, script_chunk, script_of}
@@ -59,25 +59,25 @@ first_or_rest c rest at v within beyond =
     (λ out. beyond (λ from to. ⊎_elim (λ p. omega (arith, leb-false _ _ p)) (λ q. omega (arith, ltb-false _ _ q)) out))
 
 -- where a list begins above a place, none of its chunks has the place
-none_above : (at from : ℕ) (chunks : List Chunk) → IsRising from chunks → at < from
+none_above : (at from : ℕ) (chunks : List Chunk) → IsAscending from chunks → at < from
     → Each (λ (c : Chunk). IsLive c.state → IsInChunk c at → ⊥) chunks
 none_above at from [] r l = tt
 none_above at from (c ∷ rest) r l =
     (λ live inside. omega (arith, inside.0, r.0), none_above at (c.base + c.length) rest r.1 (omega (arith, r.0)))
 
 -- each place of the region has the text's byte
-byte_in-chunks : (bytes : List ℕ) (at from : ℕ) (chunks : List Chunk) → IsRising from chunks
+byte_in-chunks : (bytes : List ℕ) (at from : ℕ) (chunks : List Chunk) → IsAscending from chunks
     → Each (λ (c : Chunk). HasGoodSpan c.base (limit_of bytes) c.length) chunks
     → (Each (λ (c : Chunk). IsLive c.state → IsInChunk c at → ⊥) chunks → byte_at bytes at ≡ 0xF4)
     → byte_in (map (script_chunk bytes) chunks) at ≡ byte_at bytes at
-byte_in-chunks bytes at from [] rising placed stops = sym (stops tt)
-byte_in-chunks bytes at from (c ∷ rest) rising placed stops =
+byte_in-chunks bytes at from [] ascending placed stops = sym (stops tt)
+byte_in-chunks bytes at from (c ∷ rest) ascending placed stops =
     let high : c.base + c.length ≤ limit_of bytes = omega (arith, placed.0.high) in
     let long = length-state_in bytes c.base c.length c.state placed.0.low high in
     first_or_rest (script_chunk bytes c) (map (script_chunk bytes) rest) at (byte_at bytes at)
     (λ low to. byte_here bytes c.base c.length at c.state placed.0.low low (omega (arith, long))
-    (λ dead. stops (λ live inside. dead live, none_above at (c.base + c.length) rest rising.1 (omega (arith, long)))))
-    (λ out. byte_in-chunks bytes at (c.base + c.length) rest rising.1 placed.1
+    (λ dead. stops (λ live inside. dead live, none_above at (c.base + c.length) rest ascending.1 (omega (arith, long)))))
+    (λ out. byte_in-chunks bytes at (c.base + c.length) rest ascending.1 placed.1
     (λ others. stops (λ live inside. out inside.0 (omega (arith, long, inside.1)), others)))
 
 -- the text of the script's state is the region's
@@ -92,6 +92,6 @@ script_text-script_of region seats freed is =
     (λ k l.
     let inside : k < n = omega (arith, l, length-map-range_with_len (byte_in chunks) 0x10000 n) in
     get_or-map-range_with_len (byte_in chunks) 0x10000 n k (0x10000 + k) 0 inside refl
-    ∙ byte_in-chunks bytes (0x10000 + k) 0x10000 region.chunks is.rising is.placed
+    ∙ byte_in-chunks bytes (0x10000 + k) 0x10000 region.chunks is.ascending is.placed
     (λ out. is.stops (0x10000 + k) (omega arith, omega (arith, inside)) out)
     ∙ ap (λ (i : ℕ). get_or bytes i 0) (omega arith))

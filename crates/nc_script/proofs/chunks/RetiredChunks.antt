@@ -11,7 +11,7 @@ use Rattle.nc_list.specs.declared.chunk.ChunkState.TheVariants.{Live, Retired}
 use Rattle.nc_region.specs.Each.{Each}
 use Rattle.nc_region.proofs.Offered.{each_both}
 use Rattle.nc_acts.specs.Chunks.{HasGoodSpan}
-use Rattle.nc_region.specs.Region.{IsRising, IsLive}
+use Rattle.nc_region.specs.Region.{IsAscending, IsLive}
 use Rattle.nc_region.specs.Deletion as region
 use Rattle.nc_script.specs.Script as script
 use Rattle.nc_script.specs.Script.{standing_bytes}
@@ -21,7 +21,7 @@ use Rattle.nc_script.specs.machinery.Session.{state_in, script_chunk}
 use Rattle.nc_output.proofs.Offered.{eqb_no}
 use Rattle.nc_script.proofs.chunks.RegionText.{length-state_in}
 use Rattle.nc_script.proofs.chunks.Creating.{chunks_apart}
-use Rattle.nc_script.proofs.chunks.Listed.{rising_each}
+use Rattle.nc_script.proofs.chunks.Listed.{ascending_each}
 
 -- chunks of other bases stay as they are
 others_stay : (base stamp : ℕ) (cs : List script.ScriptChunk) → Each (λ (c : script.ScriptChunk). c.base ≢ base) cs
@@ -60,12 +60,12 @@ placed_at bytes zero (x ∷ xs) c p e = let same : x ≡ c = cc in subst (λ (y 
 placed_at bytes (suc k) (x ∷ xs) c p e = placed_at bytes k xs c p.1 e
 
 -- the chunks of the script after one of them was deleted
-pub retired_chunks : (bytes : List ℕ) (stamp from k : ℕ) (chunks : List Chunk) (c : Chunk) → IsRising from chunks
+pub retired_chunks : (bytes : List ℕ) (stamp from k : ℕ) (chunks : List Chunk) (c : Chunk) → IsAscending from chunks
     → Each (λ (d : Chunk). HasGoodSpan d.base (limit_of bytes) d.length) chunks → slice_get chunks k ≡ Some c
     → map (script_chunk (with_span bytes (c.base - 0x10000) (replicate c.length 0xF4))) (set chunks k (record c { state = Retired stamp }))
     ≡ map (retired_at c.base stamp) (map (script_chunk bytes) chunks)
-retired_chunks bytes stamp from k [] c rising placed is = absurd cc
-retired_chunks bytes stamp from zero (d ∷ rest) c rising placed is =
+retired_chunks bytes stamp from k [] c ascending placed is = absurd cc
+retired_chunks bytes stamp from zero (d ∷ rest) c ascending placed is =
     let same : d ≡ c = cc in
     let new = with_span bytes (c.base - 0x10000) (replicate c.length 0xF4) in
     let here : HasGoodSpan c.base (limit_of bytes) c.length = subst (λ (x : Chunk). HasGoodSpan x.base
@@ -73,7 +73,7 @@ retired_chunks bytes stamp from zero (d ∷ rest) c rising placed is =
     let high : c.base + c.length ≤ limit_of bytes = omega (arith, here.high) in
     let above : Each (λ (x : Chunk). c.base + c.length ≤ x.base) rest =
     subst (λ (x : Chunk). Each (λ (y : Chunk). x.base + x.length ≤ y.base) rest) same
-    (rising_each (d.base + d.length) (d.base + d.length) rest (omega arith) rising.1) in
+    (ascending_each (d.base + d.length) (d.base + d.length) rest (omega arith) ascending.1) in
     let tail = apart_stay bytes c.base c.length stamp rest here.low high placed.1
     (each_both (λ (x : Chunk). c.base + c.length ≤ x.base) (λ (x : Chunk). HasGoodSpan x.base (limit_of bytes) x.length)
     (λ (x : Chunk). (x.base + x.length ≤ c.base) ⊎ (c.base + c.length ≤ x.base)) (λ x a p. inr a) rest above placed.1)
@@ -89,18 +89,18 @@ retired_chunks bytes stamp from zero (d ∷ rest) c rising placed is =
     ∙ (ap (λ (x : script.ScriptChunk). x ∷ map (retired_at c.base stamp) (map (script_chunk bytes) rest)) (sym head)
     ∙ ap (λ (x : Chunk). retired_at c.base stamp (script_chunk bytes x) ∷ map (retired_at c.base stamp) (map (script_chunk bytes) rest))
     (sym same))
-retired_chunks bytes stamp from (suc k) (d ∷ rest) c rising placed is =
+retired_chunks bytes stamp from (suc k) (d ∷ rest) c ascending placed is =
     let new = with_span bytes (c.base - 0x10000) (replicate c.length 0xF4) in
-    let below : d.base + d.length ≤ c.base = rises_at (d.base + d.length) k rest c rising.1 is in
+    let below : d.base + d.length ≤ c.base = rises_at (d.base + d.length) k rest c ascending.1 is in
     let there = placed_at bytes k rest c placed.1 is in
     let first = apart_stay bytes c.base c.length stamp (d ∷ []) there.low (omega (arith, there.high)) (placed.0, tt) (inl below, tt)
     ((λ e. omega (arith, e, below, placed.0.some)), tt) in
     let one : script_chunk new d ≡ retired_at c.base stamp (script_chunk bytes d) = cc in
     ap (λ (x : script.ScriptChunk). x ∷ map (script_chunk new) (set rest k (record c { state = Retired stamp }))) one
     ∙ ap (λ (cs : List script.ScriptChunk). retired_at c.base stamp (script_chunk bytes d) ∷ cs)
-    (retired_chunks bytes stamp (d.base + d.length) k rest c rising.1 placed.1 is)
+    (retired_chunks bytes stamp (d.base + d.length) k rest c ascending.1 placed.1 is)
   where
-    rises_at : (from k : ℕ) (rest : List Chunk) (c : Chunk) → IsRising from rest → slice_get rest k ≡ Some c → from ≤ c.base
+    rises_at : (from k : ℕ) (rest : List Chunk) (c : Chunk) → IsAscending from rest → slice_get rest k ≡ Some c → from ≤ c.base
     rises_at from k [] c r e = absurd cc
     rises_at from zero (x ∷ xs) c r e = let same : x ≡ c = cc in subst (λ (y : Chunk). from ≤ y.base) same r.0
     rises_at from (suc k) (x ∷ xs) c r e = omega (arith, r.0, rises_at (x.base + x.length) k xs c r.1 e)

@@ -55,7 +55,7 @@ modified_follows old new at bytes is m p =
           ∙ ap (λ (cs : List script.ScriptChunk). record (script_of old seats freed) { chunks = cs })
           (ap (λ (bs : List ℕ). map (script_chunk bs) new.chunks) m.patched
           ∙ (ap (λ (cs : List Chunk). map (script_chunk (with_span text (at - 0x10000) bytes)) cs) chunks_are
-          ∙ patched_chunks text bytes at old.chunks c p.0.0 p.0.1 is.rising is.placed placed held.0 held.1 held.2.0 held.2.1));
+          ∙ patched_chunks text bytes at old.chunks c p.0.0 p.0.1 is.ascending is.placed placed held.0 held.1 held.2.0 held.2.1));
     }))
 
 -- a patch that was refused
@@ -92,7 +92,7 @@ deleted_follows old new base stamp is d state seats freed fits =
     ∙ (ap (λ (cs : List Chunk). map (script_chunk (with_span text (base - 0x10000) stops)) cs) d.chunks
     ∙ (ap (λ (b : ℕ). map (script_chunk (with_span text (b - 0x10000) stops)) (set old.chunks d.index
     (record d.chunk { state = Retired stamp }))) (sym d.base_is)
-    ∙ (retired_chunks text stamp 0x10000 d.index old.chunks d.chunk is.rising is.placed d.listed
+    ∙ (retired_chunks text stamp 0x10000 d.index old.chunks d.chunk is.ascending is.placed d.listed
     ∙ (ap (λ (b : ℕ). map (retired_at b stamp) (map (script_chunk text) old.chunks)) d.base_is
     ∙ ap (λ (n : ℕ). map (retired_at base n) (map (script_chunk text) old.chunks)) d.stamp_is)))) in (
       seats,

@@ -3,7 +3,7 @@ use Rattle.std.proofs.lemmas.List.Sorted.{IsPartitionPoint-from_clause, IsPartit
 use Rattle.nc_list.specs.declared.chunk.Chunk.{Chunk}
 use Rattle.nc_list.specs.declared.chunk.ChunkState.TheVariants.{Live}
 use Rattle.nc_list.proofs.EachMember.{each_take_from, each_drop_from}
-use Rattle.nc_list.proofs.Rising.{rises_at}
+use Rattle.nc_list.proofs.Ascending.{rises_at}
 use Rattle.nc_list.proofs.leaf.count_to.Goals as goal
 
 pub returns-clause-below : goal.returns-clause-below

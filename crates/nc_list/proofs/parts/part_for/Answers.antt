@@ -14,7 +14,7 @@ loop-high-preserved-then-first-at g c =
     (omega (arith, c.loop-high-test.true, so.order.1)) c.index-parts-middle.is c.first.ensures in
     record {
       order = omega (arith, c.loop-high-test.true, so.order.1);
-      below = part_below (map g.T.Part.items c.args.parts.now) middle c.first.result c.args.at c.requires.rising has c.if-first-at.true;
+      below = part_below (map g.T.Part.items c.args.parts.now) middle c.first.result c.args.at c.requires.ascending has c.if-first-at.true;
       above = so.above;
     }
 
@@ -27,7 +27,7 @@ loop-high-preserved g c =
     record {
       order = omega (arith, c.loop-high-test.true, so.order.1);
       below = so.below;
-      above = part_above (map g.T.Part.items c.args.parts.now) middle c.first.result c.args.at c.requires.rising has
+      above = part_above (map g.T.Part.items c.args.parts.now) middle c.first.result c.args.at c.requires.ascending has
           (omega (arith, c.if-first-at.false));
     }
 

@@ -3,7 +3,7 @@ use Rattle.std.proofs.lemmas.Bool.{eqb-true, eqb-false}
 use Rattle.std.proofs.lemmas.List.{length-map}
 use Rattle.std.proofs.lemmas.Result.{IfOk-from_err, IfOk-weaker}
 use Rattle.nc_list.specs.declared.chunk.Chunk.{Chunk}
-use Rattle.nc_list.specs.Chunks.{IsRising}
+use Rattle.nc_list.specs.Chunks.{IsAscending}
 use Rattle.nc_list.specs.Parts.{HaveSome, IsPartFor, all_of}
 use Rattle.nc_list.proofs.Parting.{starts_many, no_member}
 use Rattle.nc_list.proofs.parts.part_for_new.Goals as goal
@@ -45,7 +45,7 @@ part_near-k-requires g c =
         ap (λ (z : List g.row.T.Denot). length z) c.deref.ensures.value,
       );
       have = subst (λ (z : List g.row.T.Denot). HaveSome (map g.T.Part.items z)) same c.requires.have;
-      rising = subst (λ (z : List g.row.T.Denot). IsRising 0 (all_of (map g.T.Part.items z))) same c.requires.rising;
+      ascending = subst (λ (z : List g.row.T.Denot). IsAscending 0 (all_of (map g.T.Part.items z))) same c.requires.ascending;
     }
 
 pub split_part-requires : goal.split_part-requires
@@ -101,8 +101,8 @@ part_near-requires g c =
         ap (λ (z : List g.row.T.Denot). length z) c.deref-2.ensures.value,
       );
       have = subst (λ (z : List g.row.T.Denot). HaveSome (map g.T.Part.items z)) same c.split_part.ensures.have;
-      rising = subst (λ (z : List g.row.T.Denot). IsRising 0 (all_of (map g.T.Part.items z))) same
-          (subst (IsRising 0) (sym c.split_part.ensures.all) c.requires.rising);
+      ascending = subst (λ (z : List g.row.T.Denot). IsAscending 0 (all_of (map g.T.Part.items z))) same
+          (subst (IsAscending 0) (sym c.split_part.ensures.all) c.requires.ascending);
     }
 
 pub returns : goal.returns

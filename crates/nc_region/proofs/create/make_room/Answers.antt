@@ -18,13 +18,13 @@ at_err : {T E : Type 0} (r : Result T E) (P : Type 0) → is_err r ≡ true → 
 at_err (Ok x) P contrary h = absurd (let differ : false ≡ true = contrary in let e : ⊥ = cc in e)
 at_err (Err y) P is h = h
 
-pub insert-requires-clause-rising : goal.insert-requires-clause-rising
-insert-requires-clause-rising g c = rises_lower 0 65536 c.args.chunks.now (omega arith) c.requires.region.rising
+pub insert-requires-clause-ascending : goal.insert-requires-clause-ascending
+insert-requires-clause-ascending g c = rises_lower 0 65536 c.args.chunks.now (omega arith) c.requires.region.ascending
 
 pub insert-requires-clause-few : goal.insert-requires-clause-few
 insert-requires-clause-few g c =
     let region = c.requires.region in
-    let n = few (limit_of (g.A.Acts.marked c.args.acts.now).bytes) 65536 c.args.chunks.now region.rising region.placed
+    let n = few (limit_of (g.A.Acts.marked c.args.acts.now).bytes) 65536 c.args.chunks.now region.ascending region.placed
     (omega (arith, region.whole.lawful.1)) in
     omega (arith, n, region.whole.lawful.2)
 

@@ -2,7 +2,7 @@ use Rattle.std.proofs.Common.{sym, ap, subst, arith}
 use Rattle.nc_list.specs.declared.chunk.Chunk.{Chunk}
 use Rattle.nc_list.proofs.Offered.{rises_lower}
 use Rattle.nc_region.specs.Region.{IsLive}
-use Rattle.nc_region.proofs.chunks.Rising.{next_contained, only_next}
+use Rattle.nc_region.proofs.chunks.Ascending.{next_contained, only_next}
 use Rattle.nc_region.proofs.listing.holder.Goals as goal
 use Rattle.nc_region.proofs.listing.holder.Goals.{else-is_live-via-then-is_live+else-chunk-at, else-is_live-via-else-is_live}
 

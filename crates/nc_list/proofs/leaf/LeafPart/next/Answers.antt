@@ -2,7 +2,7 @@ use Rattle.std.proofs.Common.{◌≡◌, ℕ, ◌+◌, ◌-◌, ◌<◌, ◌≤�
 use Rattle.std.proofs.lemmas.List.{take_all}
 use Rattle.nc_list.specs.declared.chunk.Chunk.{Chunk}
 use Rattle.nc_list.specs.declared.chunk.ChunkState.TheVariants.{Live}
-use Rattle.nc_list.specs.Chunks.{IsRising, IsAboveAll}
+use Rattle.nc_list.specs.Chunks.{IsAscending, IsAboveAll}
 use Rattle.nc_list.specs.Parts.{BeginTo, BeginAbove}
 use Rattle.nc_list.proofs.Finding.{before_begun, up_to_ended, last_begun, later_above, next_at}
 use Rattle.nc_list.proofs.leaf.LeafPart.next.Goals as goal
@@ -13,14 +13,14 @@ returns-then-at-base-clause-found c =
     let items : List Chunk = c.self.inside.entries.items in
     let k : ℕ = c.count_near-k.result in
     let found : Chunk = c.index-entry.result.now in
-    let rising : IsRising 0 items = subst (IsRising 0) (sym c.self.view_is) c.requires in
+    let ascending : IsAscending 0 items = subst (IsAscending 0) (sym c.self.view_is) c.requires in
     let le : k ≤ length items = rw c.deref.ensures.value at c.count_near-k.ensures.bound in
     let to : BeginTo c.args.at (take k items) = rw c.deref.ensures.value at c.count_near-k.ensures.below in
     let begun = last_begun items k c.args.at found c.if-k-gt0.true le to in
     let same = ap (λ (d : Chunk). d.base) c.index-entry.ensures in
     rw (c.chunk.ensures, ← c.self.view_is)
     (next_at items (k - 1) c.args.at found (omega (arith, le)) c.index-entry.ensures
-    (before_begun items (k - 1) c.args.at found rising (omega (arith, le)) begun) (omega (arith, begun, same)))
+    (before_begun items (k - 1) c.args.at found ascending (omega (arith, le)) begun) (omega (arith, begun, same)))
 
 -- the chunks counted up to the place end at or below it
 ended : (c : Joined-k-gt0) → IsAboveAll c.args.at (take c.count_near-k.result c.self.inside.entries.items)
@@ -28,14 +28,14 @@ ended c =
     let items : List Chunk = c.self.inside.entries.items in
     let k : ℕ = c.count_near-k.result in
     let none : Chunk = record { base = 0; length = 0; state = Live } in
-    let rising : IsRising 0 items = subst (IsRising 0) (sym c.self.view_is) c.requires in
+    let ascending : IsAscending 0 items = subst (IsAscending 0) (sym c.self.view_is) c.requires in
     let le : k ≤ length items = rw c.deref.ensures.value at c.count_near-k.ensures.bound in
     let to : BeginTo c.args.at (take k items) = rw c.deref.ensures.value at c.count_near-k.ensures.below in
     elim c.if-k-gt0.branch [
       | then-k-gt0+else-at-base w ↦
           let found : Chunk = w.index-entry.result.now in
           let same : found ≡ get_or items (k - 1) found = w.index-entry.ensures in
-          up_to_ended items k c.args.at found rising le
+          up_to_ended items k c.args.at found ascending le
           (λ some. subst (λ (d : Chunk). d.base + d.length ≤ c.args.at) same
           (omega (
             arith,
@@ -45,7 +45,7 @@ ended c =
             w.length.ensures,
             w.if-at-base.false,
           )))
-      | else-k-gt0 w ↦ up_to_ended items k c.args.at none rising le (λ some. absurd (omega (arith, some, w.if-k-gt0.false)))
+      | else-k-gt0 w ↦ up_to_ended items k c.args.at none ascending le (λ some. absurd (omega (arith, some, w.if-k-gt0.false)))
     ]
 
 pub returns-then-k-len-clause-found : goal.returns-then-k-len-clause-found

@@ -1,7 +1,7 @@
 use Rattle.std.proofs.Common.{◌≡◌, ℕ, ◌-◌, ◌≤◌, List, length, take, drop, sym, ap, ◌∙◌, subst, arith}
 use Rattle.nc_list.specs.declared.chunk.Chunk.{Chunk}
 use Rattle.nc_list.specs.declared.chunk.ChunkState.{ChunkState}
-use Rattle.nc_list.specs.Chunks.{IsRising, HasBase}
+use Rattle.nc_list.specs.Chunks.{IsAscending, HasBase}
 use Rattle.nc_list.specs.Stamps.{IsSince}
 use Rattle.nc_list.specs.Parts.{BeginTo, BeginAbove}
 use Rattle.nc_list.proofs.LowerBounds.{since_set}
@@ -30,7 +30,7 @@ returns c =
     let to : BeginTo c.args.base (take k items) = rw c.deref.ensures.value at c.count_near-k.ensures.below in
     let above : BeginAbove c.args.base (drop k items) = rw c.deref.ensures.value at c.count_near-k.ensures.above in
     let le : k ≤ length items = rw c.deref.ensures.value at c.count_near-k.ensures.bound in
-    let last = last_has items k c.args.base found (subst (IsRising 0) (sym c.self.view_is) c.requires.rising) le to above
+    let last = last_has items k c.args.base found (subst (IsAscending 0) (sym c.self.view_is) c.requires.ascending) le to above
     (subst (λ (z : List Chunk). HasBase z c.args.base) (sym c.self.view_is) c.requires.base) in
     rw (c.retired.ensures, ← c.self.view_is)
     (retired_at items (k - 1) c.args.base c.args.stamp found (omega (arith, last.0, le)) c.index-entry.ensures

@@ -4,7 +4,7 @@ use Rattle.std.proofs.lemmas.List.{length-map, length-set, map-set}
 use Rattle.std.proofs.lemmas.Result.{err_from_is_err_and}
 use Rattle.nc_list.specs.declared.chunk.Chunk.{Chunk}
 use Rattle.nc_list.specs.Each.{Each}
-use Rattle.nc_list.specs.Chunks.{IsRising, Meets, live}
+use Rattle.nc_list.specs.Chunks.{IsAscending, Meets, live}
 use Rattle.nc_list.specs.Stamps.{BeginsAt}
 use Rattle.nc_list.specs.Parts.{IsRow, IsPut, all_of}
 use Rattle.nc_list.proofs.Pieces.{part_is, starts_long}
@@ -36,7 +36,7 @@ part_for_new-requires g c = record {
   few = omega (arith, c.requires.few, ap (λ (z : List Chunk). length z) c.self.view_is);
   starts = c.self.invariant.starts_are;
   have = c.self.invariant.some;
-  rising = subst (IsRising 0) (sym c.self.view_is) c.requires.rising;
+  ascending = subst (IsAscending 0) (sym c.self.view_is) c.requires.ascending;
 }
 
 pub invariant_of-self : goal.invariant_of-self
@@ -54,10 +54,10 @@ returns-in_err-k g c =
 pub index_mut-requires : goal.index_mut-requires
 index_mut-requires g c = grind (arith, common_steps)
 
-pub insert-requires-clause-rising : goal.insert-requires-clause-rising
-insert-requires-clause-rising g c =
-    let at = (goal.at.insert-requires-clause-rising g c).After-index_mut in
-    subst (IsRising 0) (sym (part g at)) (rise_here (parts_of g at) c.in_ok-k.k c.in_ok-k.ensures.part.inside (subst (IsRising 0) (sym (whole g at)) c.requires.rising))
+pub insert-requires-clause-ascending : goal.insert-requires-clause-ascending
+insert-requires-clause-ascending g c =
+    let at = (goal.at.insert-requires-clause-ascending g c).After-index_mut in
+    subst (IsAscending 0) (sym (part g at)) (rise_here (parts_of g at) c.in_ok-k.k c.in_ok-k.ensures.part.inside (subst (IsAscending 0) (sym (whole g at)) c.requires.ascending))
 
 pub insert-requires-clause-free : goal.insert-requires-clause-free
 insert-requires-clause-free g c =

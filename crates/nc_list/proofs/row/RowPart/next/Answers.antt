@@ -2,7 +2,7 @@ use Rattle.std.proofs.Common.{◌≡◌, ◌+◌, ◌<◌, List, length, get_or,
 use Rattle.std.proofs.lemmas.Grind.{common_steps}
 use Rattle.std.proofs.lemmas.List.{length-map}
 use Rattle.nc_list.specs.declared.chunk.Chunk.{Chunk}
-use Rattle.nc_list.specs.Chunks.{IsRising, IsAboveAll, IsNextChunk}
+use Rattle.nc_list.specs.Chunks.{IsAscending, IsAboveAll, IsNextChunk}
 use Rattle.nc_list.proofs.Pieces.{part_is, some_at}
 use Rattle.nc_list.proofs.Rows.{found, rise_here, next_all, next_first, next_none}
 use Rattle.nc_list.proofs.row.RowPart.next.Goals as goal
@@ -14,8 +14,9 @@ pub next-found-requires : goal.next-found-requires
 next-found-requires g c =
     let is = found g.T.Part.items c.self.inside.parts.items c.deref.result.now c.part_near-k.result c.args.at c.index.result.now c.deref.ensures.value
     c.part_near-k.ensures c.index.ensures in
-    subst (IsRising 0) (sym is.part)
-    (rise_here (map g.T.Part.items c.self.inside.parts.items) c.part_near-k.result is.for.inside (subst (IsRising 0) (sym c.self.view_is) c.requires))
+    subst (IsAscending 0) (sym is.part)
+    (rise_here (map g.T.Part.items c.self.inside.parts.items) c.part_near-k.result is.for.inside
+    (subst (IsAscending 0) (sym c.self.view_is) c.requires))
 
 pub returns-in-Some-clause-found : goal.returns-in-Some-clause-found
 returns-in-Some-clause-found g c =

@@ -2,7 +2,7 @@ use Rattle.std.proofs.Common.{List, map, sym, arith, subst}
 use Rattle.std.proofs.lemmas.Grind.{common_steps}
 use Rattle.std.proofs.lemmas.List.{map-set}
 use Rattle.nc_list.specs.declared.chunk.Chunk.{Chunk}
-use Rattle.nc_list.specs.Chunks.{IsRising, IsRetired, HasBase}
+use Rattle.nc_list.specs.Chunks.{IsAscending, IsRetired, HasBase}
 use Rattle.nc_list.specs.Parts.{IsRow}
 use Rattle.nc_list.proofs.Rows.{found, rise_here, has_here, retired_all, retired_row}
 use Rattle.nc_list.proofs.row.RowPart.retire.Goals as goal
@@ -13,13 +13,13 @@ part_near-k-requires-clause-some g c = grind (arith, common_steps)
 pub index_mut-requires : goal.index_mut-requires
 index_mut-requires g c = grind (arith, common_steps)
 
-pub retire-requires-clause-rising : goal.retire-requires-clause-rising
-retire-requires-clause-rising g c =
+pub retire-requires-clause-ascending : goal.retire-requires-clause-ascending
+retire-requires-clause-ascending g c =
     let is = found g.T.Part.items c.self.inside.parts.items c.deref.result.now c.part_near-k.result c.args.base c.index_mut.result.now c.deref.ensures.value
     c.part_near-k.ensures c.index_mut.ensures.value in
-    subst (IsRising 0) (sym is.part)
+    subst (IsAscending 0) (sym is.part)
     (rise_here (map g.T.Part.items c.self.inside.parts.items) c.part_near-k.result is.for.inside
-    (subst (IsRising 0) (sym c.self.view_is) c.requires.rising))
+    (subst (IsAscending 0) (sym c.self.view_is) c.requires.ascending))
 
 pub retire-requires-clause-base : goal.retire-requires-clause-base
 retire-requires-clause-base g c =

@@ -16,7 +16,7 @@ placed limit at chunks (Some c) all is =
     (subst (Each (λ (d : Chunk). HasGoodSpan d.base limit d.length)) is.parts all)
 
 pub chunk_at-requires : goal.chunk_at-requires
-chunk_at-requires g c = rises_lower 0 65536 c.self.inside.chunks (omega arith) c.self.invariant.0.rising
+chunk_at-requires g c = rises_lower 0 65536 c.self.inside.chunks (omega arith) c.self.invariant.0.ascending
 
 pub returns-clause-found : goal.returns-clause-found
 returns-clause-found g c = rw (← c.self.view_is) c.chunk_at.ensures.found

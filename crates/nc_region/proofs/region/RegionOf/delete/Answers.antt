@@ -9,7 +9,7 @@ use Rattle.nc_list.specs.declared.chunk.ChunkState.TheVariants.{Retired}
 use Rattle.nc_list.specs.Chunks.{IsRetired}
 use Rattle.nc_list.proofs.Offered.{each_map, each_contains}
 use Rattle.nc_region.specs.Each.{Each}
-use Rattle.nc_region.specs.Region.{Region, IsLive, IsRising}
+use Rattle.nc_region.specs.Region.{Region, IsLive, IsAscending}
 use Rattle.nc_acts.specs.Chunks.{HasGoodSpan}
 use Rattle.nc_region.proofs.chunks.ReadyPlaces.{ready_held, ready_set}
 use Rattle.nc_region.proofs.deleting.Deleted.{retired_set, deleted_is, region_deleted}
@@ -47,8 +47,8 @@ put_stops-stamp-requires-clause-ready g c =
     let f = c.in-Some.ensures.some in
     rw (← f.2) (ready_held (g.A.Acts.made c.self.inside.acts) c.self.inside.chunks c.in-Some.chunk c.self.invariant.1 f.0)
 
-pub retire-requires-clause-rising : goal.retire-requires-clause-rising
-retire-requires-clause-rising g c = grind (arith, common_steps)
+pub retire-requires-clause-ascending : goal.retire-requires-clause-ascending
+retire-requires-clause-ascending g c = grind (arith, common_steps)
 
 pub retire-requires-clause-base : goal.retire-requires-clause-base
 retire-requires-clause-base g c =
@@ -58,11 +58,11 @@ retire-requires-clause-base g c =
     (c.in-Some.chunk, f.0, f.2, placed.some)
 
 -- the list with the chunk retired
-listed : (chunks new : List Chunk) (limit base stamp : ℕ) (c : Chunk) (has : Contains chunks c) → IsRising 65536 chunks
+listed : (chunks new : List Chunk) (limit base stamp : ℕ) (c : Chunk) (has : Contains chunks c) → IsAscending 65536 chunks
     → Each (λ (d : Chunk). HasGoodSpan d.base limit d.length) chunks → c.base ≡ base → IsRetired chunks new base stamp
     → new ≡ set chunks has.0 (record c { state = Retired stamp })
-listed chunks new limit base stamp c has rising placed base_is retired =
-    retired_set chunks new has.0 base stamp c rising
+listed chunks new limit base stamp c has ascending placed base_is retired =
+    retired_set chunks new has.0 base stamp c ascending
     (each_map (λ (d : Chunk). HasGoodSpan d.base limit d.length) (λ (d : Chunk). 0 < d.length) (λ d p. p.some) chunks placed) has.1 has.2
     base_is retired
 
@@ -73,7 +73,7 @@ invariant_of-self g c =
     let chunks = c.self.inside.chunks in
     let old = g.A.Acts.marked c.self.inside.acts in
     let list = listed chunks c.retire.new.self (limit_of old.bytes) c.args.base c.put_stops-stamp.result chunk f.0
-    c.self.invariant.0.rising c.self.invariant.0.placed f.2 c.retire.ensures in
+    c.self.invariant.0.ascending c.self.invariant.0.placed f.2 c.retire.ensures in
     let region = region_deleted old (g.A.Acts.marked c.put_stops-stamp.new.acts) chunks f.0.0 chunk c.put_stops-stamp.result
     (record {
       region = c.self.invariant.0;
@@ -107,7 +107,7 @@ returns-clause-deleted g c =
     c.put_stops-stamp.ensures.stamp c.put_stops-stamp.ensures.bytes c.put_stops-stamp.ensures.marks
     c.put_stops-stamp.ensures.made
     (listed chunks c.retire.new.self (limit_of old.marked.bytes) c.args.base c.put_stops-stamp.result chunk f.0
-    c.self.invariant.0.rising c.self.invariant.0.placed f.2 c.retire.ensures)
+    c.self.invariant.0.ascending c.self.invariant.0.placed f.2 c.retire.ensures)
     c.put_stops-stamp.ensures.keeper c.put_stops-stamp.ensures.log)
 
 pub returns-clause-confined : goal.returns-clause-confined

@@ -99,7 +99,7 @@ returns-in-Err-clause-refused g c =
     let held : IsHeldBy c.self.inside.chunks c.args.at c.in-Some.chunk = c.in-Some.ensures.some in
     let refused = refused_in (region_of (g.A.Acts.marked c.self.inside.acts) (g.A.Acts.made c.self.inside.acts) c.self.inside.chunks
     (g.A.Acts.keeper c.self.inside.acts) (g.A.Acts.logged c.self.inside.acts)) c.args.at c.args.new.now c.in-Some.chunk c.in-Err.fault
-    c.self.invariant.0.rising (c.is_patch_span.ensures.0 spans) held c.in-Err.ensures.refused in
+    c.self.invariant.0.ascending (c.is_patch_span.ensures.0 spans) held c.in-Err.ensures.refused in
     subst (λ (r : Region). MayRefusePatch r c.args.at c.args.new.now c.in-Err.fault) c.self.view_is refused
 
 pub returns-in-Err-clause-confined : goal.returns-in-Err-clause-confined

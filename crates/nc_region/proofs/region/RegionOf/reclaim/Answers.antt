@@ -31,7 +31,7 @@ free_due-requires-clause-least g c =
 
 pub free_due-requires-clause-few : goal.free_due-requires-clause-few
 free_due-requires-clause-few g c =
-    let n = few (limit_of (g.A.Acts.marked c.self.inside.acts).bytes) 65536 c.self.inside.chunks c.self.invariant.0.rising
+    let n = few (limit_of (g.A.Acts.marked c.self.inside.acts).bytes) 65536 c.self.inside.chunks c.self.invariant.0.ascending
     c.self.invariant.0.placed (omega (arith, c.self.invariant.0.whole.lawful.1)) in
     omega (arith, n, c.self.invariant.0.whole.lawful.2)
 
