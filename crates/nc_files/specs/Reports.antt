@@ -14,7 +14,7 @@ use Rattle.nc_output.specs.declared.detail.Format.{Format}
 use Rattle.nc_output.specs.declared.detail.Format.TheVariants.{Text, Json}
 use Rattle.nc_output.specs.declared.detail.Style.{Style}
 use Rattle.nc_report.specs.Objects.{file_object}
-use Rattle.nc_report.specs.Report.{Tells, said_of}
+use Rattle.nc_report.specs.Report.{Reports, said_of}
 use Rattle.nc_command.specs.declared.asked.CheckAsk.{CheckAsk}
 use Rattle.nc_files.specs.Parts.{part_name}
 use Rattle.nc_files.specs.declared.parts.Part.{Part}
@@ -33,7 +33,7 @@ judged_in part = record { base = part.base; name = part.source.name.items; code 
 -- the code is refused or not, and this is the report on it, for the region and in the style that are asked for
 abbrev pub TellsCode : CheckAsk → Judged → Bool → List ℕ → Type 0
 TellsCode ask judged refused text =
-    Tells (limit_after ask.bundles) judged.base ask.style judged.name judged.code refused text
+    Reports (limit_after ask.bundles) judged.base ask.style judged.name judged.code refused text
 
 -- the reports on all of these, in order; it is refused if any of them is
 abbrev pub TellsEach : CheckAsk → List Judged → Bool → List ℕ → Type 0

@@ -6,13 +6,13 @@ use Rattle.nc_output.specs.declared.detail.Detail.TheVariants.{Brief, Usual, Cal
 use Rattle.nc_output.specs.declared.detail.Detail.TheVariants as detail
 use Rattle.nc_output.specs.declared.detail.Style.{Style}
 use Rattle.nc_report.specs.Outside.{OutsideRow, AreCalls, rows_text}
-use Rattle.nc_report.specs.Report.{ok_text, end_of, accepted_text, TellsAccepted}
+use Rattle.nc_report.specs.Report.{ok_text, end_of, accepted_text, ReportsAccepted}
 use Rattle.nc_report.specs.machinery.Found.{HasInstructions, AddsCalls, AddsAccepted}
 use Rattle.nc_report.proofs.Appended.{three_added}
 
--- an accepted source is told
+-- an accepted source is reported
 pub accepted : (chunk : MarkedChunk) (s : Style) (name old out : List ℕ) → AddsAccepted old out s name chunk → old ≡ []
-    → TellsAccepted chunk.limit chunk.base s name chunk.code out
+    → ReportsAccepted chunk.limit chunk.base s name chunk.code out
 accepted chunk s name old out a none = record {
   valid = (chunk.marks, a.valid);
   pieces = a.has.pieces;
@@ -43,14 +43,14 @@ pub adds_ok : (chunk : MarkedChunk) (s : Style) (name old mid late new : List �
     → ((pieces : List Piece) → AreSpelled pieces → chunk.code ≡ code_of pieces → AddsCalls s.detail s.format mid late chunk.base pieces)
     → new ≡ late ++ end_of s.format → AddsAccepted old new s name chunk
 adds_ok chunk s name old mid late new count has v long e f g =
-    let told = f has.pieces has.spelled has.parts in
+    let listed = f has.pieces has.spelled has.parts in
     record {
       valid = v;
       count = count;
       has = has;
-      rows = told.rows;
-      calls = told.calls;
-      added = three_added old _ _ _ mid late new e told.added g ∙ ap (λ (z : List ℕ). old ++ z) (whole s.detail long told.rows);
+      rows = listed.rows;
+      calls = listed.calls;
+      added = three_added old _ _ _ mid late new e listed.added g ∙ ap (λ (z : List ℕ). old ++ z) (whole s.detail long listed.rows);
     }
   where
     whole : (d : Detail) → d ≢ Brief → (rows : List OutsideRow)

@@ -15,7 +15,7 @@ use Rattle.nc_decode.specs.declared.instruction.Mark.TheVariants.{Unmarked, Plai
 use Rattle.nc_output.proofs.Offered.{eqb_no}
 use Rattle.nc_decode.specs.declared.bundle.Bundle.{Bundle}
 use Rattle.nc_decode.specs.Bits.{starts_instruction, is_second, no_bits, bit_mark, mark_by_bits, marks_in}
-use Rattle.nc_report.specs.machinery.Counts.{one, begins_at, begun_in}
+use Rattle.nc_report.specs.machinery.Counts.{count_mark, begins_at, begun_in}
 
 -- ---- one bundle
 
@@ -105,26 +105,26 @@ same_sum f g a b (suc n) h =
     ∙ sym (sum_by-cons g b (range_with_len (b + 1) n))
 
 -- the mark by bits
-one_mark : (a b : Bool) (r : ℕ) → one (cond a (After r) (cond b Plain Unmarked)) ≡ cond (a || b) 1 0
+one_mark : (a b : Bool) (r : ℕ) → count_mark (cond a (After r) (cond b Plain Unmarked)) ≡ cond (a || b) 1 0
 one_mark true b r = refl
 one_mark false true r = refl
 one_mark false false r = refl
 
 -- the mark of a place, by its bundle
 one_at : (code : List ℕ) (bundles : List Bundle) (n k : ℕ) → k < 32
-    → one (mark_by_bits code bundles (32 * n + k)) ≡ cond (begins_at (get_or bundles n no_bits) k) 1 0
+    → count_mark (mark_by_bits code bundles (32 * n + k)) ≡ cond (begins_at (get_or bundles n no_bits) k) 1 0
 one_at code bundles n k lt =
-    ap (λ (m : ℕ). one (bit_mark (get_or bundles m no_bits) ((32 * n + k) % 32) (slice_index code (32 * n + k + 1)))) (omega (arith, lt))
-    ∙ ap (λ (m : ℕ). one (bit_mark (get_or bundles n no_bits) m (slice_index code (32 * n + k + 1)))) (omega (arith, lt))
+    ap (λ (m : ℕ). count_mark (bit_mark (get_or bundles m no_bits) ((32 * n + k) % 32) (slice_index code (32 * n + k + 1)))) (omega (arith, lt))
+    ∙ ap (λ (m : ℕ). count_mark (bit_mark (get_or bundles n no_bits) m (slice_index code (32 * n + k + 1)))) (omega (arith, lt))
     ∙ one_mark (is_second (get_or bundles n no_bits) k) (starts_instruction (get_or bundles n no_bits) k) (slice_index code (32 * n + k + 1) % 8)
 
 -- the marks of the first bundles
 sum_bundles : (code : List ℕ) (bundles : List Bundle) (n : ℕ) → n ≤ length bundles
-    → sum_by (λ k. one (mark_by_bits code bundles k)) (range_with_len 0 (32 * n)) ≡ sum_by begun_in (take n bundles)
+    → sum_by (λ k. count_mark (mark_by_bits code bundles k)) (range_with_len 0 (32 * n)) ≡ sum_by begun_in (take n bundles)
 unfolding begun_in
 sum_bundles code bundles zero le = refl
 sum_bundles code bundles (suc n) le =
-    let f = λ (k : ℕ). one (mark_by_bits code bundles k) in
+    let f = λ (k : ℕ). count_mark (mark_by_bits code bundles k) in
     let w = get_or bundles n no_bits in
     ap (λ (m : ℕ). sum_by f (range_with_len 0 m)) {x = 32 * suc n} {y = 32 * n + 32} (omega arith)
     ∙ ap (λ (ks : List ℕ). sum_by f ks) (range_append 0 (32 * n) 32)
@@ -139,9 +139,9 @@ sum_bundles code bundles (suc n) le =
 
 -- the marks of all bundles
 pub sum_bits : (code : List ℕ) (bundles : List Bundle) → 32 * length bundles ≡ length code
-    → sum_by one (marks_in code bundles) ≡ sum_by begun_in bundles
+    → sum_by count_mark (marks_in code bundles) ≡ sum_by begun_in bundles
 sum_bits code bundles e =
-    fold-map (λ (n : ℕ) (m : Mark). n + one m) (mark_by_bits code bundles) 0 (range_with_len 0 (length code))
-    ∙ ap (λ (n : ℕ). sum_by (λ k. one (mark_by_bits code bundles k)) (range_with_len 0 n)) (sym e)
+    fold-map (λ (n : ℕ) (m : Mark). n + count_mark m) (mark_by_bits code bundles) 0 (range_with_len 0 (length code))
+    ∙ ap (λ (n : ℕ). sum_by (λ k. count_mark (mark_by_bits code bundles k)) (range_with_len 0 n)) (sym e)
     ∙ sum_bundles code bundles (length bundles) (omega arith)
     ∙ ap (λ (bs : List Bundle). sum_by begun_in bs) (take_all (length bundles) bundles (omega arith))

@@ -10,15 +10,15 @@ use Rattle.nc_reading.specs.Reading.{HasClasses}
 use Rattle.nc_report.specs.Objects.{NoMembers}
 use Rattle.nc_report.specs.Further.{fault_at, listed, others_at, others_to}
 use Rattle.nc_report.specs.Totals.{counts_to}
-use Rattle.nc_report.specs.Report.{heading, Shows, ShowsOne, Opens, TellsEach, TellsOthers, counts_text}
+use Rattle.nc_report.specs.Report.{heading, Shows, ShowsOne, Opens, ReportsEach, ReportsOthers, counts_text}
 use Rattle.nc_output.specs.Adds.{Adds}
-use Rattle.nc_report.proofs.ObjectTexts.{TellsObject}
+use Rattle.nc_report.proofs.ObjectTexts.{ReportsObject}
 use Rattle.nc_report.proofs.Additions.{no_details}
 use Rattle.nc_report.proofs.CountedFaults.{range_append, range_to}
 
 -- text about faults after text about others
-pub each_both : (f : Format) (fs gs : List VetFault) (a b : List ℕ) → TellsEach f fs a → TellsEach f gs b → TellsEach f (fs ++ gs) (a ++ b)
-each_both f [] gs a b e h = subst (TellsEach f gs) (sym (ap (λ (z : List ℕ). z ++ b) e)) h
+pub each_both : (f : Format) (fs gs : List VetFault) (a b : List ℕ) → ReportsEach f fs a → ReportsEach f gs b → ReportsEach f (fs ++ gs) (a ++ b)
+each_both f [] gs a b e h = subst (ReportsEach f gs) (sym (ap (λ (z : List ℕ). z ++ b) e)) h
 each_both f (fault ∷ fs) gs a b (words, rest, d, t, is) h = (
   words,
   rest ++ b,
@@ -29,7 +29,7 @@ each_both f (fault ∷ fs) gs a b (words, rest, d, t, is) h = (
 )
 
 -- text about one fault
-pub each_one : (f : Format) (fault : VetFault) (words : List ℕ) → ShowsOne f words → TellsEach f (fault ∷ []) (heading f fault ++ words)
+pub each_one : (f : Format) (fault : VetFault) (words : List ℕ) → ShowsOne f words → ReportsEach f (fault ∷ []) (heading f fault ++ words)
 each_one f fault words d = (words, [], d, refl, ap (λ (z : List ℕ). heading f fault ++ z) (sym (append-nil words)))
 
 -- something is shown about any fault
@@ -38,7 +38,7 @@ some_shown Text = ([], no_details)
 some_shown Json = (codes "}", ([], NoMembers, refl))
 
 -- there is text about any faults
-each_some : (f : Format) (fs : List VetFault) → (text : List ℕ) × TellsEach f fs text
+each_some : (f : Format) (fs : List VetFault) → (text : List ℕ) × ReportsEach f fs text
 each_some f [] = ([], refl)
 each_some f (fault ∷ fs) =
     let (words, shown) = some_shown f in
@@ -54,8 +54,8 @@ others_more base limit code classes own k =
 
 -- text about the first places can be completed
 pub completed : (f : Format) (base limit : ℕ) (code : List ℕ) (classes : List Class) (own k n : ℕ) → k ≤ n → (text : List ℕ)
-    → TellsEach f (others_to base limit code classes own k) text
-    → (more : List ℕ) × TellsEach f (others_to base limit code classes own n) (text ++ more)
+    → ReportsEach f (others_to base limit code classes own k) text
+    → (more : List ℕ) × ReportsEach f (others_to base limit code classes own n) (text ++ more)
 completed f base limit code classes own k n le text h =
     let at = others_at base limit code classes own in
     let gs = flat_map at (range_with_len (0 + k) (n - k)) in
@@ -63,50 +63,50 @@ completed f base limit code classes own k n le text h =
     let parts : others_to base limit code classes own n ≡ others_to base limit code classes own k ++ gs =
     ap (others_to base limit code classes own) {x = n} {y = k + (n - k)} (omega (arith, le))
     ∙ ap (flat_map at) (range_append 0 k (n - k)) ∙ flat_map-append at (range_with_len 0 k) _ in
-    (more, subst (λ (fs : List VetFault). TellsEach f fs (text ++ more)) (sym parts) (each_both f _ gs text more h t))
+    (more, subst (λ (fs : List VetFault). ReportsEach f fs (text ++ more)) (sym parts) (each_both f _ gs text more h t))
 
 -- the text about the first places and that about the next one are the text about all of these
-pub told_more : (f : Format) (base limit : ℕ) (code : List ℕ) (classes : List Class) (own k : ℕ) (a b : List ℕ)
-    → TellsEach f (others_to base limit code classes own k) a → TellsEach f (others_at base limit code classes own k) b
-    → TellsEach f (others_to base limit code classes own (k + 1)) (a ++ b)
-told_more f base limit code classes own k a b t u =
-    subst (λ (fs : List VetFault). TellsEach f fs (a ++ b)) (sym (others_more base limit code classes own k))
+pub reported_more : (f : Format) (base limit : ℕ) (code : List ℕ) (classes : List Class) (own k : ℕ) (a b : List ℕ)
+    → ReportsEach f (others_to base limit code classes own k) a → ReportsEach f (others_at base limit code classes own k) b
+    → ReportsEach f (others_to base limit code classes own (k + 1)) (a ++ b)
+reported_more f base limit code classes own k a b t u =
+    subst (λ (fs : List VetFault). ReportsEach f fs (a ++ b)) (sym (others_more base limit code classes own k))
     (each_both f (others_to base limit code classes own k) (others_at base limit code classes own k) a b t u)
 
 -- the text about a place is that about the fault there, if it isn't the chunk's own
-pub told_there : (f : Format) (base limit : ℕ) (code : List ℕ) (classes : List Class) (own k : ℕ) (found other : Option VetFault) (out new : List ℕ)
-    → found ≡ fault_at base limit code classes k → listed other ≡ cond (k == own) [] (listed found) → Adds out new (TellsEach f (listed other))
-    → Adds out new (TellsEach f (others_at base limit code classes own k))
-told_there f base limit code classes own k found other out new is only a =
-    subst (λ (fs : List VetFault). Adds out new (TellsEach f fs)) (only ∙ ap (λ (x : Option VetFault). cond (k == own) [] (listed x)) is) a
+pub reported_there : (f : Format) (base limit : ℕ) (code : List ℕ) (classes : List Class) (own k : ℕ) (found other : Option VetFault) (out new : List ℕ)
+    → found ≡ fault_at base limit code classes k → listed other ≡ cond (k == own) [] (listed found) → Adds out new (ReportsEach f (listed other))
+    → Adds out new (ReportsEach f (others_at base limit code classes own k))
+reported_there f base limit code classes own k found other out new is only a =
+    subst (λ (fs : List VetFault). Adds out new (ReportsEach f fs)) (only ∙ ap (λ (x : Option VetFault). cond (k == own) [] (listed x)) is) a
 
 -- a further fault as an object
-pub also_object : (old new : List ℕ) (fault : VetFault) → Adds old new (TellsObject (codes ",") fault) → Adds old new (TellsEach Json (fault ∷ []))
+pub also_object : (old new : List ℕ) (fault : VetFault) → Adds old new (ReportsObject (codes ",") fault) → Adds old new (ReportsEach Json (fault ∷ []))
 also_object old new fault a =
     let (words, shown, e) = a.says in
-    record { text = a.text; says = subst (TellsEach Json (fault ∷ [])) (sym e) (each_one Json fault words shown); added = a.added }
+    record { text = a.text; says = subst (ReportsEach Json (fault ∷ [])) (sym e) (each_one Json fault words shown); added = a.added }
 
 -- the numbers, and what is shown after them
-abbrev pub TellsLast : Format → ℕ → ℕ → List ℕ → List Class → List ℕ → Type 0
-TellsLast f base limit code classes text =
+abbrev pub ReportsLast : Format → ℕ → ℕ → List ℕ → List Class → List ℕ → Type 0
+ReportsLast f base limit code classes text =
     (last : List ℕ) × Shows f last × (text ≡ counts_text f (counts_to base limit code classes (length code)) ++ last)
 
 -- the beginning, and the text about each fault
-abbrev pub TellsFirst : Format → ℕ → ℕ → List ℕ → List Class → VetFault → ℕ → List ℕ → Type 0
-TellsFirst f base limit code classes fault own text =
-    (first each : List ℕ) × Opens f fault first × TellsEach f (others_to base limit code classes own (length code)) each × (text ≡ first ++ each)
+abbrev pub ReportsFirst : Format → ℕ → ℕ → List ℕ → List Class → VetFault → ℕ → List ℕ → Type 0
+ReportsFirst f base limit code classes fault own text =
+    (first each : List ℕ) × Opens f fault first × ReportsEach f (others_to base limit code classes own (length code)) each × (text ≡ first ++ each)
 
 -- the beginning with the text about each fault, and the numbers, are the whole text about other faults
-pub others_told : (f : Format) (limit base : ℕ) (code : List ℕ) (classes : List Class) (fault : VetFault) (own : ℕ) → HasClasses code classes
-    → (a b : List ℕ) → TellsFirst f base limit code classes fault own a → TellsLast f base limit code classes b
-    → TellsOthers f limit base code fault own (a ++ b)
-others_told f limit base code classes fault own h a b (first, each, o, t, is) (last, d, e) = record {
+pub others_reported : (f : Format) (limit base : ℕ) (code : List ℕ) (classes : List Class) (fault : VetFault) (own : ℕ) → HasClasses code classes
+    → (a b : List ℕ) → ReportsFirst f base limit code classes fault own a → ReportsLast f base limit code classes b
+    → ReportsOthers f limit base code fault own (a ++ b)
+others_reported f limit base code classes fault own h a b (first, each, o, t, is) (last, d, e) = record {
   steps = h.steps;
   reading = h.reading;
   first = first;
   opens = o;
   each = each;
-  tells = subst (λ (z : List Class). TellsEach f (others_to base limit code z own (length code)) each) h.is t;
+  reports = subst (λ (z : List Class). ReportsEach f (others_to base limit code z own (length code)) each) h.is t;
   last = last;
   shown = d;
   is = ap (λ (z : List ℕ). z ++ b) is ∙ append_assoc first each b
@@ -121,7 +121,7 @@ none_shown Json = NoMembers
 
 -- the text about each fault can be completed to the whole text about other faults
 pub others_completed : (f : Format) (limit base : ℕ) (code : List ℕ) (classes : List Class) (fault : VetFault) (own : ℕ) → HasClasses code classes
-    → (a : List ℕ) → TellsFirst f base limit code classes fault own a → (more : List ℕ) × TellsOthers f limit base code fault own (a ++ more)
+    → (a : List ℕ) → ReportsFirst f base limit code classes fault own a → (more : List ℕ) × ReportsOthers f limit base code fault own (a ++ more)
 others_completed f limit base code classes fault own h a t =
     let last = counts_text f (counts_to base limit code classes (length code)) ++ [] in
-    (last, others_told f limit base code classes fault own h a last t ([], none_shown f, refl))
+    (last, others_reported f limit base code classes fault own h a last t ([], none_shown f, refl))

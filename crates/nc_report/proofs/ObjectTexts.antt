@@ -37,5 +37,5 @@ pub refused_parts : (o file address fault at : List ℕ)
 refused_parts o file address fault at = simp append_assoc
 
 -- what is written of one of several faults
-abbrev pub TellsObject : List ℕ → VetFault → List ℕ → Type 0
-TellsObject before fault text = (words : List ℕ) × ShowsOne Json words × (text ≡ before ++ (fault_object fault ++ words))
+abbrev pub ReportsObject : List ℕ → VetFault → List ℕ → Type 0
+ReportsObject before fault text = (words : List ℕ) × ShowsOne Json words × (text ≡ before ++ (fault_object fault ++ words))

@@ -7,7 +7,7 @@ use Rattle.nc_output.specs.declared.detail.Detail.{Detail}
 use Rattle.nc_output.specs.declared.detail.Detail.TheVariants.{Brief, Usual, Calls}
 use Rattle.nc_output.specs.declared.detail.Detail.TheVariants as detail
 use Rattle.nc_output.specs.declared.detail.Style.{Style}
-use Rattle.nc_report.specs.Report.{refused_text, Shows, TellsFault, TellsMore, end_of, TellsRefused}
+use Rattle.nc_report.specs.Report.{refused_text, Shows, ReportsFault, ReportsMore, end_of, ReportsRefused}
 use Rattle.nc_output.specs.Adds.{Adds}
 use Rattle.nc_report.specs.machinery.Added.{WritesOn}
 use Rattle.nc_report.proofs.Additions.{writes_after}
@@ -15,14 +15,14 @@ use Rattle.nc_report.proofs.Additions.{writes_after}
 -- the verdict and what is shown about the fault were added
 pub explained : (old mid new : List ℕ) (s : Style) (base : ℕ) (name : List ℕ) (fault : VetFault) → s.detail ≢ Brief
     → mid ≡ old ++ refused_text s.format base name fault → Adds mid new (Shows s.format)
-    → Adds old new (TellsFault s.detail s.format base name fault)
+    → Adds old new (ReportsFault s.detail s.format base name fault)
 explained old mid new s base name fault long e a = record {
   text = refused_text s.format base name fault ++ a.text;
   says = says s.detail long;
   added = a.added ∙ ap (λ (z : List ℕ). z ++ a.text) e ∙ append_assoc old (refused_text s.format base name fault) a.text;
 }
   where
-    says : (d : Detail) → d ≢ Brief → TellsFault d s.format base name fault (refused_text s.format base name fault ++ a.text)
+    says : (d : Detail) → d ≢ Brief → ReportsFault d s.format base name fault (refused_text s.format base name fault ++ a.text)
     says Brief n = absurd (n refl)
     says Usual n = (a.text, a.says, refl)
     says Calls n = (a.text, a.says, refl)
@@ -30,32 +30,32 @@ explained old mid new s base name fault long e a = record {
 
 -- in brief the verdict alone was added
 pub brief : (old new : List ℕ) (s : Style) (base : ℕ) (name : List ℕ) (fault : VetFault) → s.detail ≡ Brief
-    → new ≡ old ++ refused_text s.format base name fault → Adds old new (TellsFault s.detail s.format base name fault)
+    → new ≡ old ++ refused_text s.format base name fault → Adds old new (ReportsFault s.detail s.format base name fault)
 brief old new s base name fault is e = record {
   text = refused_text s.format base name fault;
-  says = subst (λ (d : Detail). TellsFault d s.format base name fault (refused_text s.format base name fault)) (sym is) refl;
+  says = subst (λ (d : Detail). ReportsFault d s.format base name fault (refused_text s.format base name fault)) (sym is) refl;
   added = e;
 }
 
--- nothing more is told unless it is asked for
+-- nothing more is reported unless it is asked for
 pub none_asked : (s : Style) (limit base : ℕ) (code : List ℕ) (fault : VetFault) → s.detail ≢ detail.All
-    → TellsMore s.detail s.format limit base code fault []
+    → ReportsMore s.detail s.format limit base code fault []
 none_asked s limit base code fault other = none s.detail other
   where
-    none : (d : Detail) → d ≢ detail.All → TellsMore d s.format limit base code fault []
+    none : (d : Detail) → d ≢ detail.All → ReportsMore d s.format limit base code fault []
     none Brief n = refl
     none Usual n = refl
     none Calls n = refl
     none detail.All n = absurd (n refl)
 
 -- a text on a refused source, but for its end
-abbrev pub TellsOpen : ℕ → ℕ → Style → List ℕ → List ℕ → List ℕ → Type 0
-TellsOpen limit base s name code text = TellsRefused limit base s name code (text ++ end_of s.format)
+abbrev pub ReportsOpen : ℕ → ℕ → Style → List ℕ → List ℕ → List ℕ → Type 0
+ReportsOpen limit base s name code text = ReportsRefused limit base s name code (text ++ end_of s.format)
 
--- the text on a fault, and what is told further about it, are such a text
+-- the text on a fault, and what is reported further about it, are such a text
 pub open_text : (limit base : ℕ) (s : Style) (name code : List ℕ) (fault : VetFault) → HasFault base limit code fault → fault ≢ OutOfMemory
-    → (a b : List ℕ) → TellsFault s.detail s.format base name fault a → TellsMore s.detail s.format limit base code fault b
-    → TellsOpen limit base s name code (a ++ b)
+    → (a b : List ℕ) → ReportsFault s.detail s.format base name fault a → ReportsMore s.detail s.format limit base code fault b
+    → ReportsOpen limit base s name code (a ++ b)
 open_text limit base s name code fault h real a b f m = record {
   fault = fault;
   has = h;
@@ -67,12 +67,12 @@ open_text limit base s name code fault h real a b f m = record {
   written = append_assoc a b (end_of s.format);
 }
 
--- the text on a fault was added, and then what is told further about it
-pub told_open : (limit base : ℕ) (s : Style) (name code old out kept : List ℕ) (fault : VetFault) (before after : Option (List ℕ))
-    → HasFault base limit code fault → (fault ≢ OutOfMemory) × Adds old out (TellsFault s.detail s.format base name fault)
-    → WritesOn before after out kept (TellsMore s.detail s.format limit base code fault)
-    → WritesOn before after old kept (TellsOpen limit base s name code)
-told_open limit base s name code old out kept fault before after h f w =
+-- the text on a fault was added, and then what is reported further about it
+pub reported_open : (limit base : ℕ) (s : Style) (name code old out kept : List ℕ) (fault : VetFault) (before after : Option (List ℕ))
+    → HasFault base limit code fault → (fault ≢ OutOfMemory) × Adds old out (ReportsFault s.detail s.format base name fault)
+    → WritesOn before after out kept (ReportsMore s.detail s.format limit base code fault)
+    → WritesOn before after old kept (ReportsOpen limit base s name code)
+reported_open limit base s name code old out kept fault before after h f w =
     writes_after before after old out kept _ _ _ (open_text limit base s name code fault h f.0) f.1 w
 
 -- the end was added
@@ -80,6 +80,6 @@ pub end_added : (s : Style) (kept all : List ℕ) → all ≡ kept ++ end_of s.f
 end_added s kept all e = record { text = end_of s.format; says = refl; added = e }
 
 -- with its end the text is whole
-pub whole : (limit base : ℕ) (s : Style) (name code a b : List ℕ) → TellsOpen limit base s name code a → b ≡ end_of s.format
-    → TellsRefused limit base s name code (a ++ b)
-whole limit base s name code a b t e = subst (λ (z : List ℕ). TellsRefused limit base s name code (a ++ z)) (sym e) t
+pub whole : (limit base : ℕ) (s : Style) (name code a b : List ℕ) → ReportsOpen limit base s name code a → b ≡ end_of s.format
+    → ReportsRefused limit base s name code (a ++ b)
+whole limit base s name code a b t e = subst (λ (z : List ℕ). ReportsRefused limit base s name code (a ++ z)) (sym e) t

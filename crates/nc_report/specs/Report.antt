@@ -49,7 +49,7 @@ accepted_text detail format base name bytes instructions rows =
     ok_text format base name bytes instructions ++ (rows_text detail format rows ++ end_of format)
 
 -- the code is a valid chunk, and this is the text written for it, with the number of its instructions
-pub record TellsAccepted (limit base : ℕ) (style : Style) (name code text : List ℕ) : Type 0 where
+pub record ReportsAccepted (limit base : ℕ) (style : Style) (name code text : List ℕ) : Type 0 where
   pub valid : IsValidAt base limit code
   pub pieces : List Piece
   pub spelled : AreSpelled pieces
@@ -73,9 +73,9 @@ Shows Text text = AreDetails text
 Shows Json text = IsJson InObject text
 
 -- the verdict on a source that has this fault, and what is shown about the fault; in brief the verdict alone
-abbrev pub TellsFault : Detail → Format → ℕ → List ℕ → VetFault → List ℕ → Type 0
-TellsFault Brief format base name fault text = text ≡ refused_text format base name fault
-TellsFault detail format base name fault text =
+abbrev pub ReportsFault : Detail → Format → ℕ → List ℕ → VetFault → List ℕ → Type 0
+ReportsFault Brief format base name fault text = text ≡ refused_text format base name fault
+ReportsFault detail format base name fault text =
     (shown : List ℕ) × Shows format shown × (text ≡ refused_text format base name fault ++ shown)
 
 -- what is shown about one of several faults, after its name and address: lines, or the other members of its object
@@ -89,10 +89,10 @@ heading Text fault = detail_line (codes "also " ++ fault_words fault)
 heading Json fault = codes "," ++ fault_object fault
 
 -- the name and the address of each further fault, and after them what is shown about the fault
-abbrev pub TellsEach : Format → List VetFault → List ℕ → Type 0
-TellsEach format [] text = text ≡ []
-TellsEach format (fault ∷ faults) text =
-    (words rest : List ℕ) × ShowsOne format words × TellsEach format faults rest × (text ≡ heading format fault ++ (words ++ rest))
+abbrev pub ReportsEach : Format → List VetFault → List ℕ → Type 0
+ReportsEach format [] text = text ≡ []
+ReportsEach format (fault ∷ faults) text =
+    (words rest : List ℕ) × ShowsOne format words × ReportsEach format faults rest × (text ≡ heading format fault ++ (words ++ rest))
 
 -- the text before the further faults: none, or the beginning of an array whose first element is the source's own fault
 abbrev pub Opens : Format → VetFault → List ℕ → Type 0
@@ -106,39 +106,39 @@ counts_text Json counts = codes "]" ++ counts_member counts
 
 -- The text about all faults that reading a refused chunk finds: first the one at `own`, for which text has no further lines,
 -- then each other one, and then the numbers of all of them.
-pub record TellsOthers (format : Format) (limit base : ℕ) (code : List ℕ) (fault : VetFault) (own : ℕ) (text : List ℕ) : Type 0 where
+pub record ReportsOthers (format : Format) (limit base : ℕ) (code : List ℕ) (fault : VetFault) (own : ℕ) (text : List ℕ) : Type 0 where
   pub steps : List Step
   pub reading : IsReading code steps
   pub first : List ℕ
   pub opens : Opens format fault first
   pub each : List ℕ
-  pub tells : TellsEach format (others_to base limit code (classes_of steps) own (length code)) each
+  pub reports : ReportsEach format (others_to base limit code (classes_of steps) own (length code)) each
   pub last : List ℕ
   pub shown : Shows format last
   pub is : text ≡ first ++ (each ++ (counts_text format (counts_to base limit code (classes_of steps) (length code)) ++ last))
 
 -- the text about the other faults of a source that has this one, if they are asked for; none if the fault has no address
-abbrev pub TellsMore : Detail → Format → ℕ → ℕ → List ℕ → VetFault → List ℕ → Type 0
-TellsMore detail.All format limit base code fault text =
-    MatchOption (place_of fault) (text ≡ []) (λ at. TellsOthers format limit base code fault (at - base) text)
-TellsMore _ format limit base code fault text = text ≡ []
+abbrev pub ReportsMore : Detail → Format → ℕ → ℕ → List ℕ → VetFault → List ℕ → Type 0
+ReportsMore detail.All format limit base code fault text =
+    MatchOption (place_of fault) (text ≡ []) (λ at. ReportsOthers format limit base code fault (at - base) text)
+ReportsMore _ format limit base code fault text = text ≡ []
 
 -- the code has a fault, which isn't lack of memory, and this is the text written for it
-pub record TellsRefused (limit base : ℕ) (style : Style) (name code text : List ℕ) : Type 0 where
+pub record ReportsRefused (limit base : ℕ) (style : Style) (name code text : List ℕ) : Type 0 where
   pub fault : VetFault
   pub has : HasFault base limit code fault
   pub real : fault ≢ OutOfMemory
   pub first : List ℕ
-  pub verdict : TellsFault style.detail style.format base name fault first
+  pub verdict : ReportsFault style.detail style.format base name fault first
   pub more : List ℕ
-  pub others : TellsMore style.detail style.format limit base code fault more
+  pub others : ReportsMore style.detail style.format limit base code fault more
   pub written : text ≡ first ++ (more ++ end_of style.format)
 
 -- the code is refused or not, and this is the report on it
-abbrev pub Tells : ℕ → ℕ → Style → List ℕ → List ℕ → Bool → List ℕ → Type 0
-Tells limit base style name code refused text =
-    ((refused ≡ false) × TellsAccepted limit base style name code text)
-    ⊎ ((refused ≡ true) × TellsRefused limit base style name code text)
+abbrev pub Reports : ℕ → ℕ → Style → List ℕ → List ℕ → Bool → List ℕ → Type 0
+Reports limit base style name code refused text =
+    ((refused ≡ false) × ReportsAccepted limit base style name code text)
+    ⊎ ((refused ≡ true) × ReportsRefused limit base style name code text)
 
 -- a text that satisfies `Says` was written
 pub record HasWritten (Says : List ℕ → Type 0) (before after : Option (List ℕ)) : Type 0 where

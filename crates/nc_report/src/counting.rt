@@ -3,7 +3,7 @@
 ghost use Rattle.std.specs.Prelude.{◌≡◌, ◌<◌, ◌≤◌, ◌^◌, length};
 ghost use Rattle.std.specs.List.{sum_by};
 ghost use Rattle.nc_report.specs.machinery.Found.{HasInstructions};
-ghost use Rattle.nc_report.specs.machinery.Counts.{one, begun_in};
+ghost use Rattle.nc_report.specs.machinery.Counts.{count_mark, begun_in};
 
 use nc_decode::BUNDLE;
 use nc_vet::{Bundle, Mark, Vetted};
@@ -30,8 +30,8 @@ fn count_bits(bundles: &[Bundle]) -> usize
 }
 
 /// 1 for a marked place, and 0 for an unmarked one.
-fn one(mark: Mark) -> usize
-    ensures value { result ≡ one mark }
+fn count_mark(mark: Mark) -> usize
+    ensures value { result ≡ count_mark mark }
     ensures small { result ≤ 1 }
 {
     match mark {
@@ -43,12 +43,12 @@ fn one(mark: Mark) -> usize
 
 /// The number of marked places of a chunk.
 fn count_marks(chunk: &Vetted) -> usize
-    ensures { result ≡ sum_by one chunk.now.marks }
+    ensures { result ≡ sum_by count_mark chunk.now.marks }
 {
     let length = chunk.code().len();
     let mut count = 0;
     for i in 0..length {
-        count += one(chunk.mark(i));
+        count += count_mark(chunk.mark(i));
     }
     count
 }

@@ -5,7 +5,7 @@
 //! lines after it begin with two spaces; `objects` writes JSON instead, by `json`, and `outside` lists the addresses outside
 //! accepted code that its direct transfers target.
 //!
-//! `telling` writes the report, and `counting` counts the instructions in a valid chunk. A `finding` is what is shown about a
+//! `source_report` writes the report, and `counting` counts the instructions in a valid chunk. A `finding` is what is shown about a
 //! fault: its bundle, the target of a refused transfer by `targets`, and what the fault means by `advice`. `explaining` writes it
 //! as lines, and `listing` its bundle as code. `saying` adds words that stand alone, as a line or as a member. No clause says which
 //! words these are; each line is added by `push_detail` of `nc_output`, which leaves no control byte in it.
@@ -37,8 +37,8 @@ mod outside;
 mod reporting;
 mod saying;
 mod source;
+mod source_report;
 mod targets;
-mod telling;
 mod totals;
 mod words;
 

@@ -79,14 +79,14 @@ fn put_bytes(text: &mut [u8], bytes: &[u8], bar: u32) -> usize
     len
 }
 
-/// Adds a line: an address, with a mark if it is that of the fault, the bytes there, with a bar at the end of the bundle, and what is
-/// told about them.
+/// Adds a line: an address, with a mark if it is that of the fault, the bytes there, with a bar at the end of the bundle, and their
+/// annotation.
 fn push_row(
     out: &mut Vec<u8>,
     finding: &Finding<'_>,
     at: u32,
     bytes: &[u8],
-    told: Vec<u8>,
+    annotation: Vec<u8>,
 ) -> Result<(), AllocError>
     requires { length bytes.now ≤ 8 }
     ensures { OnOk result (Adds out.old.items out.new.items AreDetails) }
@@ -94,7 +94,7 @@ fn push_row(
     let end = (finding.at - finding.at % BUNDLE).wrapping_add(BUNDLE);
     let mut text = [b' '; 40];
     let len = put_bytes(&mut text, bytes, end.wrapping_sub(at));
-    let width = if told.is_empty() {
+    let width = if annotation.is_empty() {
         len
     } else {
         len.max(COLUMN)
@@ -106,7 +106,7 @@ fn push_row(
             &address_digits(at),
             b":",
             &text[..width],
-            &told,
+            &annotation,
         ],
     )
 }
@@ -124,26 +124,26 @@ fn push_later(
     let mut at = at;
     while !rest.is_empty() {
         let len = rest.len().min(ROW);
-        let told = Vec::new(*out.allocator());
-        push_row(out, finding, at, &rest[..len], told)?;
+        let annotation = Vec::new(*out.allocator());
+        push_row(out, finding, at, &rest[..len], annotation)?;
         at = at.wrapping_add(len as u32);
         rest = &rest[len..];
     }
     Ok(())
 }
 
-/// Adds the lines with some bytes, the first of which are at this address. Only the first line says what is told about them.
+/// Adds the lines with some bytes, the first of which are at this address. Only the first line has the annotation.
 fn push_bytes(
     out: &mut Vec<u8>,
     finding: &Finding<'_>,
     at: u32,
     bytes: &[u8],
-    told: Vec<u8>,
+    annotation: Vec<u8>,
 ) -> Result<(), AllocError>
     ensures { OnOk result (Adds out.old.items out.new.items AreDetails) }
 {
     let len = bytes.len().min(ROW);
-    push_row(out, finding, at, &bytes[..len], told)?;
+    push_row(out, finding, at, &bytes[..len], annotation)?;
     push_later(out, finding, at.wrapping_add(len as u32), &bytes[len..])
 }
 
@@ -189,8 +189,9 @@ fn run_end(finding: &Finding<'_>, first: usize, end: usize) -> usize
     last
 }
 
-/// What is told about an instruction that stands this many times at a place of the bundle and after it.
-fn told_at(
+/// The annotation of an instruction that stands this many times at a place of the bundle and after it: its name and operands, and
+/// the number of times.
+fn annotation_at(
     alloc: Global,
     finding: &Finding<'_>,
     k: usize,
@@ -198,17 +199,17 @@ fn told_at(
 ) -> Result<Vec<u8>, AllocError>
     requires { k < 32 }
 {
-    let mut told = Vec::new(alloc);
+    let mut annotation = Vec::new(alloc);
     if !instruction_at(finding, k).is_empty() {
-        told.push(b' ')?;
-        push_named(&mut told, finding, k)?;
+        annotation.push(b' ')?;
+        push_named(&mut annotation, finding, k)?;
     }
     if times > 1 {
-        let gap = if told.is_empty() { "" } else { " " };
+        let gap = if annotation.is_empty() { "" } else { " " };
         let more = format!(in alloc; "{gap} # {times} times")?;
-        told.extend_from_slice(more.as_bytes())?;
+        annotation.extend_from_slice(more.as_bytes())?;
     }
-    Ok(told)
+    Ok(annotation)
 }
 
 /// Adds the lines about what is in `first..end`, and the equal instructions after it up to `last`.
@@ -224,13 +225,13 @@ fn push_run(
     ensures { OnOk result (Adds out.old.items out.new.items AreDetails) }
 {
     let times = last.saturating_sub(first) / (end - first);
-    let told = told_at(*out.allocator(), finding, first, times)?;
+    let annotation = annotation_at(*out.allocator(), finding, first, times)?;
     let at = address_of(finding, first);
     let named = instruction_at(finding, first);
     if named.is_empty() {
-        push_bytes(out, finding, at, &finding.bundle[first..end], told)
+        push_bytes(out, finding, at, &finding.bundle[first..end], annotation)
     } else {
-        push_bytes(out, finding, at, named, told)
+        push_bytes(out, finding, at, named, annotation)
     }
 }
 

@@ -179,8 +179,8 @@ pub(crate) fn finding_members(
     let mut bundle = [0u8; 64];
     hex::encode_to_slice(finding.bundle, &mut bundle).unwrap();
     let named = with_symbol(alloc, no_members(alloc), labels, finding.at)?;
-    let told = with_string(named, b"meaning", finding.meaning)?;
-    let targeted = with_target(alloc, told, finding.target)?;
+    let explained = with_string(named, b"meaning", finding.meaning)?;
+    let targeted = with_target(alloc, explained, finding.target)?;
     let shown = with_string(targeted, b"bundle", &bundle)?;
     with_array(shown, b"starts", starts)
 }

@@ -5,7 +5,7 @@ ghost use Rattle.std.specs.Io.KnownBytes.{Appends};
 ghost use Rattle.nc_vet.specs.Faults.{HasGoodSpan};
 ghost use Rattle.nc_report.specs.Further.{listed, others_to};
 ghost use Rattle.nc_report.specs.Totals.{counts_to};
-ghost use Rattle.nc_report.specs.Report.{heading, Opens, TellsEach, TellsOthers, HasBegun};
+ghost use Rattle.nc_report.specs.Report.{heading, Opens, ReportsEach, ReportsOthers, HasBegun};
 ghost use Rattle.nc_output.specs.Adds.{Adds};
 ghost use Rattle.nc_report.specs.machinery.Added.{After, WritesOn, IsOfWriting};
 
@@ -43,7 +43,7 @@ fn push_lines(
     fault: VetFault,
     finding: &Finding<'_>,
 ) -> Result<(), AllocError>
-    ensures { OnOk result (Adds out.old.items out.new.items (TellsEach Format.Text (fault ∷ []))) }
+    ensures { OnOk result (Adds out.old.items out.new.items (ReportsEach Format.Text (fault ∷ []))) }
 {
     push_heading(out, fault)?;
     push_finding(out, labels, finding)
@@ -57,7 +57,7 @@ fn push_also(
     finding: &Finding<'_>,
     format: Format,
 ) -> Result<(), AllocError>
-    ensures { OnOk result (Adds out.old.items out.new.items (TellsEach format (fault ∷ []))) }
+    ensures { OnOk result (Adds out.old.items out.new.items (ReportsEach format (fault ∷ []))) }
 {
     match format {
         Format::Text => push_lines(out, labels, fault, finding),
@@ -86,7 +86,7 @@ fn push_place(
     requires whole { length judged.now.code.now % 32 ≡ 0 }
     requires each { length classes.now ≡ length judged.now.code.now }
     requires within { k < length judged.now.code.now }
-    ensures { OnOk result (Adds out.old.items out.new.items (TellsEach format (listed other))) }
+    ensures { OnOk result (Adds out.old.items out.new.items (ReportsEach format (listed other))) }
 {
     match other {
         Some(fault) => {
@@ -130,10 +130,10 @@ fn write_places<W: Write>(
     requires whole { length judged.now.code.now % 32 ≡ 0 }
     requires each { length classes.now ≡ length judged.now.code.now }
     ensures ok { OnOk result (WritesOn (W.contents writer.old) (W.contents writer.new) out.old.items out.new.items
-        (TellsEach format (others_to judged.now.base judged.now.limit judged.now.code.now classes.now own (length judged.now.code.now)))) }
+        (ReportsEach format (others_to judged.now.base judged.now.limit judged.now.code.now classes.now own (length judged.now.code.now)))) }
     ensures counts { IfOk result (λ counts. counts
         ≡ counts_to judged.now.base judged.now.limit judged.now.code.now classes.now (length judged.now.code.now)) }
-    ensures cut { OnErr result (HasBegun (After out.old.items (TellsEach format (others_to judged.now.base judged.now.limit judged.now.code.now
+    ensures cut { OnErr result (HasBegun (After out.old.items (ReportsEach format (others_to judged.now.base judged.now.limit judged.now.code.now
         classes.now own (length judged.now.code.now)))) (W.contents writer.old) (W.contents writer.new)) }
     ensures faults { IfErr result IsOfWriting }
 {
@@ -184,9 +184,9 @@ pub(crate) fn write_others<W: Write>(
     requires span { HasGoodSpan judged.now.base judged.now.limit (length judged.now.code.now) }
     requires within { own < length judged.now.code.now }
     ensures ok { OnOk result (WritesOn (W.contents writer.old) (W.contents writer.new) out.old.items out.new.items
-        (TellsOthers format judged.now.limit judged.now.base judged.now.code.now fault own)) }
+        (ReportsOthers format judged.now.limit judged.now.base judged.now.code.now fault own)) }
     ensures cut { OnErr result (HasBegun
-        (After out.old.items (TellsOthers format judged.now.limit judged.now.base judged.now.code.now fault own))
+        (After out.old.items (ReportsOthers format judged.now.limit judged.now.base judged.now.code.now fault own))
         (W.contents writer.old) (W.contents writer.new)) }
     ensures faults { IfErr result IsOfWriting }
 {

@@ -2,11 +2,11 @@
 
 ghost use Rattle.std.specs.Prelude.{◌≡◌, ◌↔◌, Bool, IfOk, IsErrOf};
 ghost use Rattle.nc_decode.specs.Bundles.{IsRegionSize, limit_after};
-ghost use Rattle.nc_report.specs.Report.{Tells, HasWritten, HasBegun};
+ghost use Rattle.nc_report.specs.Report.{Reports, HasWritten, HasBegun};
 
 use crate::fault::ReportFault;
 use crate::source::Source;
-use crate::telling::tell;
+use crate::source_report::vet_and_report;
 use nc_decode::{BUNDLE, START, is_region_size};
 use nc_output::Style;
 use std::alloc::Global;
@@ -37,19 +37,19 @@ pub fn report<W: Write>(
 
     // Exactly the report on the source was written, and the result says whether the source is refused.
     ensures ok { IfOk result (λ refused. HasWritten
-        (Tells (limit_after bundles) base style source.name.items source.code.items refused)
+        (Reports (limit_after bundles) base style source.name.items source.code.items refused)
         (W.contents writer.old) (W.contents writer.new)) }
 
     // If the writer fails or memory runs out, nothing was written, or a prefix of a report on the source.
     ensures write_failed { IsErrOf result ReportFault.WriteFailed → HasBegun
-        (λ text. (refused : Bool) × Tells (limit_after bundles) base style source.name.items source.code.items refused text)
+        (λ text. (refused : Bool) × Reports (limit_after bundles) base style source.name.items source.code.items refused text)
         (W.contents writer.old) (W.contents writer.new) }
     ensures out_of_memory { IsErrOf result ReportFault.OutOfMemory → HasBegun
-        (λ text. (refused : Bool) × Tells (limit_after bundles) base style source.name.items source.code.items refused text)
+        (λ text. (refused : Bool) × Reports (limit_after bundles) base style source.name.items source.code.items refused text)
         (W.contents writer.old) (W.contents writer.new) }
 {
     if !is_region_size(bundles) {
         return Err(ReportFault::BadSize);
     }
-    tell(alloc, source, base, START + BUNDLE * bundles, style, writer)
+    vet_and_report(alloc, source, base, START + BUNDLE * bundles, style, writer)
 }

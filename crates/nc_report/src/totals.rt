@@ -50,11 +50,11 @@ pub(crate) fn counted(counts: Counts, found: Option<VetFault>) -> Counts
     counts
 }
 
-/// 1 for a test that holds, otherwise 0.
-fn one(holds: bool) -> usize
+/// 1 for a bundle that begins inside an instruction, otherwise 0.
+fn count_start(is_inside: bool) -> usize
     ensures { result ≤ 1 }
 {
-    if holds { 1 } else { 0 }
+    if is_inside { 1 } else { 0 }
 }
 
 /// The number of bundles that begin inside an instruction.
@@ -63,7 +63,7 @@ fn count_inside(classes: &[Class]) -> usize
 {
     let mut inside = 0;
     for n in 0..classes.len() / BUNDLE as usize {
-        inside += one(!is_begun(class_at(classes, BUNDLE as usize * n)));
+        inside += count_start(!is_begun(class_at(classes, BUNDLE as usize * n)));
     }
     inside
 }

@@ -7,10 +7,10 @@ use Rattle.nc_decode.specs.declared.bundle.Bundle.{Bundle}
 use Rattle.nc_decode.specs.Bits.{starts_instruction, is_second}
 
 -- 1 for a marked place, and 0 for an unmarked one
-abbrev pub one : Mark → ℕ
-one Unmarked = 0
-one Plain = 1
-one (After reg) = 1
+abbrev pub count_mark : Mark → ℕ
+count_mark Unmarked = 0
+count_mark Plain = 1
+count_mark (After reg) = 1
 
 -- an instruction begins at this byte of the bundle
 abbrev pub begins_at : Bundle → ℕ → Bool

@@ -2,25 +2,25 @@ use Rattle.std.proofs.Common.{◌≡◌, ◌+◌, ◌++◌, List, [], ℕ, lengt
 use Rattle.nc_vet.specs.declared.fault.VetFault.{VetFault}
 use Rattle.nc_report.specs.Further.{others_at, others_to}
 use Rattle.nc_report.specs.Totals.{counts_to, total}
-use Rattle.nc_report.specs.Report.{TellsEach}
+use Rattle.nc_report.specs.Report.{ReportsEach}
 use Rattle.nc_report.specs.declared.totals.Counts.{Counts}
 use Rattle.nc_report.specs.machinery.Added.{WritesOn}
 use Rattle.nc_report.specs.machinery.CountedFault.{counted}
 use Rattle.nc_report.proofs.Additions.{writes_none, writes_more, cut_here, cut_in}
 use Rattle.nc_report.proofs.CountedFaults.{counts_more, total_small}
-use Rattle.nc_report.proofs.FurtherTexts.{completed, told_more, told_there}
+use Rattle.nc_report.proofs.FurtherTexts.{completed, reported_more, reported_there}
 use Rattle.nc_report.proofs.QuietPlaces.{AreFaultless, quiet_none, others_over, counts_over}
 use Rattle.nc_report.proofs.others.write_places.Goals as goal
 
 pub loop-k-init : goal.loop-k-init
-loop-k-init g c = record { within = omega arith; text = writes_none _ _ (TellsEach c.args.format []) refl; counts = refl }
+loop-k-init g c = record { within = omega arith; text = writes_none _ _ (ReportsEach c.args.format []) refl; counts = refl }
 
 pub returns-in-Err-clause-cut : goal.returns-in-Err-clause-cut
 returns-in-Err-clause-cut g c =
     let judged = c.args.judged.now in
     let code = judged.code.now in
     let faults = others_to judged.base judged.limit code c.args.classes.now c.args.own in
-    cut_here _ _ _ _ (TellsEach c.args.format (faults c.loop-k.k)) (TellsEach c.args.format (faults (length code)))
+    cut_here _ _ _ _ (ReportsEach c.args.format (faults c.loop-k.k)) (ReportsEach c.args.format (faults (length code)))
     (completed c.args.format judged.base judged.limit code c.args.classes.now c.args.own c.loop-k.k (length code) c.loop-k.invariant.within)
     c.loop-k.invariant.text
 
@@ -31,12 +31,12 @@ returns-in-Err-write_much-clause-cut g c =
     let classes = c.args.classes.now in
     let k = c.loop-k.k in
     let faults = others_to judged.base judged.limit code classes c.args.own in
-    cut_in _ _ _ _ _ _ c.in-Err-write_much.ensures.cut.0 (TellsEach c.args.format (faults k))
-    (TellsEach c.args.format (others_at judged.base judged.limit code classes c.args.own k)) (TellsEach c.args.format (faults (length code)))
+    cut_in _ _ _ _ _ _ c.in-Err-write_much.ensures.cut.0 (ReportsEach c.args.format (faults k))
+    (ReportsEach c.args.format (others_at judged.base judged.limit code classes c.args.own k)) (ReportsEach c.args.format (faults (length code)))
     (λ a b h i. completed c.args.format judged.base judged.limit code classes c.args.own (k + 1) (length code) (omega (arith, c.loop-k-test.true)) (a ++ b)
-    (told_more c.args.format judged.base judged.limit code classes c.args.own k a b h i))
+    (reported_more c.args.format judged.base judged.limit code classes c.args.own k a b h i))
     c.loop-k.invariant.text
-    (told_there c.args.format judged.base judged.limit code classes c.args.own k c.fault_at-found.result c.other_than.result _ _ c.fault_at-found.ensures c.other_than.ensures c.in-Ok.ensures)
+    (reported_there c.args.format judged.base judged.limit code classes c.args.own k c.fault_at-found.result c.other_than.result _ _ c.fault_at-found.ensures c.other_than.ensures c.in-Ok.ensures)
     c.in-Err-write_much.ensures.cut.1
 
 pub loop-k-preserved : goal.loop-k-preserved
@@ -56,11 +56,11 @@ loop-k-preserved g c =
     let (part, appended, kept) = c.in-Ok-write_much.ensures.ok in
     record {
       within = c.next_candidate-k.ensures.within;
-      text = writes_more _ _ _ _ _ _ _ part (TellsEach c.args.format (faults k)) (TellsEach c.args.format (others_at base limit code classes own k)) (TellsEach c.args.format (faults next))
-          (λ a b h i. subst (λ (fs : List VetFault). TellsEach c.args.format fs (a ++ b)) (sym (others_over base limit code classes own (k + 1) next low quiet))
-          (told_more c.args.format base limit code classes own k a b h i))
+      text = writes_more _ _ _ _ _ _ _ part (ReportsEach c.args.format (faults k)) (ReportsEach c.args.format (others_at base limit code classes own k)) (ReportsEach c.args.format (faults next))
+          (λ a b h i. subst (λ (fs : List VetFault). ReportsEach c.args.format fs (a ++ b)) (sym (others_over base limit code classes own (k + 1) next low quiet))
+          (reported_more c.args.format base limit code classes own k a b h i))
           c.loop-k.invariant.text
-          (told_there c.args.format base limit code classes own k c.fault_at-found.result c.other_than.result _ _ c.fault_at-found.ensures c.other_than.ensures c.in-Ok.ensures)
+          (reported_there c.args.format base limit code classes own k c.fault_at-found.result c.other_than.result _ _ c.fault_at-found.ensures c.other_than.ensures c.in-Ok.ensures)
           appended kept;
       counts = c.counted-counts.ensures ∙ ap (λ (x : Counts). counted x c.fault_at-found.result) c.loop-k.invariant.counts
           ∙ ap (counted (counts_to base limit code classes k)) c.fault_at-found.ensures ∙ counts_more base limit code classes k
@@ -71,7 +71,7 @@ pub returns-clause-ok : goal.returns-clause-ok
 returns-clause-ok g c =
     let judged = c.args.judged.now in
     subst (λ (n : ℕ). WritesOn (g.W.Write.contents c.args.writer.now) (g.W.Write.contents c.loop-k.writer) c.args.out.now.items c.loop-k.out.items
-    (TellsEach c.args.format (others_to judged.base judged.limit judged.code.now c.args.classes.now c.args.own n))) (omega arith) c.loop-k.invariant.text
+    (ReportsEach c.args.format (others_to judged.base judged.limit judged.code.now c.args.classes.now c.args.own n))) (omega arith) c.loop-k.invariant.text
 
 pub returns-clause-counts : goal.returns-clause-counts
 returns-clause-counts g c =

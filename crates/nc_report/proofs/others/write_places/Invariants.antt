@@ -2,7 +2,7 @@
 use Rattle.std.proofs.Common.{◌≡◌, ◌-◌, ◌≤◌, length}
 use Rattle.nc_report.specs.Further.{others_to}
 use Rattle.nc_report.specs.Totals.{counts_to}
-use Rattle.nc_report.specs.Report.{TellsEach}
+use Rattle.nc_report.specs.Report.{ReportsEach}
 use Rattle.nc_report.specs.machinery.Added.{WritesOn}
 use Rattle.nc_report.proofs.others.write_places.Given as goal
 
@@ -10,7 +10,7 @@ abbrev pub invariant-loop-k : goal.invariant-loop-k
 invariant-loop-k g l = record {
   within : l.k ≤ length l.judged.code.now;
   text : WritesOn (g.W.Write.contents l.initial.writer) (g.W.Write.contents l.writer) l.initial.out.items l.out.items
-      (TellsEach l.format (others_to l.judged.base l.judged.limit l.judged.code.now l.classes l.own l.k));
+      (ReportsEach l.format (others_to l.judged.base l.judged.limit l.judged.code.now l.classes l.own l.k));
   counts : l.counts ≡ counts_to l.judged.base l.judged.limit l.judged.code.now l.classes l.k;
 }
 

@@ -7,7 +7,7 @@ ghost use Rattle.nc_vet.specs.declared.fault.VetFault.TheVariants.{OutOfMemory};
 ghost use Rattle.nc_output.specs.Verdicts.{with_line_end, place_of};
 ghost use Rattle.nc_vet.specs.Chunk.{Piece, code_of, AreSpelled};
 ghost use Rattle.nc_report.specs.Report.{said_of, accepted_words, ok_text, end_of, refused_line, refused_text, Shows};
-ghost use Rattle.nc_report.specs.Report.{TellsAccepted, TellsFault, TellsMore, TellsRefused, Tells};
+ghost use Rattle.nc_report.specs.Report.{ReportsAccepted, ReportsFault, ReportsMore, ReportsRefused, Reports};
 ghost use Rattle.nc_report.specs.Report.{HasWritten, HasBegun};
 ghost use Rattle.nc_output.specs.Adds.{Adds};
 ghost use Rattle.nc_report.specs.machinery.Added.{After, WritesOn, IsOfWriting};
@@ -126,16 +126,16 @@ fn write_last<W: Write>(out: &[u8], writer: &mut W) -> Result<(), ReportFault>
 }
 
 /// Writes the report on an accepted source.
-fn tell_accepted<W: Write>(
+fn report_accepted<W: Write>(
     alloc: Global,
     name: &[u8],
     chunk: &Vetted,
     style: Style,
     writer: &mut W,
 ) -> Result<(), ReportFault>
-    ensures ok { OnOk result (HasWritten (TellsAccepted chunk.now.limit chunk.now.base style name.now chunk.now.code)
+    ensures ok { OnOk result (HasWritten (ReportsAccepted chunk.now.limit chunk.now.base style name.now chunk.now.code)
         (W.contents writer.old) (W.contents writer.new)) }
-    ensures cut { OnErr result (HasBegun (TellsAccepted chunk.now.limit chunk.now.base style name.now chunk.now.code)
+    ensures cut { OnErr result (HasBegun (ReportsAccepted chunk.now.limit chunk.now.base style name.now chunk.now.code)
         (W.contents writer.old) (W.contents writer.new)) }
     ensures faults { IfErr result IsOfWriting }
 {
@@ -219,7 +219,7 @@ fn push_refused(
 ) -> Result<(), AllocError>
     requires { IsPlaced judged.now.base judged.now.code.now (place_of fault) }
     ensures { OnOk result ((fault ≢ OutOfMemory)
-        × Adds out.old.items out.new.items (TellsFault style.detail style.format judged.now.base name.now fault)) }
+        × Adds out.old.items out.new.items (ReportsFault style.detail style.format judged.now.base name.now fault)) }
 {
     push_verdict(out, name, judged.base, fault, style.format)?;
     match style.detail {
@@ -240,9 +240,9 @@ fn write_more<W: Write>(
 ) -> Result<(), ReportFault>
     requires { HasFault judged.now.base judged.now.limit judged.now.code.now fault }
     ensures ok { OnOk result (WritesOn (W.contents writer.old) (W.contents writer.new) out.old.items out.new.items
-        (TellsMore style.detail style.format judged.now.limit judged.now.base judged.now.code.now fault)) }
+        (ReportsMore style.detail style.format judged.now.limit judged.now.base judged.now.code.now fault)) }
     ensures cut { OnErr result (HasBegun (After out.old.items
-        (TellsMore style.detail style.format judged.now.limit judged.now.base judged.now.code.now fault)) (W.contents writer.old) (W.contents writer.new)) }
+        (ReportsMore style.detail style.format judged.now.limit judged.now.base judged.now.code.now fault)) (W.contents writer.old) (W.contents writer.new)) }
     ensures faults { IfErr result IsOfWriting }
 {
     match style.detail {
@@ -257,7 +257,7 @@ fn write_more<W: Write>(
 }
 
 /// Writes the report on a refused source.
-fn tell_refused<W: Write>(
+fn report_refused<W: Write>(
     alloc: Global,
     name: &[u8],
     judged: &Judged<'_>,
@@ -266,9 +266,9 @@ fn tell_refused<W: Write>(
     writer: &mut W,
 ) -> Result<(), ReportFault>
     requires { HasFault judged.now.base judged.now.limit judged.now.code.now fault }
-    ensures ok { OnOk result (HasWritten (TellsRefused judged.now.limit judged.now.base style name.now judged.now.code.now)
+    ensures ok { OnOk result (HasWritten (ReportsRefused judged.now.limit judged.now.base style name.now judged.now.code.now)
         (W.contents writer.old) (W.contents writer.new)) }
-    ensures cut { OnErr result (HasBegun (TellsRefused judged.now.limit judged.now.base style name.now judged.now.code.now)
+    ensures cut { OnErr result (HasBegun (ReportsRefused judged.now.limit judged.now.base style name.now judged.now.code.now)
         (W.contents writer.old) (W.contents writer.new)) }
     ensures faults { IfErr result IsOfWriting }
 {
@@ -289,7 +289,7 @@ fn tell_refused<W: Write>(
 }
 
 /// Vets a source, writes the report on it, and flushes the writer. Returns whether the source is refused.
-pub(crate) fn tell<W: Write>(
+pub(crate) fn vet_and_report<W: Write>(
     alloc: Global,
     source: Source,
     base: u32,
@@ -297,16 +297,16 @@ pub(crate) fn tell<W: Write>(
     style: Style,
     writer: &mut W,
 ) -> Result<bool, ReportFault>
-    ensures ok { IfOk result (λ refused. HasWritten (Tells limit base style source.name.items source.code.items refused)
+    ensures ok { IfOk result (λ refused. HasWritten (Reports limit base style source.name.items source.code.items refused)
         (W.contents writer.old) (W.contents writer.new)) }
     ensures cut { OnErr result (HasBegun
-        (λ text. (refused : Bool) × Tells limit base style source.name.items source.code.items refused text)
+        (λ text. (refused : Bool) × Reports limit base style source.name.items source.code.items refused text)
         (W.contents writer.old) (W.contents writer.new)) }
     ensures faults { IfErr result IsOfWriting }
 {
     let Source { name, code, labels } = source;
     match vet(base, limit, code) {
-        Ok(chunk) => match tell_accepted(alloc, &name, &chunk, style, writer) {
+        Ok(chunk) => match report_accepted(alloc, &name, &chunk, style, writer) {
             Ok(()) => Ok(false),
             Err(fault) => Err(fault),
         },
@@ -317,7 +317,7 @@ pub(crate) fn tell<W: Write>(
                 code: &code,
                 labels: &labels,
             };
-            match tell_refused(alloc, &name, &judged, fault, style, writer) {
+            match report_refused(alloc, &name, &judged, fault, style, writer) {
                 Ok(()) => Ok(true),
                 Err(fault) => Err(fault),
             }

@@ -1,6 +1,6 @@
 use Rattle.std.proofs.Common.{append_assoc}
 use Rattle.std.proofs.lemmas.Result.{on_ok_weaker}
-use Rattle.nc_report.proofs.telling.push_refusal.Goals as goal
+use Rattle.nc_report.proofs.source_report.push_refusal.Goals as goal
 
 pub returns : goal.returns
 returns c =

@@ -1,6 +1,6 @@
 use Rattle.std.proofs.lemmas.Result.{on_ok_weaker}
 use Rattle.nc_report.proofs.AcceptedTexts.{adds_none, adds_ok}
-use Rattle.nc_report.proofs.telling.push_accepted.Goals as goal
+use Rattle.nc_report.proofs.source_report.push_accepted.Goals as goal
 
 pub returns-in-Brief : goal.returns-in-Brief
 returns-in-Brief c =

@@ -1,7 +1,7 @@
 use Rattle.std.proofs.Common.{length, sym, subst, arith, take_all}
 use Rattle.std.specs.Io.KnownBytes.{Appends}
 use Rattle.std.proofs.KnownBytes.{Appends-kept}
-use Rattle.nc_report.proofs.telling.write_last.Goals as goal
+use Rattle.nc_report.proofs.source_report.write_last.Goals as goal
 
 pub returns-in-Ok-flush-clause-ok : goal.returns-in-Ok-flush-clause-ok
 returns-in-Ok-flush-clause-ok g c = Appends-kept _ _ _ c.args.out.now c.in-Ok.ensures.all c.in-Ok-flush.ensures.bytes

@@ -1,6 +1,6 @@
 use Rattle.std.proofs.Common.{append_assoc, append-nil}
 use Rattle.std.proofs.lemmas.Result.{IfOk-equal}
-use Rattle.nc_report.proofs.telling.push_ok_line.Goals as goal
+use Rattle.nc_report.proofs.source_report.push_ok_line.Goals as goal
 
 pub returns : goal.returns
 returns c =

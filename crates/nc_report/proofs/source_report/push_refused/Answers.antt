@@ -1,6 +1,6 @@
 use Rattle.std.proofs.lemmas.Result.{on_ok_weaker}
 use Rattle.nc_report.proofs.RefusedTexts.{brief, explained}
-use Rattle.nc_report.proofs.telling.push_refused.Goals as goal
+use Rattle.nc_report.proofs.source_report.push_refused.Goals as goal
 
 pub returns-in-Brief : goal.returns-in-Brief
 returns-in-Brief c =
