@@ -51,13 +51,13 @@ none_worked ask files workers none = λ k d below. none_done ask files (get_or w
 pub done_more : (ask : CheckAsk) (files : List (Bor (List ℕ))) (done new : List Done) (n : ℕ) (d : Bor (List ℕ)) (report : Report)
     → AreDone ask files done → n < length files → ReportsOn ask (get_or files n d).now report
     → (new ≡ done ++ record { number = n; report = report } ∷ []) ⊎ (new ≡ done) → AreDone ask files new
-done_more ask files done new n d report h below told (inl e) =
+done_more ask files done new n d report h below reported (inl e) =
     subst (AreDone ask files) (sym e)
     (record {
       each = All-push (λ d. FitsPlace ask files d.number (Some d.report)) done (record { number = n; report = report }) h.each
-          (get_or files n d, slice_get-get_or files n d below, told);
+          (get_or files n d, slice_get-get_or files n d below, reported);
     })
-done_more ask files done new n d report h below told (inr e) = subst (AreDone ask files) (sym e) h
+done_more ask files done new n d report h below reported (inr e) = subst (AreDone ask files) (sym e) h
 
 -- the first report of a worker's list is that on its file
 pub done_head : (ask : CheckAsk) (files : List (Bor (List ℕ))) (all rest : List Done) (one : Done) → all ≡ one ∷ rest → AreDone ask files all
@@ -84,9 +84,9 @@ workers_back ask files old new n none done =
 fits_first : (ask : CheckAsk) (file : Bor (List ℕ)) (files : List (Bor (List ℕ))) (place : Option Report) → FitsPlace ask (file ∷ files) 0 place
     → FitsFile ask file.now place
 fits_first ask file files None h = tt
-fits_first ask file files (Some report) (other, is, told) =
+fits_first ask file files (Some report) (other, is, reported) =
     let same : other ≡ file = cc in
-    subst (λ (f : Bor (List ℕ)). ReportsOn ask f.now report) same told
+    subst (λ (f : Bor (List ℕ)). ReportsOn ask f.now report) same reported
 
 -- the other places have those on the other files
 fits_next : (ask : CheckAsk) (file : Bor (List ℕ)) (files : List (Bor (List ℕ))) (k : ℕ) (place : Option Report)

@@ -11,7 +11,7 @@ use Rattle.nc_output.specs.declared.detail.Style.{Style}
 use Rattle.nc_report.specs.Report.{HasWritten}
 use Rattle.nc_command.specs.declared.asked.CheckAsk.{CheckAsk}
 use Rattle.nc_files.specs.Parts.{bases_in, codes_in, names_in, part_name}
-use Rattle.nc_files.specs.Reports.{Judged, judged_in, segment_code, raw_code, TellsCode, TellsEach, TellsRaw, hexadecimal_note, explanation, refusal_text}
+use Rattle.nc_files.specs.Reports.{Judged, judged_in, segment_code, raw_code, ReportsCode, ReportsEach, ReportsRaw, hexadecimal_note, explanation, refusal_text}
 use Rattle.nc_files.specs.declared.parts.Part.{Part}
 
 -- what was written says what it has to
@@ -41,9 +41,9 @@ or_assoc true b c = refl
 or_assoc false b c = refl
 
 -- the report on one more, after the reports on others
-pub tells_more : (ask : CheckAsk) (done : List Judged) (judged : Judged) (refused more : Bool) (text next : List ℕ)
-    → TellsEach ask done refused text → TellsCode ask judged more next → TellsEach ask (done ++ judged ∷ []) (refused || more) (text ++ next)
-tells_more ask [] judged refused more text next (none, empty) h = (
+pub reports_more : (ask : CheckAsk) (done : List Judged) (judged : Judged) (refused more : Bool) (text next : List ℕ)
+    → ReportsEach ask done refused text → ReportsCode ask judged more next → ReportsEach ask (done ++ judged ∷ []) (refused || more) (text ++ next)
+reports_more ask [] judged refused more text next (none, empty) h = (
   more,
   false,
   next,
@@ -53,13 +53,13 @@ tells_more ask [] judged refused more text next (none, empty) h = (
   ap (λ (b : Bool). b || more) none ∙ or-false more,
   ap (λ (z : List ℕ). z ++ next) empty ∙ sym (append-nil next),
 )
-tells_more ask (one ∷ done) judged refused more text next (a, b, first, rest, tells, others, is, whole) h = (
+reports_more ask (one ∷ done) judged refused more text next (a, b, first, rest, says, others, is, whole) h = (
   a,
   b || more,
   first,
   rest ++ next,
-  tells,
-  tells_more ask done judged b more rest next others h,
+  says,
+  reports_more ask done judged b more rest next others h,
   ap (λ (z : Bool). z || more) is ∙ or_assoc a b more,
   ap (λ (z : List ℕ). z ++ next) whole ∙ append_assoc first rest next,
 )
@@ -86,13 +86,13 @@ split_more all before after part done is next =
 
 -- the report on raw code, and after it the note
 pub raw_noted : (ask : CheckAsk) (name code : List ℕ) (refused : Bool) (before mid after : Option (List ℕ)) → refused ≡ false
-    → HasWritten (TellsCode ask (raw_code ask name code) refused) before mid → Appends mid after hexadecimal_note
-    → HasWritten (TellsRaw ask name code false) before after
+    → HasWritten (ReportsCode ask (raw_code ask name code) refused) before mid → Appends mid after hexadecimal_note
+    → HasWritten (ReportsRaw ask name code false) before after
 raw_noted ask name code refused before mid after is h more = record {
   text = h.text ++ hexadecimal_note;
   says = record {
     report = h.text;
-    tells = subst (λ (b : Bool). TellsCode ask (raw_code ask name code) b h.text) is h.says;
+    says = subst (λ (b : Bool). ReportsCode ask (raw_code ask name code) b h.text) is h.says;
     note = hexadecimal_note;
     noted = inr (refl, refl);
     written = refl;

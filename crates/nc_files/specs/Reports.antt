@@ -31,15 +31,15 @@ abbrev pub judged_in : Part → Judged
 judged_in part = record { base = part.base; name = part.source.name.items; code = part.source.code.items }
 
 -- the code is refused or not, and this is the report on it, for the region and in the style that are asked for
-abbrev pub TellsCode : CheckAsk → Judged → Bool → List ℕ → Type 0
-TellsCode ask judged refused text =
+abbrev pub ReportsCode : CheckAsk → Judged → Bool → List ℕ → Type 0
+ReportsCode ask judged refused text =
     Reports (limit_after ask.bundles) judged.base ask.style judged.name judged.code refused text
 
 -- the reports on all of these, in order; it is refused if any of them is
-abbrev pub TellsEach : CheckAsk → List Judged → Bool → List ℕ → Type 0
-TellsEach ask [] refused text = (refused ≡ false) × (text ≡ [])
-TellsEach ask (judged ∷ others) refused text =
-    (one more : Bool) × (first rest : List ℕ) × TellsCode ask judged one first × TellsEach ask others more rest
+abbrev pub ReportsEach : CheckAsk → List Judged → Bool → List ℕ → Type 0
+ReportsEach ask [] refused text = (refused ≡ false) × (text ≡ [])
+ReportsEach ask (judged ∷ others) refused text =
+    (one more : Bool) × (first rest : List ℕ) × ReportsCode ask judged one first × ReportsEach ask others more rest
     × (refused ≡ one || more) × (text ≡ first ++ rest)
 
 -- a file of raw code, at the address that is asked for
@@ -57,9 +57,9 @@ hexadecimal_note =
     codes "  this is hexadecimal text: its characters were judged, and not the bytes that they spell; turn it into bytes with xxd -r -p\n"
 
 -- the report on a file of raw code, and perhaps the note, if it is accepted
-pub record TellsRaw (ask : CheckAsk) (name code : List ℕ) (refused : Bool) (text : List ℕ) : Type 0 where
+pub record ReportsRaw (ask : CheckAsk) (name code : List ℕ) (refused : Bool) (text : List ℕ) : Type 0 where
   pub report : List ℕ
-  pub tells : TellsCode ask (raw_code ask name code) refused report
+  pub says : ReportsCode ask (raw_code ask name code) refused report
   pub note : List ℕ
   pub noted : (note ≡ []) ⊎ ((refused ≡ false) × (note ≡ hexadecimal_note))
   pub written : text ≡ report ++ note
@@ -84,9 +84,9 @@ pub record RefusesElf (style : Style) (name code text : List ℕ) : Type 0 where
   pub written : text ≡ refusal_text style.format style.detail name meaning
 
 -- the reports on the segments of code of an ELF file, in the order of its program headers; or its refusal as a whole
-abbrev pub TellsElf : CheckAsk → List ℕ → List ℕ → Bool → List ℕ → Type 0
-TellsElf ask name code refused text =
-    (IsWellFormed code × TellsEach ask (map (segment_code ask.style.format name code) (segments_of code)) refused text)
+abbrev pub ReportsElf : CheckAsk → List ℕ → List ℕ → Bool → List ℕ → Type 0
+ReportsElf ask name code refused text =
+    (IsWellFormed code × ReportsEach ask (map (segment_code ask.style.format name code) (segments_of code)) refused text)
     ⊎ ((refused ≡ true) × RefusesElf ask.style name code text)
 
 -- the file is judged as raw code: it doesn't begin as ELF files do, or that is asked for
@@ -94,14 +94,14 @@ abbrev pub IsRaw : CheckAsk → List ℕ → Type 0
 IsRaw ask code = (ask.raw ≡ true) ⊎ ¬ IsElf code
 
 -- a file of this name and with these bytes is refused or not, and this is the report on it
-abbrev pub TellsFile : CheckAsk → List ℕ → List ℕ → Bool → List ℕ → Type 0
-TellsFile ask name code refused text =
-    (IsRaw ask code × TellsRaw ask name code refused text)
-    ⊎ (((ask.raw ≡ false) × IsElf code) × TellsElf ask name code refused text)
+abbrev pub ReportsFile : CheckAsk → List ℕ → List ℕ → Bool → List ℕ → Type 0
+ReportsFile ask name code refused text =
+    (IsRaw ask code × ReportsRaw ask name code refused text)
+    ⊎ (((ask.raw ≡ false) × IsElf code) × ReportsElf ask name code refused text)
 
 -- the report is that on a file of this name, for some bytes
 abbrev pub ReportsOn : CheckAsk → List ℕ → Report → Type 0
-ReportsOn ask name report = (code : List ℕ) × TellsFile ask name code report.is_refused report.text.items
+ReportsOn ask name report = (code : List ℕ) × ReportsFile ask name code report.is_refused report.text.items
 
 -- the place is empty, or has the report on the file of this name
 abbrev pub FitsFile : CheckAsk → List ℕ → Option Report → Type 0

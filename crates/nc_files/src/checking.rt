@@ -18,8 +18,8 @@ use std::rt::Files;
 use std::sync::Wait;
 use std::thread::Threads;
 
-/// A block that is larger than most files.
-const LARGE: usize = 31 << 20;
+/// The bytes of a block that is larger than most files.
+const KEPT_BLOCK: usize = 31 << 20;
 
 /// The number of files that several workers judge before the reports on them are printed.
 const ROUND: usize = 256;
@@ -35,7 +35,7 @@ struct State {
 /// that was freed (up to 32 MiB). Otherwise it would return much of it to the system, which allocates it anew, page by page.
 /// The block isn't touched. If there is no memory for it, only time is lost.
 fn keep_memory(alloc: Global) {
-    let _ = Vec::<u8>::with_capacity(alloc, LARGE);
+    let _ = Vec::<u8>::with_capacity(alloc, KEPT_BLOCK);
 }
 
 /// Prints on standard error why a file isn't judged. If that fails, nothing else is left to do.

@@ -4,7 +4,7 @@ ghost use Rattle.std.specs.Prelude.{◌≡◌, ◌≢◌, ◌++◌, ℕ, List, t
 ghost use Rattle.nc_elf.specs.Faults.{HasElfFault};
 ghost use Rattle.nc_elf.specs.declared.fault.ElfFault.TheVariants as elf;
 ghost use Rattle.nc_report.specs.Report.{HasWritten};
-ghost use Rattle.nc_files.specs.Reports.{judged_in, TellsCode, TellsEach, TellsRaw, RefusesElf, TellsElf, TellsFile, explanation, refusal_text};
+ghost use Rattle.nc_files.specs.Reports.{judged_in, ReportsCode, ReportsEach, ReportsRaw, RefusesElf, ReportsElf, ReportsFile, explanation, refusal_text};
 
 use crate::files::{Unread, read_file};
 use crate::parts::{Part, parts_of};
@@ -34,7 +34,7 @@ fn judge_part<W: Write>(
     part: Part,
     writer: &mut W,
 ) -> Result<bool, Unjudged>
-    ensures { IfOk result (λ refused. HasWritten (TellsCode ask.now (judged_in part) refused)
+    ensures { IfOk result (λ refused. HasWritten (ReportsCode ask.now (judged_in part) refused)
         (W.contents writer.old) (W.contents writer.new)) }
 {
     let Part { base, source } = part;
@@ -53,7 +53,7 @@ fn judge_parts<W: Write>(
     parts: Vec<Part>,
     writer: &mut W,
 ) -> Result<bool, Unjudged>
-    ensures { IfOk result (λ refused. HasWritten (TellsEach ask.now (map judged_in parts.items) refused)
+    ensures { IfOk result (λ refused. HasWritten (ReportsEach ask.now (map judged_in parts.items) refused)
         (W.contents writer.old) (W.contents writer.new)) }
 {
     let mut is_refused = false;
@@ -141,7 +141,7 @@ fn judge_elf<W: Write>(
     file: &Source,
     writer: &mut W,
 ) -> Result<bool, Unjudged>
-    ensures { IfOk result (λ refused. HasWritten (TellsElf ask.now file.now.name.items file.now.code.items refused)
+    ensures { IfOk result (λ refused. HasWritten (ReportsElf ask.now file.now.name.items file.now.code.items refused)
         (W.contents writer.old) (W.contents writer.new)) }
 {
     match parts_of(alloc, file, ask.style) {
@@ -167,7 +167,7 @@ fn judge_raw<W: Write>(
     source: Source,
     writer: &mut W,
 ) -> Result<bool, Unjudged>
-    ensures { IfOk result (λ refused. HasWritten (TellsRaw ask.now source.name.items source.code.items refused)
+    ensures { IfOk result (λ refused. HasWritten (ReportsRaw ask.now source.name.items source.code.items refused)
         (W.contents writer.old) (W.contents writer.new)) }
 {
     let base = ask.base;
@@ -192,7 +192,7 @@ fn judge_source<W: Write>(
     source: Source,
     writer: &mut W,
 ) -> Result<bool, Unjudged>
-    ensures { IfOk result (λ refused. HasWritten (TellsFile ask.now source.name.items source.code.items refused)
+    ensures { IfOk result (λ refused. HasWritten (ReportsFile ask.now source.name.items source.code.items refused)
         (W.contents writer.old) (W.contents writer.new)) }
 {
     if ask.raw || !is_elf(source.code.as_slice()) {
@@ -211,7 +211,7 @@ pub fn judge_file<R: AllocGlobal + Input + Files, W: Write>(
 ) -> Result<bool, Unjudged>
     // Exactly the report on a file of this name was written, and the result says whether it is refused. What bytes a file has is up
     // to its device.
-    ensures { IfOk result (λ refused. (code : List ℕ) × HasWritten (TellsFile ask.now file.now code refused)
+    ensures { IfOk result (λ refused. (code : List ℕ) × HasWritten (ReportsFile ask.now file.now code refused)
         (W.contents writer.old) (W.contents writer.new)) }
 {
     match read_file(rt, file) {

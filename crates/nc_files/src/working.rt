@@ -17,7 +17,7 @@ use std::sync::{Mutex, Wait};
 use std::thread::{Threads, for_each_mut};
 
 /// Files with more bytes are judged by one worker at a time, so that the memory of all workers is bounded.
-const LARGE: u64 = 8 << 20;
+const MOST_CONCURRENT_BYTES: u64 = 8 << 20;
 
 /// The most bytes of text that a worker keeps.
 const ROOM: usize = 4 << 20;
@@ -98,7 +98,7 @@ fn judge_one<R: Wait + AllocGlobal + Input + Files>(
     ensures { IfSome result (ReportsOn ask.now file.now) }
 {
     let len = len_of(rt, file)?;
-    if len > LARGE {
+    if len > MOST_CONCURRENT_BYTES {
         let _alone = large.lock(rt);
         return report_on(rt, ask, file, room);
     }

@@ -1,20 +1,20 @@
 use Rattle.std.proofs.Common.{arith, ◌++◌, ◌∷◌, []}
 use Rattle.std.proofs.lemmas.Grind.{common_steps}
 use Rattle.std.specs.Prelude.{◌||◌}
-use Rattle.nc_files.specs.Reports.{judged_in, TellsCode, TellsEach}
-use Rattle.nc_files.proofs.WrittenReports.{split_more, tells_more, written_more}
+use Rattle.nc_files.specs.Reports.{judged_in, ReportsCode, ReportsEach}
+use Rattle.nc_files.proofs.WrittenReports.{split_more, reports_more, written_more}
 use Rattle.nc_files.proofs.judging.judge_parts.Goals as goal
 
 pub loop-part-preserved : goal.loop-part-preserved
 loop-part-preserved g c =
     let ask = c.args.ask.now in
-    let (done, split, told) = c.loop-part.invariant in
+    let (done, split, written) = c.loop-part.invariant in
     let judged = judged_in c.in-Some.part in
     let refused = c.loop-part.is_refused in (
       done ++ judged ∷ [],
       split_more _ _ _ c.in-Some.part done split c.in-Some.ensures.steps.0,
-      written_more (TellsEach ask done refused) (TellsCode ask judged c.in-Ok.more) (TellsEach ask (done ++ judged ∷ []) (refused || c.in-Ok.more))
-          _ _ _ (λ a b h k. tells_more ask done judged refused c.in-Ok.more a b h k) told c.in-Ok.ensures,
+      written_more (ReportsEach ask done refused) (ReportsCode ask judged c.in-Ok.more) (ReportsEach ask (done ++ judged ∷ []) (refused || c.in-Ok.more))
+          _ _ _ (λ a b h k. reports_more ask done judged refused c.in-Ok.more a b h k) written c.in-Ok.ensures,
     )
 
 pub returns : goal.returns
