@@ -6,7 +6,7 @@ mod check_in;
 pub mod fixtures;
 mod listed;
 mod long_list;
+mod recording;
 mod shared;
 mod sizes;
 mod steps;
-mod telling;

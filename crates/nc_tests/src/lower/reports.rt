@@ -113,7 +113,7 @@ fn only(alloc: Global, name: &[u8], code: &[u8], labels: Labels) -> Source {
 
 /// Writes the report on a source in a region of five bundles. The function has no clause, so that proofs of its callers don't deal
 /// with the contract of `report`.
-fn told<W: Write>(
+fn write_report<W: Write>(
     alloc: Global,
     source: Source,
     style: Style,
@@ -130,7 +130,7 @@ fn is_reported(alloc: Global, row: &Row) -> bool {
     };
     let source = only(alloc, name, code, labels);
     let mut writer = Slow::new(alloc, 7, None, flush_error);
-    told(alloc, source, Style { detail, format }, &mut writer) == due && writer.has(owed)
+    write_report(alloc, source, Style { detail, format }, &mut writer) == due && writer.has(owed)
 }
 
 /// Tries each row.

@@ -5,8 +5,8 @@ ghost use Rattle.nc_region.specs.Region.{IsNew};
 use crate::lower::rows::right;
 use crate::region::calls::Calls;
 use crate::region::fixtures::{chunk, one_seat};
+use crate::region::recording::{Recording, plain};
 use crate::region::steps::{Step, creates, take_steps};
-use crate::region::telling::{Telling, plain};
 use nc_calls::law_of_calls;
 use nc_gens::{Gens, Pass};
 use nc_region::{Act, Acts, DeleteFault, Entry, ModifyFault, Recorder, RegionOf, law_of_schedules};
@@ -146,9 +146,9 @@ struct Life {
 }
 
 impl Life {
-    /// What is told is all of the life, or nothing where there wasn't room for all.
-    fn is_owed(&self, told: Option<&[Entry]>) -> bool {
-        match told {
+    /// What is recorded is all of the life, or nothing where there wasn't room for all.
+    fn is_owed(&self, recorded: Option<&[Entry]>) -> bool {
+        match recorded {
             Some(entries) => self.is_told && are_of_life(entries, self.len),
             None => !self.is_told,
         }
@@ -170,7 +170,7 @@ impl Life {
     }
 
     /// Runs in a new region over these acts, which then are as owed.
-    fn is_as_owed<A: Acts + Telling + Drop>(
+    fn is_as_owed<A: Acts + Recording + Drop>(
         &self,
         alloc: Global,
         acts: A,
@@ -181,7 +181,7 @@ impl Life {
     {
         let mut region = RegionOf::over(alloc, acts);
         let has_run = self.run(alloc, &mut region, gens, pass);
-        has_run && self.is_owed(region.acts().told())
+        has_run && self.is_owed(region.acts().recorded())
     }
 
     /// Runs in a new region over these acts, which are recorded.

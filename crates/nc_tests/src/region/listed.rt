@@ -4,8 +4,8 @@ ghost use Rattle.nc_region.specs.Region.{IsNew};
 
 use crate::lower::rows::right;
 use crate::region::fixtures::{chunk, one_seat};
+use crate::region::recording::plain;
 use crate::region::steps::creates;
-use crate::region::telling::plain;
 use nc_gens::{GensFull, Pass};
 use nc_region::{Acts, RegionOf};
 use nc_text::TextFault;

@@ -9,13 +9,13 @@ use std::alloc::Global;
 
 /// Acts that report which of them were done. Tests are generic over them, since a proof over a region whose acts are a recorder
 /// takes several times as long.
-pub(crate) trait Telling {
+pub(crate) trait Recording {
     /// The acts with the settlings among them, first to last, as long as there was room.
-    fn told(&self) -> Option<&[Entry]>;
+    fn recorded(&self) -> Option<&[Entry]>;
 }
 
-impl<A: Acts + Drop> Telling for Recorder<A> {
-    fn told(&self) -> Option<&[Entry]> {
+impl<A: Acts + Drop> Recording for Recorder<A> {
+    fn recorded(&self) -> Option<&[Entry]> {
         self.entries()
     }
 }
