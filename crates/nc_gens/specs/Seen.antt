@@ -3,7 +3,7 @@ use Rattle.std.specs.Prelude.{◌≡◌, ℕ, zero, suc, ◌+◌, ◌++◌, ◌<
 use Rattle.atomic_table.specs.Seated.{TableId}
 use Rattle.nc_gens.specs.declared.view.PassNumbers.{PassNumbers}
 use Rattle.nc_gens.specs.declared.view.KeeperNumbers.{KeeperNumbers}
-use Rattle.nc_gens.specs.Rule.{left_word, last_generation, first_pass_numbers, first_keeper_numbers, generation_seen, word_taken}
+use Rattle.nc_gens.specs.Rule.{left_word, last_generation, first_pass_numbers, first_keeper_numbers, generation_taken, since_stored, generation_seen, word_taken}
 
 -- a table has 1 to 256 seats
 abbrev pub AreSeats : ℕ → Type 0
@@ -14,6 +14,17 @@ pub record PassState : Type 0 where
   pub table : TableId
   pub seat : ℕ
   pub numbers : PassNumbers
+
+-- A pass after a check-in. The number stored is the number loaded, no less than the one stored before or any generation that
+-- the pass had seen. The table and the seat are the same.
+pub record HasCheckedIn (old new : PassState) : Type 0 where
+  pub same : (new.table ≡ old.table) × (new.seat ≡ old.seat)
+  -- The generation is loaded once, and stored once.
+  pub steps : new.numbers ≡ since_stored (generation_taken new.numbers.since old.numbers)
+  pub loads : new.numbers.loads ≡ old.numbers.loads + 1
+  pub published : new.numbers.word ≡ new.numbers.since
+  pub rises : old.numbers.since ≤ new.numbers.since
+  pub catches_up : old.numbers.seen ≤ new.numbers.since
 
 -- the keeper as contracts see it: its table and numbers
 pub record KeeperState : Type 0 where

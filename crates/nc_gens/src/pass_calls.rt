@@ -1,6 +1,7 @@
 //! The calls of a pass, which checks in and leaves.
-ghost use Rattle.std.specs.Prelude.{◌≡◌, ◌+◌, ◌≤◌};
-ghost use Rattle.nc_gens.specs.Rule.{generation_taken, since_stored, left_stored};
+ghost use Rattle.std.specs.Prelude.{◌≡◌};
+ghost use Rattle.nc_gens.specs.Rule.{left_stored};
+ghost use Rattle.nc_gens.specs.Seen.{HasCheckedIn};
 
 use crate::steps::{StoreLeft, StoreSince, TakeGeneration};
 use crate::table::{Gens, LEFT, Pass};
@@ -19,16 +20,7 @@ impl Gens {
     /// seats.
     pub fn check_in(&self, pass: &mut Pass)
         requires { pass.old.table ≡ self.now }
-        ensures same { (pass.new.table ≡ pass.old.table) × (pass.new.seat ≡ pass.old.seat) }
-
-        // The generation is loaded once, and stored once.
-        ensures steps { pass.new.numbers
-            ≡ since_stored (generation_taken pass.new.numbers.since pass.old.numbers) }
-        ensures loads { pass.new.numbers.loads ≡ pass.old.numbers.loads + 1 }
-        ensures published { pass.new.numbers.word ≡ pass.new.numbers.since }
-
-        ensures rises { pass.old.numbers.since ≤ pass.new.numbers.since }
-        ensures catches_up { pass.old.numbers.seen ≤ pass.new.numbers.since }
+        ensures checked_in { HasCheckedIn pass.old pass.new }
     {
         let words = &self.words.shared;
         let generation = words.load::<TakeGeneration>(&mut pass.token, 0);

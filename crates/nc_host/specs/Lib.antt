@@ -1,7 +1,6 @@
 pub mod Shown
 pub mod Outcomes
 pub mod Handles
-pub mod Seats
 pub mod Looks
 pub mod Walked
 pub mod Running

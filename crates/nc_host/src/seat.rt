@@ -1,8 +1,8 @@
 //! Seats by handles.
 
 ghost use Rattle.std.specs.Prelude.{◌≡◌, ◌+◌, ◌<◌, ◌≤◌, ◌⊎◌, None};
+ghost use Rattle.nc_gens.specs.Seen.{HasCheckedIn};
 ghost use Rattle.nc_host.specs.Handles.{IsDone};
-ghost use Rattle.nc_host.specs.Seats.{HasCheckedIn};
 
 use crate::numbers::NOTHING;
 use nc_handle::NcSeat;

@@ -1,7 +1,7 @@
 //! A region behind a lock, shared by threads.
 
-ghost use Rattle.std.specs.Prelude.{◌≡◌, ◌+◌, ◌≤◌, ℕ, List, IfOk, IfErr, OnOk};
-ghost use Rattle.nc_gens.specs.Rule.{generation_taken, since_stored};
+ghost use Rattle.std.specs.Prelude.{◌≡◌, ℕ, List, IfOk, IfErr, OnOk};
+ghost use Rattle.nc_gens.specs.Seen.{HasCheckedIn};
 ghost use Rattle.nc_decode.specs.Bundles.{IsLawfulLimit};
 ghost use Rattle.nc_text.specs.Machine.{IsConfined};
 ghost use Rattle.nc_text.specs.Places.{limit_of};
@@ -75,14 +75,7 @@ impl<'g, A: Acts + Drop> SharedOf<'g, A> {
     /// Call it only while the seat's thread is outside the region. No contract here can express this, and reclaiming relies on it.
     pub fn check_in(&self, pass: &mut Pass)
         requires { pass.old.table ≡ self.now }
-        ensures same { (pass.new.table ≡ pass.old.table) × (pass.new.seat ≡ pass.old.seat) }
-        // One load of the generation, and one store of it.
-        ensures steps { pass.new.numbers
-            ≡ since_stored (generation_taken pass.new.numbers.since pass.old.numbers) }
-        ensures loads { pass.new.numbers.loads ≡ pass.old.numbers.loads + 1 }
-        ensures published { pass.new.numbers.word ≡ pass.new.numbers.since }
-        ensures rises { pass.old.numbers.since ≤ pass.new.numbers.since }
-        ensures catches_up { pass.old.numbers.seen ≤ pass.new.numbers.since }
+        ensures checked_in { HasCheckedIn pass.old pass.new }
     {
         self.gens.check_in(pass);
     }
