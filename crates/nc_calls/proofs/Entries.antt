@@ -23,7 +23,7 @@ unsettled_events d [] = refl
 unsettled_events d (act ∷ acts) = ap (λ (z : List Event). events_of_act d act ++ z) (unsettled_events d acts)
 
 -- the events of two logs are those of the one and then those of the other
-log_append : (d : Details) (xs ys : List Entry) → events_of_log d (xs ++ ys) ≡ events_of_log d xs ++ events_of_log d ys
+pub log_append : (d : Details) (xs ys : List Entry) → events_of_log d (xs ++ ys) ≡ events_of_log d xs ++ events_of_log d ys
 log_append d [] ys = refl
 log_append d (Did act ∷ xs) ys =
     ap (λ (z : List Event). events_of_act d act ++ z) (log_append d xs ys)

@@ -2,7 +2,7 @@
 use Rattle.std.proofs.Common.{◌≡◌, ℕ, zero, suc, ◌+◌, ◌<◌, Bool, true, false, cond, List, [], ◌∷◌, ◌++◌, map, length, drop, replicate, refl, ◌∙◌, sym, ap, subst}
 use Rattle.std.specs.Prelude.{All, take, None}
 use Rattle.std.specs.List.{range_with_len}
-use Rattle.std.proofs.lemmas.List.{append-nil, append_assoc, take_at, length-map}
+use Rattle.std.proofs.lemmas.List.{append-nil, append_assoc, take_at, length-map, map-append}
 use Rattle.std.proofs.lemmas.List.Elements.{All-nil, All-cons, All-head, All-tail, All-append}
 use Rattle.nc_decode.specs.declared.instruction.Mark.{Mark}
 use Rattle.nc_text.specs.Places.{limit_of}
@@ -21,6 +21,7 @@ use Rattle.nc_region.specs.Deletion.{freed, unmarkings}
 use Rattle.nc_region.specs.Region.{IsCreated}
 use Rattle.nc_calls.specs.Calls.{Details, no_details, span_from, reclaim_events, events_of_entry, events_of_log, delete_events}
 use Rattle.nc_calls.specs.Histories.{Creates, Patches, Reclaims}
+use Rattle.nc_calls.proofs.Offered.{log_append}
 use Rattle.nc_entries.specs.declared.act.NcAct.{NcAct}
 use Rattle.nc_entries.specs.Shown.{entry_of}
 use Rattle.nc_handle.specs.Lent.{IsReported}
@@ -33,17 +34,6 @@ due_append v [] ys = refl
 due_append v (x ∷ xs) ys =
     ap (λ (z : List Event). events_pending_by v x ++ z) (due_append v xs ys)
     ∙ sym (append_assoc (events_pending_by v x) (events_pending v xs) (events_pending v ys))
-
--- the events of two logs are those of the one and then those of the other
-pub events_append : (d : Details) (xs ys : List Entry) → events_of_log d (xs ++ ys) ≡ events_of_log d xs ++ events_of_log d ys
-events_append d [] ys = refl
-events_append d (x ∷ xs) ys =
-    ap (λ (z : List Event). events_of_entry d x ++ z) (events_append d xs ys)
-    ∙ sym (append_assoc (events_of_entry d x) (events_of_log d xs) (events_of_log d ys))
-
-pub map_append : {X Y : Type 0} (f : X → Y) (xs ys : List X) → map f (xs ++ ys) ≡ map f xs ++ map f ys
-map_append f [] ys = refl
-map_append f (x ∷ xs) ys = ap (λ (z : List _). f x ∷ z) (map_append f xs ys)
 
 -- an entry is read as its events
 abbrev IsRead : MarkedChunk → Details → Entry → Type 0
@@ -130,13 +120,13 @@ stops_due v marks base len =
     let read : events_pending v (map entry_of (log_of_delete marks base len))
     ≡ events_of_log (record no_details { base = base; len = len }) (stops_of marks base len) =
     ap (λ (z : List Entry). events_pending v (map entry_of z)) (stops_then marks base len)
-    ∙ (ap (events_pending v) (map_append entry_of (stops_of marks base len) (Did Bump ∷ []))
+    ∙ (ap (events_pending v) (map-append entry_of (stops_of marks base len) (Did Bump ∷ []))
     ∙ (due_append v (map entry_of (stops_of marks base len)) (entry_of (Did Bump) ∷ [])
     ∙ (append-nil (events_pending v (map entry_of (stops_of marks base len)))
     ∙ due_log v (record no_details { base = base; len = len }) (stops_of marks base len)
     (stops_all v (record no_details { base = base; len = len }) marks base len)))) in
     ap (λ (z : List Event). z ++ Retires base len ∷ []) read
-    ∙ (sym (events_append (record no_details { base = base; len = len }) (stops_of marks base len) (Did Bump ∷ []))
+    ∙ (sym (log_append (record no_details { base = base; len = len }) (stops_of marks base len) (Did Bump ∷ []))
     ∙ ap (events_of_log (record no_details { base = base; len = len })) (sym (stops_then marks base len)))
 
 -- ---- what a call reported

@@ -2,7 +2,7 @@
 use Rattle.std.proofs.Common.{◌≡◌, ℕ, zero, suc, ◌+◌, ◌-◌, ◌/◌, ◌%◌, ◌==◌, Bool, true, false, cond, List, [], ◌∷◌, ◌++◌, map, length, drop}
 use Rattle.std.proofs.Common.{replicate, refl, ◌∙◌, sym, ap}
 use Rattle.std.specs.Prelude.{All, take}
-use Rattle.std.proofs.lemmas.List.{append-nil, append_assoc, take_at, length-map}
+use Rattle.std.proofs.lemmas.List.{append-nil, append_assoc, take_at, length-map, map-append}
 use Rattle.std.proofs.lemmas.List.Elements.{All-nil, All-cons, All-head, All-tail, All-append}
 use Rattle.nc_decode.specs.declared.instruction.Mark.{Mark}
 use Rattle.nc_vet.specs.Chunk.{MarkedChunk}
@@ -13,11 +13,13 @@ use Rattle.nc_acts.specs.declared.acts.Entry.TheVariants.{Did, Settled}
 use Rattle.nc_acts.specs.Acts.{is_inside, is_start, is_marked_at, is_unmarked_at}
 use Rattle.nc_acts.specs.Log.{unsettled, log_of_create, log_of_delete}
 use Rattle.nc_calls.specs.Calls.{Details, no_details, events_of_log, create_events, delete_events}
+use Rattle.nc_calls.proofs.Offered.{log_append}
 use Rattle.nc_entries.specs.declared.act.NcAct.{NcAct}
 use Rattle.nc_entries.specs.Runs.{Run, Single, PutRun, StopRun, run_of, puts_by_bits, entries_of, entries_in, bits_at, runs_where, runs_of_create}
 use Rattle.nc_entries.specs.Runs.{runs_of_delete, HasRuns}
+use Rattle.nc_entries.proofs.Offered.{entries_append}
 use Rattle.nc_handle.specs.Pending.{puts_pending, events_pending_by, events_pending}
-use Rattle.nc_handle.proofs.Reporting.{due_append, events_append, map_append}
+use Rattle.nc_handle.proofs.Reporting.{due_append}
 
 -- the puts of a run
 bits_read : (d : Details) (bytes : List ℕ) (at bits : ℕ) → puts_pending at bits bytes ≡ events_of_log d (unsettled (puts_by_bits at bits bytes))
@@ -42,7 +44,7 @@ runs_read v d (run ∷ runs) all =
     ap (λ (z : List Event). z ++ events_pending v (map run_of runs)) (All-head (IsRunRead v d) run runs all)
     ∙ (ap (λ (z : List Event). events_of_log d (entries_of v.base v.code run) ++ z)
     (runs_read v d runs (All-tail (IsRunRead v d) run runs all))
-    ∙ sym (events_append d (entries_of v.base v.code run) (entries_in v.base v.code runs)))
+    ∙ sym (log_append d (entries_of v.base v.code run) (entries_in v.base v.code runs)))
 
 -- runs of the chunk's bytes
 put_runs : (v : MarkedChunk) (d : Details) (chosen : ℕ → Bool) (n at : ℕ) → All (IsRunRead v d) (runs_where PutRun chosen at n)
@@ -93,14 +95,6 @@ runs_then marks base len =
     sym (append_assoc (runs_where StopRun (is_marked_at marks) base (len / 32))
     (Single Settled ∷ runs_where StopRun (is_unmarked_at marks) base (len / 32)) (Single (Did Bump) ∷ []))
 
--- the entries of two lists of runs are those of the one and then those of the other
-entries_append : (base : ℕ) (code : List ℕ) (xs ys : List Run)
-    → entries_in base code (xs ++ ys) ≡ entries_in base code xs ++ entries_in base code ys
-entries_append base code [] ys = refl
-entries_append base code (x ∷ xs) ys =
-    ap (λ (z : List Entry). entries_of base code x ++ z) (entries_append base code xs ys)
-    ∙ sym (append_assoc (entries_of base code x) (entries_in base code xs) (entries_in base code ys))
-
 -- stops don't depend on the chunk
 stops_entries : (base other : ℕ) (code bytes : List ℕ) (chosen : ℕ → Bool) (n at : ℕ)
     → entries_in base code (runs_where StopRun chosen at n) ≡ entries_in other bytes (runs_where StopRun chosen at n)
@@ -129,7 +123,7 @@ delete_runs_due v marks base len code lent now count is =
     let read : events_pending v (take count now)
     ≡ events_of_log (record no_details { base = base; len = len }) (entries_in v.base v.code (stops_in_runs marks base len)) =
     ap (events_pending v) (runs_front lent now count base code (runs_of_delete marks base len) (log_of_delete marks base len) is
-    ∙ (ap (map run_of) (runs_then marks base len) ∙ map_append run_of (stops_in_runs marks base len) (Single (Did Bump) ∷ [])))
+    ∙ (ap (map run_of) (runs_then marks base len) ∙ map-append run_of (stops_in_runs marks base len) (Single (Did Bump) ∷ [])))
     ∙ (due_append v (map run_of (stops_in_runs marks base len)) (run_of (Single (Did Bump)) ∷ [])
     ∙ (append-nil (events_pending v (map run_of (stops_in_runs marks base len)))
     ∙ runs_read v (record no_details { base = base; len = len }) (stops_in_runs marks base len)
@@ -141,7 +135,7 @@ delete_runs_due v marks base len code lent now count is =
     (stop_runs v (record no_details { base = base; len = len }) (is_unmarked_at marks) (len / 32) base))))) in
     ap (λ (z : List Event). z ++ Retires base len ∷ [])
     (read ∙ ap (events_of_log (record no_details { base = base; len = len })) (sym (runs_entries marks base len v.base code v.code)))
-    ∙ (sym (events_append (record no_details { base = base; len = len }) (entries_in base code (stops_in_runs marks base len)) (Did Bump ∷ []))
+    ∙ (sym (log_append (record no_details { base = base; len = len }) (entries_in base code (stops_in_runs marks base len)) (Did Bump ∷ []))
     ∙ ap (events_of_log (record no_details { base = base; len = len }))
     (sym (entries_append base code (stops_in_runs marks base len) (Single (Did Bump) ∷ []))
     ∙ (ap (entries_in base code) (sym (runs_then marks base len)) ∙ is.entries)))

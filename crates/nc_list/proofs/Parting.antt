@@ -269,11 +269,6 @@ pub not_parted : {X : Type 0} (f : X → List Chunk) (p q : X) (o : Option X) �
     → MatchOption o (f q ≡ f p) (λ (v : X). AreParted (f p) (f q) (f v)) → f q ≡ f p
 not_parted {X = X} f p q o is so = subst (λ (z : Option X). MatchOption z (f q ≡ f p) (λ (v : X). AreParted (f p) (f q) (f v))) is so
 
--- a list without a member
-pub no_member : {X : Type 0} (xs : List X) → length xs ≡ 0 → xs ≡ []
-no_member [] is = refl
-no_member (x ∷ xs) is = absurd (omega (arith, is))
-
 -- where the others and this one have chunks, all have
 pub others_and_one : (parts : List (List Chunk)) (k : ℕ) → k < length parts → 0 < length (get_or parts k []) → OthersHaveSome parts k
     → HaveSome parts

@@ -1,15 +1,11 @@
 -- Elements written into the front of a buffer, one after the other.
-use Rattle.std.proofs.Common.{◌≡◌, ℕ, zero, suc, ◌+◌, ◌<◌, List, [], ◌∷◌, ◌++◌, length, set, drop, refl, ap, arith, sym, subst, ◌∙◌}
+use Rattle.std.proofs.Common.{◌≡◌, ℕ, ◌+◌, ◌<◌, List, [], ◌∷◌, ◌++◌, length, set, refl, ap, arith, sym, subst, ◌∙◌}
 use Rattle.std.specs.Prelude.{map}
-use Rattle.std.proofs.lemmas.List.{append-nil, length-map, map-append, length-append}
+use Rattle.std.proofs.lemmas.List.{drop_all, append-nil, length-map, map-append, length-append}
 use Rattle.nc_acts.specs.declared.acts.Entry.{Entry}
 use Rattle.nc_entries.specs.declared.act.NcAct.{NcAct}
 use Rattle.nc_entries.specs.Shown.{entry_of, over}
 use Rattle.nc_entries.specs.Written.{HasWritten}
-
-drop_none : {X : Type 0} (n : ℕ) → drop {A = X} n [] ≡ []
-drop_none zero = refl
-drop_none (suc n) = refl
 
 -- an element written behind the first ones of a buffer is one more of them
 pub over_more : {X : Type 0} (xs start : List X) (y : X) → length xs < length (over xs start)
@@ -17,7 +13,8 @@ pub over_more : {X : Type 0} (xs start : List X) (y : X) → length xs < length 
 over_more [] [] y lt = absurd (omega (arith, lt))
 over_more [] (s ∷ rest) y lt = refl
 over_more {X} (x ∷ xs) [] y lt =
-    absurd (omega (arith, lt, ap (λ (z : List X). length (x ∷ xs ++ z)) (drop_none (length (x ∷ xs))), ap (λ (z : List X). length z) (append-nil (x ∷ xs))))
+    let long = ap (λ (z : List X). length (x ∷ xs ++ z)) (drop_all (length (x ∷ xs)) [] (omega arith)) in
+    absurd (omega (arith, lt, long, ap (λ (z : List X). length z) (append-nil (x ∷ xs))))
 over_more (x ∷ xs) (s ∷ rest) y lt = ap (λ z. x ∷ z) (over_more xs rest y (omega (arith, lt)))
 
 -- an entry written behind the first ones of a buffer is one more of them

@@ -1,7 +1,7 @@
 -- Bytes that are whole instructions, the first of them taken off.
 use Rattle.std.proofs.Common.{◌≡◌, ℕ, zero, suc, ◌+◌, ◌-◌, ◌<◌, List, [], ◌∷◌, ◌++◌, length, take, drop, Option, Some, None, refl}
 use Rattle.std.proofs.Common.{sym, subst, ◌∙◌, ap, arith}
-use Rattle.std.proofs.lemmas.List.{length-append, length-drop, take-append-drop}
+use Rattle.std.proofs.lemmas.List.{length-append, length-drop, nil_from_length, take-append-drop}
 use Rattle.std.proofs.Math.Seq.{drop-append_seam}
 use Rattle.nc_decode.specs.declared.instruction.Instr.{Instr}
 use Rattle.nc_decode.specs.Front.{first_instruction}
@@ -15,22 +15,17 @@ use Rattle.nc_region.specs.Patch.{AreBytesOf, AreInstructions}
 pub no_bytes : AreBytesOf [] []
 no_bytes = record { spelled = λ before after p e. absurd (split_none before after p e); parts = refl }
 
--- a list of length 0 is empty
-pub empty_list : {X : Type 0} (xs : List X) → length xs ≡ 0 → xs ≡ []
-empty_list [] e = refl
-empty_list (x ∷ xs) e = absurd (omega arith)
-
 -- where there are no bytes there are no instructions
 pub none_of_none : (bytes : List ℕ) (news : List Piece) → length bytes ≡ 0 → AreBytesOf bytes news → news ≡ []
 none_of_none bytes news none b = none_after news b.spelled (sym (ap (λ (z : List ℕ). length z) b.parts) ∙ none)
 
 -- the empty list of bytes is a list of whole instructions
 pub instructions_none : (bytes : List ℕ) → length bytes ≡ 0 → AreInstructions bytes
-instructions_none bytes none = ([], subst (λ (z : List ℕ). AreBytesOf z []) (sym (empty_list bytes none)) no_bytes)
+instructions_none bytes none = ([], subst (λ (z : List ℕ). AreBytesOf z []) (sym (nil_from_length bytes none)) no_bytes)
 
 -- the first elements of a list, as many as it has, are the list
 take_all : (xs : List ℕ) (k : ℕ) → length xs ≡ k → take k xs ≡ xs
-take_all xs zero e = sym (empty_list xs e)
+take_all xs zero e = sym (nil_from_length xs e)
 take_all [] (suc k) e = refl
 take_all (x ∷ xs) (suc k) e = ap (λ (z : List ℕ). x ∷ z) (take_all xs k (omega (arith, e)))
 

@@ -2,7 +2,7 @@
 use Rattle.std.proofs.Common.{◌≡◌, ℕ, ◌-◌, List, [], ◌∷◌, ◌++◌, length, take, drop, Some, refl}
 use Rattle.std.proofs.Common.{sym, subst, ◌∙◌, ap, arith, append-nil}
 use Rattle.std.specs.Prelude.{IsTrue, ◌↔◌}
-use Rattle.std.proofs.lemmas.List.{length-append, length-take, length-drop, take_all}
+use Rattle.std.proofs.lemmas.List.{length-append, length-take, length-drop, nil_from_length, take_all}
 use Rattle.nc_decode.specs.declared.instruction.Instr.{Instr}
 use Rattle.nc_decode.specs.Front.{first_instruction}
 use Rattle.nc_decode.specs.Spelling.{Spells}
@@ -15,7 +15,7 @@ use Rattle.nc_text.specs.MarkedText.{MarkedText}
 use Rattle.nc_list.specs.declared.chunk.Chunk.{Chunk}
 use Rattle.nc_region.specs.Patch.{AreBytesOf, IsRun, SparesPair, GoWell, LeavesPairs, KeepsTargets}
 use Rattle.nc_region.specs.machinery.PatchSteps.{RunsAlong}
-use Rattle.nc_region.proofs.patching.NewInstructions.{empty_list, none_of_none, parted, spelled_cons}
+use Rattle.nc_region.proofs.patching.NewInstructions.{none_of_none, parted, spelled_cons}
 use Rattle.nc_region.proofs.patching.Sparing.{same_piece, spares_from, spares_to}
 use Rattle.nc_region.proofs.patching.Runs.{run_along}
 
@@ -33,7 +33,7 @@ one_spells : (bytes : List ℕ) (i : Instr) → IsOne bytes i → Spells bytes i
 one_spells bytes i o =
     let f = (exact bytes i).0 o.first in
     let n = spells_some f.front i f.spells in
-    let none : f.rest ≡ [] = empty_list f.rest
+    let none : f.rest ≡ [] = nil_from_length f.rest
     (omega (arith, o.only, n.0, ap (λ (z : List ℕ). length z) f.parts, length-append f.front f.rest)) in
     let all : bytes ≡ f.front = f.parts ∙ (ap (λ (z : List ℕ). f.front ++ z) none ∙ append-nil f.front) in
     subst (λ (z : List ℕ). Spells z i) (sym all) f.spells

@@ -1,11 +1,11 @@
 use Rattle.std.proofs.Common.{arith, List, length, map, sym, ap, ◌∙◌, subst}
 use Rattle.std.proofs.lemmas.Bool.{eqb-true, eqb-false}
-use Rattle.std.proofs.lemmas.List.{length-map}
+use Rattle.std.proofs.lemmas.List.{length-map, nil_from_length}
 use Rattle.std.proofs.lemmas.Result.{IfOk-from_err, IfOk-weaker}
 use Rattle.nc_list.specs.declared.chunk.Chunk.{Chunk}
 use Rattle.nc_list.specs.Chunks.{IsAscending}
 use Rattle.nc_list.specs.Parts.{HaveSome, IsPartFor, all_of}
-use Rattle.nc_list.proofs.Parting.{starts_many, no_member}
+use Rattle.nc_list.proofs.Parting.{starts_many}
 use Rattle.nc_list.proofs.parts.part_for_new.Goals as goal
 
 pub make_first-requires : goal.make_first-requires
@@ -13,8 +13,8 @@ make_first-requires g c =
     let none = eqb-true _ 0 (sym c.is_empty.ensures ∙ c.if-is_empty.true) in
     record {
       none = (
-        no_member c.args.parts.now.items (omega (arith, none, c.args.parts.now.ok.0)),
-        no_member c.args.starts.now.items (omega (
+        nil_from_length c.args.parts.now.items (omega (arith, none, c.args.parts.now.ok.0)),
+        nil_from_length c.args.starts.now.items (omega (
           arith,
           none,
           c.args.parts.now.ok.0,
@@ -26,7 +26,7 @@ make_first-requires g c =
 pub returns-then-is_empty : goal.returns-then-is_empty
 returns-then-is_empty g c =
     let none = eqb-true _ 0 (sym c.is_empty.ensures ∙ c.if-is_empty.true) in
-    let no_part = no_member c.args.parts.now.items (omega (arith, none, c.args.parts.now.ok.0)) in
+    let no_part = nil_from_length c.args.parts.now.items (omega (arith, none, c.args.parts.now.ok.0)) in
     record {
       all = c.make_first.ensures.all ∙ sym (ap (λ (z : List g.row.T.Denot). all_of (map g.T.Part.items z)) no_part);
       starts = c.make_first.ensures.starts;

@@ -1,11 +1,11 @@
 use Rattle.std.proofs.Common.{◌≡◌, ◌<◌, List, [], length, get_or, map, sym, ap, ◌∙◌, arith, subst}
 use Rattle.std.proofs.lemmas.Grind.{common_steps}
 use Rattle.std.specs.List.{remove}
-use Rattle.std.proofs.lemmas.List.{length-map}
+use Rattle.std.proofs.lemmas.List.{length-map, nil_from_length}
 use Rattle.nc_list.specs.declared.chunk.Chunk.{Chunk}
 use Rattle.nc_list.specs.Parts.{HaveSome, all_of, starts_of}
 use Rattle.nc_list.proofs.Pieces.{part_is}
-use Rattle.nc_list.proofs.Parting.{starts_many, map_remove, removed_all, removed_starts, removed_have, others_and_one, no_member}
+use Rattle.nc_list.proofs.Parting.{starts_many, map_remove, removed_all, removed_starts, removed_have, others_and_one}
 use Rattle.nc_list.proofs.parts.remove_empty.Given.{Over}
 use Rattle.nc_list.proofs.parts.remove_empty.Goals as goal
 
@@ -32,7 +32,7 @@ remove-requires-2 g c =
 none : (g : Over) (c : goal.After-remove-2 g) → get_or (map g.T.Part.items c.args.parts.now.items) c.args.k [] ≡ []
 none g c =
     sym (part_is g.T.Part.items c.args.parts.now.items c.args.k c.index.result.now c.requires.inside c.index.ensures)
-    ∙ no_member _ (sym c.len-2.ensures ∙ c.if-len-ne0.false)
+    ∙ nil_from_length _ (sym c.len-2.ensures ∙ c.if-len-ne0.false)
 
 inside : (g : Over) (c : goal.After-remove-2 g) → c.args.k < length (map g.T.Part.items c.args.parts.now.items)
 inside g c = omega (arith, c.requires.inside, length-map c.args.parts.now.items g.T.Part.items)
