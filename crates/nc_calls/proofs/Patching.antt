@@ -1,10 +1,10 @@
 -- The acts of a patch are allowed events.
 use Rattle.std.proofs.Common.{◌≡◌, ◌≢◌, ℕ, ◌+◌, ◌-◌, ◌<◌, ◌≤◌, Bool, true, false, cond, List, [], ◌∷◌, ◌++◌, length, set}
-use Rattle.std.proofs.Common.{get_or, take, drop, Option, Some, inl, inr, arith, refl, ◌∙◌, sym, ap, subst, ⊎_elim}
+use Rattle.std.proofs.Common.{get_or, Option, Some, inl, inr, arith, refl, ◌∙◌, sym, ap, subst, ⊎_elim}
 use Rattle.std.specs.Prelude.{Contains}
 use Rattle.std.proofs.lemmas.Bool.{cases_lt}
 use Rattle.std.proofs.lemmas.Bool.Decides.{eqb_tells}
-use Rattle.std.proofs.lemmas.List.{length-set, length-append, take-append-drop}
+use Rattle.std.proofs.lemmas.List.{length-set, length-append}
 use Rattle.nc_decode.specs.declared.instruction.Instr.{Instr}
 use Rattle.nc_decode.specs.declared.instruction.Mark.{Mark}
 use Rattle.nc_decode.specs.declared.instruction.Mark.TheVariants.{Plain, After}
@@ -27,7 +27,7 @@ use Rattle.nc_region.specs.machinery.PatchSteps.{Begins, IsReplacing, CanPatch}
 use Rattle.nc_region.specs.Region.{Region, IsLive, IsInChunk, IsRegion}
 use Rattle.nc_region.proofs.Offered.{Changes, changed, changed_holds, changed_text, changes_replace, region_patched}
 use Rattle.nc_region.proofs.Offered.{patch_final, single_span, span_behind, lies, turn, next_patch, spans_join, stands_same, same_stands}
-use Rattle.nc_region.proofs.Offered.{stands_with, some_same, each_get}
+use Rattle.nc_region.proofs.Offered.{stands_with, some_same, span_none, each_get}
 use Rattle.nc_calls.specs.Calls.{no_details}
 use Rattle.nc_calls.specs.Views.{IsFree, AreStopped}
 use Rattle.nc_calls.proofs.Deletion.{marked_state}
@@ -290,12 +290,6 @@ turn_leads w chunks at new r views false is = instruction_leads w chunks at new 
 -- bytes are instructions in one way
 same_news : (bytes : List ℕ) (xs ys : List Piece) → AreBytesOf bytes xs → AreBytesOf bytes ys → xs ≡ ys
 same_news bytes xs ys a b = same_pieces xs ys a.spelled b.spelled (sym a.parts ∙ b.parts)
-
--- a list with no element of a span set is the same
-span_none : (xs : List ℕ) (start : ℕ) → with_span xs start [] ≡ xs
-span_none xs start =
-    let e : start + 0 ≡ start = omega arith in
-    ap (λ (n : ℕ). take start xs ++ drop n xs) e ∙ take-append-drop start xs
 
 -- the mark of an instruction is a mark
 mark_is_mark : (i : Instr) → is_mark (mark_of i) ≡ true

@@ -28,7 +28,7 @@ pub use Rattle.nc_acts.proofs.Offered.{put_none, put_more, put_passed}
 pub use Rattle.nc_acts.proofs.Offered.{puts_append}
 pub use Rattle.nc_acts.proofs.Offered.{told_logged, deleted_acts}
 pub use Rattle.nc_region.proofs.deleting.Freed.{region_freed}
-pub use Rattle.nc_region.proofs.patching.NewInstructions.{Parted, parted, not_found, none_of_none, slice_rest, some_same}
+pub use Rattle.nc_region.proofs.patching.NewInstructions.{Parted, parted, not_found, none_of_none, slice_rest, some_same, span_none}
 pub use Rattle.nc_region.proofs.patching.Exchanging.{Where, Here, Earlier, Later, where_is}
 pub use Rattle.nc_region.proofs.events.Unmarking.{shut_if_quiet, freed_was}
 pub use Rattle.nc_region.proofs.events.Invariant.{Keeps, if_map}

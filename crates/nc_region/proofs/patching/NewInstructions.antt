@@ -7,6 +7,7 @@ use Rattle.nc_decode.specs.declared.instruction.Instr.{Instr}
 use Rattle.nc_decode.specs.Front.{first_instruction}
 use Rattle.nc_decode.specs.Spelling.{Spells}
 use Rattle.nc_decode.proofs.Offered.{exact, has_its_length, spells_some}
+use Rattle.nc_text.specs.MarkedText.{with_span}
 use Rattle.nc_vet.specs.Chunk.{Piece, code_of, AreSpelled}
 use Rattle.nc_vet.proofs.Offered.{spelled_after, split_none, none_after}
 use Rattle.nc_region.specs.Patch.{AreBytesOf, AreInstructions}
@@ -14,6 +15,12 @@ use Rattle.nc_region.specs.Patch.{AreBytesOf, AreInstructions}
 -- the empty list of bytes is that of no instructions
 pub no_bytes : AreBytesOf [] []
 no_bytes = record { spelled = λ before after p e. absurd (split_none before after p e); parts = refl }
+
+-- a list with no element of a span set is the same
+pub span_none : (xs : List ℕ) (start : ℕ) → with_span xs start [] ≡ xs
+span_none xs start =
+    let e : start + 0 ≡ start = omega arith in
+    ap (λ (n : ℕ). take start xs ++ drop n xs) e ∙ take-append-drop start xs
 
 -- where there are no bytes there are no instructions
 pub none_of_none : (bytes : List ℕ) (news : List Piece) → length bytes ≡ 0 → AreBytesOf bytes news → news ≡ []

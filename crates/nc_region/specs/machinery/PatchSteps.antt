@@ -12,10 +12,12 @@ use Rattle.nc_text.specs.Marks.{IsMarked, IsClosed, mark_at}
 use Rattle.nc_text.specs.MarkedText.{MarkedText, IsText, with_span}
 use Rattle.nc_text.specs.Ready.{AreReady}
 use Rattle.nc_list.specs.declared.chunk.Chunk.{Chunk}
+use Rattle.nc_acts.specs.declared.acts.Entry.{Entry}
+use Rattle.nc_acts.specs.Log.{Logs}
 use Rattle.nc_region.specs.Region.{HoldsValid, IsInChunk}
 use Rattle.nc_region.specs.declared.fault.ModifyFault.{ModifyFault}
 use Rattle.nc_region.specs.declared.fault.ModifyFault.TheVariants.{BadSpan, NotLive, NotPermitted, Boundaries, PairTouched, BadTarget}
-use Rattle.nc_region.specs.Patch.{AreBytesOf, AreInstructions, IsRunOf, IsRun, LeavesPairs, KeepsTargets}
+use Rattle.nc_region.specs.Patch.{AreBytesOf, AreInstructions, IsRunOf, IsRun, LeavesPairs, KeepsTargets, log_of_modify}
 
 -- The address lies in a chunk that holds valid code, and has this mark. The text is closed.
 pub record LiesInValid (marked : MarkedText) (c : Chunk) (at : ℕ) (mark : Mark) : Type 0 where
@@ -62,6 +64,15 @@ pub record CanPatch (marked : MarkedText) (c : Chunk) (at : ℕ) (new : List ℕ
   pub run : IsRunOf holds.valid.pieces c.base at new
   pub pairs : LeavesPairs run
   pub targets : KeepsTargets (limit_of marked.bytes) run
+
+-- These bytes have been put at the address in a chunk, which holds valid code. The marks are as before, the text is closed, and
+-- the entries of the patch are logged.
+pub record HasPatched (old new : MarkedText) (logged logged_now : List Entry) (c : Chunk) (at : ℕ) (put : List ℕ) : Type 0 where
+  pub bytes : new.bytes ≡ with_span old.bytes (at - 0x10000) put
+  pub marks : new.marks ≡ old.marks
+  pub whole : IsText new
+  pub holds : HoldsValid new c
+  pub log : (news : List Piece) → AreBytesOf put news → Logs logged logged_now (log_of_modify old.bytes at news)
 
 -- When a patch of a live chunk is refused with each fault: the first of these conditions that doesn't hold. The new bytes
 -- are whole permitted instructions; they fit in the place of instructions of the chunk; they leave its pairs alone; their

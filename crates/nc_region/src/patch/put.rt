@@ -3,7 +3,6 @@
 ghost use Rattle.std.specs.Prelude.{◌≡◌, ◌+◌, ◌-◌, ◌<◌, ◌≤◌, ℕ, List, [], ◌∷◌, ◌++◌, length, Some, if◌then◌else◌};
 ghost use Rattle.nc_decode.specs.declared.instruction.Instr.{Instr};
 ghost use Rattle.nc_decode.specs.Front.{first_instruction};
-ghost use Rattle.nc_vet.specs.Chunk.{Piece};
 ghost use Rattle.nc_text.specs.Marks.{IsClosed};
 ghost use Rattle.nc_text.specs.Places.{byte_at, limit_of};
 ghost use Rattle.nc_text.specs.Ready.{AreReady};
@@ -14,9 +13,8 @@ ghost use Rattle.nc_acts.specs.Log.{Logs, unsettled};
 ghost use Rattle.nc_acts.specs.Puts.{HasPut};
 ghost use Rattle.nc_acts.specs.declared.acts.Act.{Act};
 ghost use Rattle.nc_acts.specs.declared.acts.Entry.{Entry};
-ghost use Rattle.nc_region.specs.Region.{HoldsValid};
-ghost use Rattle.nc_region.specs.Patch.{AreBytesOf, stands_there, any_place, log_of_instruction, log_of_modify};
-ghost use Rattle.nc_region.specs.machinery.PatchSteps.{IsReplacing, CanReplace, IsInterim, CanPatch};
+ghost use Rattle.nc_region.specs.Patch.{stands_there, any_place, log_of_instruction};
+ghost use Rattle.nc_region.specs.machinery.PatchSteps.{IsReplacing, CanReplace, IsInterim, CanPatch, HasPatched};
 
 use crate::patch::judge::stands_there;
 use nc_acts::Acts;
@@ -30,14 +28,9 @@ pub(crate) fn put_patch<A: Acts>(acts: &mut A, chunk: Chunk, at: u32, new: &[u8]
     requires patch { CanPatch (A.marked acts.old) chunk at new.now }
     requires ends { at + length new.now ≤ chunk.base + chunk.length }
     requires ready { AreReady (A.made acts.old) at (length new.now) }
-    ensures bytes { (A.marked acts.new).bytes ≡ with_span (A.marked acts.old).bytes (at - 0x10000) new.now }
-    ensures marks { (A.marked acts.new).marks ≡ (A.marked acts.old).marks }
-    ensures whole { IsText (A.marked acts.new) }
+    ensures patched { HasPatched (A.marked acts.old) (A.marked acts.new) (A.logged acts.old) (A.logged acts.new) chunk at new.now }
     ensures made { A.made acts.new ≡ A.made acts.old }
     ensures keeper { A.keeper acts.new ≡ A.keeper acts.old }
-    ensures holds { HoldsValid (A.marked acts.new) chunk }
-    ensures log { (news : List Piece) → AreBytesOf new.now news
-        → Logs (A.logged acts.old) (A.logged acts.new) (log_of_modify (A.marked acts.old).bytes at news) }
 {
     if new.is_empty() {
         return;
@@ -136,14 +129,9 @@ pub(crate) fn put_single<A: Acts>(acts: &mut A, chunk: Chunk, at: u32, new: &[u8
     requires patch { CanPatch (A.marked acts.old) chunk at new.now }
     requires ready { AreReady (A.made acts.old) at (length new.now) }
     requires only { (i : Instr) × (first_instruction new.now ≡ Some i) × (i.len ≡ length new.now) }
-    ensures bytes { (A.marked acts.new).bytes ≡ with_span (A.marked acts.old).bytes (at - 0x10000) new.now }
-    ensures marks { (A.marked acts.new).marks ≡ (A.marked acts.old).marks }
-    ensures whole { IsText (A.marked acts.new) }
+    ensures patched { HasPatched (A.marked acts.old) (A.marked acts.new) (A.logged acts.old) (A.logged acts.new) chunk at new.now }
     ensures made { A.made acts.new ≡ A.made acts.old }
     ensures keeper { A.keeper acts.new ≡ A.keeper acts.old }
-    ensures holds { HoldsValid (A.marked acts.new) chunk }
-    ensures log { (news : List Piece) → AreBytesOf new.now news
-        → Logs (A.logged acts.old) (A.logged acts.new) (log_of_modify (A.marked acts.old).bytes at news) }
 {
     put_where_new(acts, at, new);
 }

@@ -25,27 +25,27 @@ put_where_new-requires g c =
       replacing = changes_replace marked c.args.chunk c.args.at patch.run.before (w.os ++ patch.run.after) w.o (piece_of new i) w.change;
     }
 
-pub returns-clause-holds : goal.returns-clause-holds
-returns-clause-holds g c =
+pub returns-clause-patched : goal.returns-clause-patched
+returns-clause-patched g c =
     let marked = g.A.Acts.marked c.args.acts.now in
     let patch = c.requires.patch in
     let i = c.requires.only.0 in
     let new = c.args.new.now in
     let o : IsOne c.args.new.now c.requires.only.0 = record { first = c.requires.only.1; only = c.requires.only.2 } in
     let w = turn marked c.args.chunk c.args.at new patch (piece_of new i) [] c.requires.whole (only_one new patch.run.news i o patch.run.bytes) in
-    subst (λ (m : MarkedText). HoldsValid m c.args.chunk)
-    (sym (same_code (g.A.Acts.marked c.put_where_new.new.acts) (changed marked c.args.at new)
-    c.put_where_new.ensures.bytes c.put_where_new.ensures.marks))
-    (changed_holds marked c.args.chunk c.args.at patch.run.before (w.os ++ patch.run.after) w.o (piece_of new i) w.change)
-
-pub returns-clause-log : goal.returns-clause-log
-returns-clause-log g c = λ news b.
-    let i = c.requires.only.0 in
-    let new = c.args.new.now in
     let text = (g.A.Acts.marked c.args.acts.now).bytes in
-    let o : IsOne c.args.new.now c.requires.only.0 = record { first = c.requires.only.1; only = c.requires.only.2 } in
-    let one : log_of_modify text c.args.at news ≡ cond (stands_there text c.args.at new) [] (log_of_instruction c.args.at new) =
-    ap (λ (z : List Piece). log_of_modify text c.args.at z) (only_one new news i o b)
-    ∙ append-nil (cond (stands_there text c.args.at new) [] (log_of_instruction c.args.at new)) in
-    subst (λ (z : List Entry). Logs (g.A.Acts.logged c.args.acts.now) (g.A.Acts.logged c.put_where_new.new.acts) z) (sym one)
-    c.put_where_new.ensures.log
+    record {
+      bytes = c.put_where_new.ensures.bytes;
+      marks = c.put_where_new.ensures.marks;
+      whole = c.put_where_new.ensures.whole;
+      holds = subst (λ (m : MarkedText). HoldsValid m c.args.chunk)
+          (sym (same_code (g.A.Acts.marked c.put_where_new.new.acts) (changed marked c.args.at new)
+          c.put_where_new.ensures.bytes c.put_where_new.ensures.marks))
+          (changed_holds marked c.args.chunk c.args.at patch.run.before (w.os ++ patch.run.after) w.o (piece_of new i) w.change);
+      log = λ news b.
+          (let one : log_of_modify text c.args.at news ≡ cond (stands_there text c.args.at new) [] (log_of_instruction c.args.at new) =
+          ap (λ (z : List Piece). log_of_modify text c.args.at z) (only_one new news i o b)
+          ∙ append-nil (cond (stands_there text c.args.at new) [] (log_of_instruction c.args.at new)) in
+          subst (λ (z : List Entry). Logs (g.A.Acts.logged c.args.acts.now) (g.A.Acts.logged c.put_where_new.new.acts) z) (sym one)
+          c.put_where_new.ensures.log);
+    }
