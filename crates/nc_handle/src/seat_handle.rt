@@ -1,8 +1,8 @@
 //! A seat, with a share of its table of generations.
 
-ghost use Rattle.std.specs.Prelude.{◌≡◌, ◌+◌, ◌≤◌};
+ghost use Rattle.std.specs.Prelude.{◌≡◌};
 ghost use Rattle.std.specs.Arc.{arc_value};
-ghost use Rattle.nc_gens.specs.Rule.{generation_taken, since_stored};
+ghost use Rattle.nc_gens.specs.Seen.{HasCheckedIn};
 
 use nc_gens::{Gens, Pass};
 use std::alloc::Global;
@@ -50,14 +50,7 @@ impl SeatHandle {
     /// It must be called while the seat's thread is outside the region: no contract here can state that, and reclaiming
     /// relies on it.
     pub fn check_in(&mut self)
-        ensures same { (self.new.table ≡ self.old.table) × (self.new.seat ≡ self.old.seat) }
-        // One load of the generation, and one store of it.
-        ensures steps { self.new.numbers
-            ≡ since_stored (generation_taken self.new.numbers.since self.old.numbers) }
-        ensures loads { self.new.numbers.loads ≡ self.old.numbers.loads + 1 }
-        ensures published { self.new.numbers.word ≡ self.new.numbers.since }
-        ensures rises { self.old.numbers.since ≤ self.new.numbers.since }
-        ensures catches_up { self.old.numbers.seen ≤ self.new.numbers.since }
+        ensures checked_in { HasCheckedIn self.old self.new }
     {
         self.gens.check_in(&mut self.pass);
     }

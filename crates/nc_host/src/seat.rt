@@ -1,6 +1,6 @@
 //! Seats by handles.
 
-ghost use Rattle.std.specs.Prelude.{◌≡◌, ◌+◌, ◌<◌, ◌≤◌, ◌⊎◌, None};
+ghost use Rattle.std.specs.Prelude.{◌≡◌, ◌<◌, None};
 ghost use Rattle.nc_gens.specs.Seen.{HasCheckedIn};
 ghost use Rattle.nc_host.specs.Handles.{IsDone};
 
