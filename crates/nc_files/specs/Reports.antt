@@ -33,7 +33,7 @@ judged_in part = record { base = part.base; name = part.source.name.items; code 
 -- the code is refused or not, and this is the report on it, for the region and in the style that are asked for
 abbrev pub ReportsCode : CheckAsk → Judged → Bool → List ℕ → Type 0
 ReportsCode ask judged refused text =
-    Reports (limit_after ask.bundles) judged.base ask.style judged.name judged.code refused text
+    Reports judged.base (limit_after ask.bundles) ask.style judged.name judged.code refused text
 
 -- the reports on all of these, in order; it is refused if any of them is
 abbrev pub ReportsEach : CheckAsk → List Judged → Bool → List ℕ → Type 0

@@ -12,7 +12,7 @@ use Rattle.nc_report.proofs.Appended.{three_added}
 
 -- an accepted source is reported
 pub accepted : (chunk : MarkedChunk) (s : Style) (name old out : List ℕ) → AddsAccepted old out s name chunk → old ≡ []
-    → ReportsAccepted chunk.limit chunk.base s name chunk.code out
+    → ReportsAccepted chunk.base chunk.limit s name chunk.code out
 accepted chunk s name old out a none = record {
   valid = (chunk.marks, a.valid);
   pieces = a.has.pieces;

@@ -99,7 +99,7 @@ ReportsFirst f base limit code classes fault own text =
 -- the beginning with the text about each fault, and the numbers, are the whole text about other faults
 pub others_reported : (f : Format) (limit base : ℕ) (code : List ℕ) (classes : List Class) (fault : VetFault) (own : ℕ) → HasClasses code classes
     → (a b : List ℕ) → ReportsFirst f base limit code classes fault own a → ReportsLast f base limit code classes b
-    → ReportsOthers f limit base code fault own (a ++ b)
+    → ReportsOthers f base limit code fault own (a ++ b)
 others_reported f limit base code classes fault own h a b (first, each, o, t, is) (last, d, e) = record {
   steps = h.steps;
   reading = h.reading;
@@ -121,7 +121,7 @@ none_shown Json = NoMembers
 
 -- the text about each fault can be completed to the whole text about other faults
 pub others_completed : (f : Format) (limit base : ℕ) (code : List ℕ) (classes : List Class) (fault : VetFault) (own : ℕ) → HasClasses code classes
-    → (a : List ℕ) → ReportsFirst f base limit code classes fault own a → (more : List ℕ) × ReportsOthers f limit base code fault own (a ++ more)
+    → (a : List ℕ) → ReportsFirst f base limit code classes fault own a → (more : List ℕ) × ReportsOthers f base limit code fault own (a ++ more)
 others_completed f limit base code classes fault own h a t =
     let last = counts_text f (counts_to base limit code classes (length code)) ++ [] in
     (last, others_reported f limit base code classes fault own h a last t ([], none_shown f, refl))

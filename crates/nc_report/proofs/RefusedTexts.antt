@@ -39,10 +39,10 @@ brief old new s base name fault is e = record {
 
 -- nothing more is reported unless it is asked for
 pub none_asked : (s : Style) (limit base : ℕ) (code : List ℕ) (fault : VetFault) → s.detail ≢ detail.All
-    → ReportsMore s.detail s.format limit base code fault []
+    → ReportsMore s.detail s.format base limit code fault []
 none_asked s limit base code fault other = none s.detail other
   where
-    none : (d : Detail) → d ≢ detail.All → ReportsMore d s.format limit base code fault []
+    none : (d : Detail) → d ≢ detail.All → ReportsMore d s.format base limit code fault []
     none Brief n = refl
     none Usual n = refl
     none Calls n = refl
@@ -50,12 +50,12 @@ none_asked s limit base code fault other = none s.detail other
 
 -- a text on a refused source, but for its end
 abbrev pub ReportsOpen : ℕ → ℕ → Style → List ℕ → List ℕ → List ℕ → Type 0
-ReportsOpen limit base s name code text = ReportsRefused limit base s name code (text ++ end_of s.format)
+ReportsOpen base limit s name code text = ReportsRefused base limit s name code (text ++ end_of s.format)
 
 -- the text on a fault, and what is reported further about it, are such a text
 pub open_text : (limit base : ℕ) (s : Style) (name code : List ℕ) (fault : VetFault) → HasFault base limit code fault → fault ≢ OutOfMemory
-    → (a b : List ℕ) → ReportsFault s.detail s.format base name fault a → ReportsMore s.detail s.format limit base code fault b
-    → ReportsOpen limit base s name code (a ++ b)
+    → (a b : List ℕ) → ReportsFault s.detail s.format base name fault a → ReportsMore s.detail s.format base limit code fault b
+    → ReportsOpen base limit s name code (a ++ b)
 open_text limit base s name code fault h real a b f m = record {
   fault = fault;
   has = h;
@@ -70,8 +70,8 @@ open_text limit base s name code fault h real a b f m = record {
 -- the text on a fault was added, and then what is reported further about it
 pub reported_open : (limit base : ℕ) (s : Style) (name code old out kept : List ℕ) (fault : VetFault) (before after : Option (List ℕ))
     → HasFault base limit code fault → (fault ≢ OutOfMemory) × Adds old out (ReportsFault s.detail s.format base name fault)
-    → WritesOn before after out kept (ReportsMore s.detail s.format limit base code fault)
-    → WritesOn before after old kept (ReportsOpen limit base s name code)
+    → WritesOn before after out kept (ReportsMore s.detail s.format base limit code fault)
+    → WritesOn before after old kept (ReportsOpen base limit s name code)
 reported_open limit base s name code old out kept fault before after h f w =
     writes_after before after old out kept _ _ _ (open_text limit base s name code fault h f.0) f.1 w
 
@@ -80,6 +80,6 @@ pub end_added : (s : Style) (kept all : List ℕ) → all ≡ kept ++ end_of s.f
 end_added s kept all e = record { text = end_of s.format; says = refl; added = e }
 
 -- with its end the text is whole
-pub whole : (limit base : ℕ) (s : Style) (name code a b : List ℕ) → ReportsOpen limit base s name code a → b ≡ end_of s.format
-    → ReportsRefused limit base s name code (a ++ b)
-whole limit base s name code a b t e = subst (λ (z : List ℕ). ReportsRefused limit base s name code (a ++ z)) (sym e) t
+pub whole : (limit base : ℕ) (s : Style) (name code a b : List ℕ) → ReportsOpen base limit s name code a → b ≡ end_of s.format
+    → ReportsRefused base limit s name code (a ++ b)
+whole limit base s name code a b t e = subst (λ (z : List ℕ). ReportsRefused base limit s name code (a ++ z)) (sym e) t

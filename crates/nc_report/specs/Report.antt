@@ -49,7 +49,7 @@ accepted_text detail format base name bytes instructions rows =
     ok_text format base name bytes instructions ++ (rows_text detail format rows ++ end_of format)
 
 -- the code is a valid chunk, and this is the text written for it, with the number of its instructions
-pub record ReportsAccepted (limit base : ℕ) (style : Style) (name code text : List ℕ) : Type 0 where
+pub record ReportsAccepted (base limit : ℕ) (style : Style) (name code text : List ℕ) : Type 0 where
   pub valid : IsValidAt base limit code
   pub pieces : List Piece
   pub spelled : AreSpelled pieces
@@ -106,7 +106,7 @@ counts_text Json counts = codes "]" ++ counts_member counts
 
 -- The text about all faults that reading a refused chunk finds: first the one at `own`, for which text has no further lines,
 -- then each other one, and then the numbers of all of them.
-pub record ReportsOthers (format : Format) (limit base : ℕ) (code : List ℕ) (fault : VetFault) (own : ℕ) (text : List ℕ) : Type 0 where
+pub record ReportsOthers (format : Format) (base limit : ℕ) (code : List ℕ) (fault : VetFault) (own : ℕ) (text : List ℕ) : Type 0 where
   pub steps : List Step
   pub reading : IsReading code steps
   pub first : List ℕ
@@ -119,26 +119,26 @@ pub record ReportsOthers (format : Format) (limit base : ℕ) (code : List ℕ) 
 
 -- the text about the other faults of a source that has this one, if they are asked for; none if the fault has no address
 abbrev pub ReportsMore : Detail → Format → ℕ → ℕ → List ℕ → VetFault → List ℕ → Type 0
-ReportsMore detail.All format limit base code fault text =
-    MatchOption (place_of fault) (text ≡ []) (λ at. ReportsOthers format limit base code fault (at - base) text)
-ReportsMore _ format limit base code fault text = text ≡ []
+ReportsMore detail.All format base limit code fault text =
+    MatchOption (place_of fault) (text ≡ []) (λ at. ReportsOthers format base limit code fault (at - base) text)
+ReportsMore _ format base limit code fault text = text ≡ []
 
 -- the code has a fault, which isn't lack of memory, and this is the text written for it
-pub record ReportsRefused (limit base : ℕ) (style : Style) (name code text : List ℕ) : Type 0 where
+pub record ReportsRefused (base limit : ℕ) (style : Style) (name code text : List ℕ) : Type 0 where
   pub fault : VetFault
   pub has : HasFault base limit code fault
   pub real : fault ≢ OutOfMemory
   pub first : List ℕ
   pub verdict : ReportsFault style.detail style.format base name fault first
   pub more : List ℕ
-  pub others : ReportsMore style.detail style.format limit base code fault more
+  pub others : ReportsMore style.detail style.format base limit code fault more
   pub written : text ≡ first ++ (more ++ end_of style.format)
 
 -- the code is refused or not, and this is the report on it
 abbrev pub Reports : ℕ → ℕ → Style → List ℕ → List ℕ → Bool → List ℕ → Type 0
-Reports limit base style name code refused text =
-    ((refused ≡ false) × ReportsAccepted limit base style name code text)
-    ⊎ ((refused ≡ true) × ReportsRefused limit base style name code text)
+Reports base limit style name code refused text =
+    ((refused ≡ false) × ReportsAccepted base limit style name code text)
+    ⊎ ((refused ≡ true) × ReportsRefused base limit style name code text)
 
 -- a text that satisfies `Says` was written
 pub record HasWritten (Says : List ℕ → Type 0) (before after : Option (List ℕ)) : Type 0 where

@@ -184,9 +184,9 @@ pub(crate) fn write_others<W: Write>(
     requires span { HasGoodSpan judged.now.base judged.now.limit (length judged.now.code.now) }
     requires within { own < length judged.now.code.now }
     ensures ok { OnOk result (WritesOn (W.contents writer.old) (W.contents writer.new) out.old.items out.new.items
-        (ReportsOthers format judged.now.limit judged.now.base judged.now.code.now fault own)) }
+        (ReportsOthers format judged.now.base judged.now.limit judged.now.code.now fault own)) }
     ensures cut { OnErr result (HasBegun
-        (After out.old.items (ReportsOthers format judged.now.limit judged.now.base judged.now.code.now fault own))
+        (After out.old.items (ReportsOthers format judged.now.base judged.now.limit judged.now.code.now fault own))
         (W.contents writer.old) (W.contents writer.new)) }
     ensures faults { IfErr result IsOfWriting }
 {

@@ -37,15 +37,15 @@ pub fn report<W: Write>(
 
     // Exactly the report on the source was written, and the result says whether the source is refused.
     ensures ok { IfOk result (λ refused. HasWritten
-        (Reports (limit_after bundles) base style source.name.items source.code.items refused)
+        (Reports base (limit_after bundles) style source.name.items source.code.items refused)
         (W.contents writer.old) (W.contents writer.new)) }
 
     // If the writer fails or memory runs out, nothing was written, or a prefix of a report on the source.
     ensures write_failed { IsErrOf result ReportFault.WriteFailed → HasBegun
-        (λ text. (refused : Bool) × Reports (limit_after bundles) base style source.name.items source.code.items refused text)
+        (λ text. (refused : Bool) × Reports base (limit_after bundles) style source.name.items source.code.items refused text)
         (W.contents writer.old) (W.contents writer.new) }
     ensures out_of_memory { IsErrOf result ReportFault.OutOfMemory → HasBegun
-        (λ text. (refused : Bool) × Reports (limit_after bundles) base style source.name.items source.code.items refused text)
+        (λ text. (refused : Bool) × Reports base (limit_after bundles) style source.name.items source.code.items refused text)
         (W.contents writer.old) (W.contents writer.new) }
 {
     if !is_region_size(bundles) {

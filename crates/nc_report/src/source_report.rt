@@ -133,9 +133,9 @@ fn report_accepted<W: Write>(
     style: Style,
     writer: &mut W,
 ) -> Result<(), ReportFault>
-    ensures ok { OnOk result (HasWritten (ReportsAccepted chunk.now.limit chunk.now.base style name.now chunk.now.code)
+    ensures ok { OnOk result (HasWritten (ReportsAccepted chunk.now.base chunk.now.limit style name.now chunk.now.code)
         (W.contents writer.old) (W.contents writer.new)) }
-    ensures cut { OnErr result (HasBegun (ReportsAccepted chunk.now.limit chunk.now.base style name.now chunk.now.code)
+    ensures cut { OnErr result (HasBegun (ReportsAccepted chunk.now.base chunk.now.limit style name.now chunk.now.code)
         (W.contents writer.old) (W.contents writer.new)) }
     ensures faults { IfErr result IsOfWriting }
 {
@@ -240,9 +240,9 @@ fn write_more<W: Write>(
 ) -> Result<(), ReportFault>
     requires { HasFault judged.now.base judged.now.limit judged.now.code.now fault }
     ensures ok { OnOk result (WritesOn (W.contents writer.old) (W.contents writer.new) out.old.items out.new.items
-        (ReportsMore style.detail style.format judged.now.limit judged.now.base judged.now.code.now fault)) }
+        (ReportsMore style.detail style.format judged.now.base judged.now.limit judged.now.code.now fault)) }
     ensures cut { OnErr result (HasBegun (After out.old.items
-        (ReportsMore style.detail style.format judged.now.limit judged.now.base judged.now.code.now fault)) (W.contents writer.old) (W.contents writer.new)) }
+        (ReportsMore style.detail style.format judged.now.base judged.now.limit judged.now.code.now fault)) (W.contents writer.old) (W.contents writer.new)) }
     ensures faults { IfErr result IsOfWriting }
 {
     match style.detail {
@@ -266,9 +266,9 @@ fn report_refused<W: Write>(
     writer: &mut W,
 ) -> Result<(), ReportFault>
     requires { HasFault judged.now.base judged.now.limit judged.now.code.now fault }
-    ensures ok { OnOk result (HasWritten (ReportsRefused judged.now.limit judged.now.base style name.now judged.now.code.now)
+    ensures ok { OnOk result (HasWritten (ReportsRefused judged.now.base judged.now.limit style name.now judged.now.code.now)
         (W.contents writer.old) (W.contents writer.new)) }
-    ensures cut { OnErr result (HasBegun (ReportsRefused judged.now.limit judged.now.base style name.now judged.now.code.now)
+    ensures cut { OnErr result (HasBegun (ReportsRefused judged.now.base judged.now.limit style name.now judged.now.code.now)
         (W.contents writer.old) (W.contents writer.new)) }
     ensures faults { IfErr result IsOfWriting }
 {
@@ -297,10 +297,10 @@ pub(crate) fn vet_and_report<W: Write>(
     style: Style,
     writer: &mut W,
 ) -> Result<bool, ReportFault>
-    ensures ok { IfOk result (λ refused. HasWritten (Reports limit base style source.name.items source.code.items refused)
+    ensures ok { IfOk result (λ refused. HasWritten (Reports base limit style source.name.items source.code.items refused)
         (W.contents writer.old) (W.contents writer.new)) }
     ensures cut { OnErr result (HasBegun
-        (λ text. (refused : Bool) × Reports limit base style source.name.items source.code.items refused text)
+        (λ text. (refused : Bool) × Reports base limit style source.name.items source.code.items refused text)
         (W.contents writer.old) (W.contents writer.new)) }
     ensures faults { IfErr result IsOfWriting }
 {

@@ -21,7 +21,7 @@ pub returns-clause-cut : goal.returns-clause-cut
 returns-clause-cut g c =
     let chunk = c.args.chunk.now in
     on_err_weaker c.write_last.result
-    (λ w. begun_written (ReportsAccepted chunk.limit chunk.base c.args.style c.args.name.now chunk.code) _ _ c.push_accepted.new.out.items w.0
+    (λ w. begun_written (ReportsAccepted chunk.base chunk.limit c.args.style c.args.name.now chunk.code) _ _ c.push_accepted.new.out.items w.0
     (accepted chunk c.args.style c.args.name.now _ _ c.in-Ok.ensures c.new-out.ensures.items)
     (subst (λ (xs : List ℕ). Appends (g.W.Write.contents c.args.writer.now) (g.W.Write.contents c.write_last.new.writer) (take w.0 xs))
     c.deref.ensures.value w.1))

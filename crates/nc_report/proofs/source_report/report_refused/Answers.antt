@@ -14,7 +14,7 @@ pub returns-in-Err-write_more-clause-cut : goal.returns-in-Err-write_more-clause
 returns-in-Err-write_more-clause-cut g c =
     let judged = c.args.judged.now in
     let style = c.args.style in
-    begun_alone (ReportsRefused judged.limit judged.base style c.args.name.now judged.code.now) _ _ _ c.new-out.ensures.items
+    begun_alone (ReportsRefused judged.base judged.limit style c.args.name.now judged.code.now) _ _ _ c.new-out.ensures.items
     (begun_later _ _ _ _ _ _ _
     (λ a b f m. (end_of style.format, open_text judged.limit judged.base style c.args.name.now judged.code.now c.args.fault c.requires c.in-Ok.ensures.0 a b f m))
     c.in-Ok.ensures.1 c.in-Err-write_more.ensures.cut)
@@ -23,8 +23,8 @@ pub returns-in-Err-push_end-clause-cut : goal.returns-in-Err-push_end-clause-cut
 returns-in-Err-push_end-clause-cut g c =
     let judged = c.args.judged.now in
     let style = c.args.style in
-    begun_alone (ReportsRefused judged.limit judged.base style c.args.name.now judged.code.now) _ _ _ c.new-out.ensures.items
-    (cut_here _ _ _ _ (ReportsOpen judged.limit judged.base style c.args.name.now judged.code.now) _ (λ text t. (end_of style.format, t))
+    begun_alone (ReportsRefused judged.base judged.limit style c.args.name.now judged.code.now) _ _ _ c.new-out.ensures.items
+    (cut_here _ _ _ _ (ReportsOpen judged.base judged.limit style c.args.name.now judged.code.now) _ (λ text t. (end_of style.format, t))
     (reported_open judged.limit judged.base style c.args.name.now judged.code.now _ _ _ c.args.fault _ _ c.requires c.in-Ok.ensures c.in-Ok-write_more.ensures.ok))
 
 pub returns-clause-ok : goal.returns-clause-ok
@@ -32,7 +32,7 @@ returns-clause-ok g c =
     let judged = c.args.judged.now in
     let style = c.args.style in
     on_ok_weaker c.write_last.result
-    (λ all. written_alone (ReportsRefused judged.limit judged.base style c.args.name.now judged.code.now) _ _ _ c.new-out.ensures.items
+    (λ all. written_alone (ReportsRefused judged.base judged.limit style c.args.name.now judged.code.now) _ _ _ c.new-out.ensures.items
     (writes_more _ _ _ _ _ _ [] _ _ _ _ (whole judged.limit judged.base style c.args.name.now judged.code.now)
     (reported_open judged.limit judged.base style c.args.name.now judged.code.now _ _ _ c.args.fault _ _ c.requires c.in-Ok.ensures c.in-Ok-write_more.ensures.ok)
     (end_added style _ _ c.in-Ok-push_end.ensures)
@@ -45,11 +45,11 @@ returns-clause-cut g c =
     let judged = c.args.judged.now in
     let style = c.args.style in
     on_err_weaker c.write_last.result
-    (λ w. begun_alone (ReportsRefused judged.limit judged.base style c.args.name.now judged.code.now) _ _ _ c.new-out.ensures.items
+    (λ w. begun_alone (ReportsRefused judged.base judged.limit style c.args.name.now judged.code.now) _ _ _ c.new-out.ensures.items
     (cut_in _ _ _ _ _ _ w.0 _ _ _
     (λ a b t e. (
       [],
-      subst (ReportsRefused judged.limit judged.base style c.args.name.now judged.code.now) (sym (append-nil (a ++ b)))
+      subst (ReportsRefused judged.base judged.limit style c.args.name.now judged.code.now) (sym (append-nil (a ++ b)))
           (whole judged.limit judged.base style c.args.name.now judged.code.now a b t e),
     ))
     (reported_open judged.limit judged.base style c.args.name.now judged.code.now _ _ _ c.args.fault _ _ c.requires c.in-Ok.ensures c.in-Ok-write_more.ensures.ok)

@@ -11,20 +11,20 @@ use Rattle.nc_report.proofs.source_report.write_more.Goals as goal
 
 -- what is reported further about a fault with an address is the text about the other faults
 reported_at : (f : Format) (limit base at : ℕ) (code : List ℕ) (fault : VetFault) → place_of fault ≡ Some at
-    → ReportsMore All f limit base code fault ≡ ReportsOthers f limit base code fault (at - base)
+    → ReportsMore All f base limit code fault ≡ ReportsOthers f base limit code fault (at - base)
 reported_at f limit base at code fault e =
-    ap (λ (o : Option ℕ). λ (text : List ℕ). MatchOption o (text ≡ []) (λ at. ReportsOthers f limit base code fault (at - base) text)) e
+    ap (λ (o : Option ℕ). λ (text : List ℕ). MatchOption o (text ≡ []) (λ at. ReportsOthers f base limit code fault (at - base) text)) e
 
 pub returns-in_default-clause-ok : goal.returns-in_default-clause-ok
 returns-in_default-clause-ok g c =
     let judged = c.args.judged.now in
-    writes_none _ _ (ReportsMore c.args.style.detail c.args.style.format judged.limit judged.base judged.code.now c.args.fault)
+    writes_none _ _ (ReportsMore c.args.style.detail c.args.style.format judged.base judged.limit judged.code.now c.args.fault)
     (none_asked c.args.style judged.limit judged.base judged.code.now c.args.fault (λ e. c.in_default.not-All e))
 
 pub returns-in_default-place_of-clause-ok : goal.returns-in_default-place_of-clause-ok
 returns-in_default-place_of-clause-ok g c =
     let judged = c.args.judged.now in
-    writes_none _ _ (ReportsMore c.args.style.detail c.args.style.format judged.limit judged.base judged.code.now c.args.fault)
+    writes_none _ _ (ReportsMore c.args.style.detail c.args.style.format judged.base judged.limit judged.code.now c.args.fault)
     (rw (c.in-All.is, sym c.place_of.ensures ∙ c.in_default-place_of.is) refl)
 
 pub write_others-requires-clause-span : goal.write_others-requires-clause-span
