@@ -2,21 +2,22 @@
 use Rattle.std.proofs.Common.{◌≡◌, ◌≢◌, ℕ, zero, suc, ◌+◌, ◌-◌, ◌/◌, ◌%◌, ◌<◌, ◌≤◌, Bool, true, false, List, [], ◌∷◌, ◌++◌, length, take, drop, get_or, slice_index, replicate, nat_lt, get_or-append-add, get_or-take, get_or-drop, take-append-drop}
 use Rattle.std.proofs.Common.{refl, sym, subst, ◌∙◌, ap, arith, inl, inr, append_assoc, append-nil, Option, Some, None, ◌==◌, cond, All, eqb-true, ne_eqb, eq-eqb}
 use Rattle.std.proofs.lemmas.Bool.{cases_lt, le-ltb, lt-ltb}
-use Rattle.std.proofs.lemmas.List.{length-append, length-drop, length-take-le, drop-drop, drop_at, get_or_default, get_or_append_left, nil_from_length, take_more, replicate-append-replicate, get_or_past, drop_all}
+use Rattle.std.proofs.lemmas.List.{length-append, drop-drop, drop_at, get_or_default, get_or_append_left, nil_from_length, take_more, replicate-append-replicate}
 use Rattle.nc_decode.specs.declared.automaton.TheConstants.{STATES, END, AFTER_PAIR}
 use Rattle.nc_decode.specs.declared.instruction.Instr.{Instr}
 use Rattle.nc_decode.specs.Automaton.{next_state, masked_at, LeadsToEnd, Ends}
 use Rattle.nc_decode.specs.Spelling.{IsAtFront}
 use Rattle.nc_decode.specs.Transfers.{is_indirect}
 use Rattle.nc_decode.proofs.Offered.{spells_some, reads_by_states, none_is_paired, next_small, cond_is_true, cond_is_false}
-use Rattle.nc_vet.proofs.Offered.{front_cut}
+use Rattle.nc_vet.specs.States.{states_after, bundle_at, AreStates}
+use Rattle.nc_vet.proofs.Offered.{front_cut, length-states_after, bundle_size}
 use Rattle.nc_reading.specs.declared.class.Class.{Class}
 use Rattle.nc_reading.specs.declared.class.Class.TheVariants.{Inside, Entry, Second}
 use Rattle.nc_reading.specs.declared.steps.Found.TheVariants.{Sound}
 use Rattle.nc_reading.specs.declared.steps.Step.{Step}
 use Rattle.nc_reading.specs.Reading.{IsStep, class_of, step_classes, masked_by}
 use Rattle.nc_reading.specs.machinery.Seen.{HasSeenTo, HasFilled}
-use Rattle.nc_reading.specs.machinery.FastPath.{states_after, class_by, classes_by, HasRead}
+use Rattle.nc_reading.specs.machinery.FastPath.{class_by, classes_by, bundle_classes}
 use Rattle.nc_reading.proofs.ReadSteps.{extent_of, one_step, some_after}
 
 -- the state after all of some bytes
@@ -218,52 +219,38 @@ reads (suc fuel) code at m masked done bs rest few some here whole low small las
 
 -- a bundle is read by the automaton to its end
 pub bundle_read : (code : List ℕ) (at : ℕ) (masked : Option ℕ) (done : List Class) → at % 32 ≡ 0 → at + 32 ≤ length code
-    → ((k : ℕ) → get_or code k 0 < 256) → END ≤ last_state END (take 32 (drop at code)) → HasSeenTo code at masked done
-    → HasSeenTo code (at + 32) None (done ++ classes_by END (states_after END (take 32 (drop at code))))
+    → ((k : ℕ) → get_or code k 0 < 256) → END ≤ last_state END (bundle_at code at) → HasSeenTo code at masked done
+    → HasSeenTo code (at + 32) None (done ++ bundle_classes code at)
 bundle_read code at masked done start room fits last seen =
-    let bs = take 32 (drop at code) in
-    let long : length bs ≡ 32 = length-take-le 32 (drop at code) (omega (arith, room, length-drop at code)) in
-    subst (λ (k : ℕ). HasSeenTo code k None (done ++ classes_by END (states_after END bs))) {x = at + length bs} (omega (arith, long))
+    let bs = bundle_at code at in
+    let long : length bs ≡ 32 = bundle_size code at room in
+    subst (λ (k : ℕ). HasSeenTo code k None (done ++ bundle_classes code at)) {x = at + length bs} (omega (arith, long))
     (reads 32 code at END masked done bs (drop 32 (drop at code)) (omega (arith, long)) (omega (arith, long)) (sym (take-append-drop 32 (drop at code)))
     (omega (arith, long, start)) (omega arith) (omega arith) last (λ r h. absurd cc)
     (λ k lt. omega (arith, get_or-take 32 (drop at code) k 0 (omega (arith, lt, long)), get_or-drop at code k 0, fits (at + k)))
     (some_after code at (omega (arith, room))) seen)
 
--- the size of a bundle
-pub bundle_size : (code : List ℕ) (at : ℕ) → at + 32 ≤ length code → length (take 32 (drop at code)) ≡ 32
-bundle_size code at room = length-take-le 32 (drop at code) (omega (arith, room, length-drop at code))
-
--- a byte of a bundle
-pub bundle_byte : (code : List ℕ) (at i : ℕ) → i < 32 → get_or (take 32 (drop at code)) i 0 ≡ get_or code (at + i) 0
-bundle_byte code at i lt = get_or-take 32 (drop at code) i 0 lt ∙ get_or-drop at code i 0
-
 -- the classes of a bundle that is read to its end are written
 pub bundle_filled : (code : List ℕ) (at : ℕ) (masked : Option ℕ) (classes new : List Class) → at % 32 ≡ 0 → at + 32 ≤ length code
-    → ((k : ℕ) → get_or code k 0 < 256) → END ≤ get_or (states_after END (take 32 (drop at code))) 31 0
+    → ((k : ℕ) → get_or code k 0 < 256) → END ≤ get_or (states_after END (bundle_at code at)) 31 0
     → ((front after : List Class) → length front ≡ at → classes ≡ front ++ (replicate 32 Inside ++ after)
-    → new ≡ front ++ (classes_by END (states_after END (take 32 (drop at code))) ++ after))
+    → new ≡ front ++ (bundle_classes code at ++ after))
     → HasFilled code at masked classes → HasFilled code (at + 32) None new
 bundle_filled code at masked classes new start room fits last put h =
     let more = length code - (at + 32) in
-    let bs = take 32 (drop at code) in
-    let own = classes_by END (states_after END bs) in
+    let bs = bundle_at code at in
     let ended : END ≤ last_state END bs
     = subst (λ (s : ℕ). END ≤ s) (last_of END bs 31 (omega (arith, bundle_size code at room))) last in
     record {
-      done = h.done ++ own;
+      done = h.done ++ bundle_classes code at;
       seen = bundle_read code at masked h.done start room fits ended h.seen;
       is = put h.done (replicate more Inside) h.seen.each
           (h.is ∙ ap (λ (k : ℕ). h.done ++ replicate k Inside) {x = length code - at} {y = 32 + more} (omega (arith, room))
           ∙ ap (λ (z : List Class). h.done ++ z) (sym (replicate-append-replicate 32 more Inside)))
-          ∙ sym (append_assoc h.done own (replicate more Inside));
+          ∙ sym (append_assoc h.done (bundle_classes code at) (replicate more Inside));
     }
 
--- ---- a lane
-
--- there are as many states as bytes
-length-states_after : (s : ℕ) (bs : List ℕ) → length (states_after s bs) ≡ length bs
-length-states_after s [] = refl
-length-states_after s (b ∷ bs) = ap (λ (n : ℕ). suc n) (length-states_after (next_state s b) bs)
+-- ---- the classes of a bundle
 
 -- there are as many classes as states
 length-classes_by : (s : ℕ) (states : List ℕ) → length (classes_by s states) ≡ length states
@@ -271,30 +258,21 @@ length-classes_by s [] = refl
 length-classes_by s (t ∷ states) = ap (λ (n : ℕ). suc n) (length-classes_by t states)
 
 -- there are as many classes as bytes
-pub length-classes : (bs : List ℕ) → length (classes_by END (states_after END bs)) ≡ length bs
-length-classes bs = length-classes_by END (states_after END bs) ∙ length-states_after END bs
+pub length-classes : (code : List ℕ) (at : ℕ) → at + 32 ≤ length code → length (bundle_classes code at) ≡ 32
+length-classes code at room =
+    length-classes_by END (states_after END (bundle_at code at)) ∙ length-states_after END (bundle_at code at) ∙ bundle_size code at room
 
--- what a lane has at the end of a bundle
-pub lane_at : (bytes states : List ℕ) (state k : ℕ) → length bytes ≡ 32 → HasRead bytes 32 state states
-    → get_or states k 0 ≡ get_or (END ∷ states_after END bytes) k 0
-lane_at bytes states state k size h = elim (cases_lt k 33) [
-  | inl lt ↦ sym (get_or-take 33 states k 0 lt) ∙ ap (λ (z : List ℕ). get_or z k 0) first
-  | inr le ↦
-      past le
-      ∙ sym (get_or_past (END ∷ states_after END bytes) k 0 (omega (arith, le, length-states_after END bytes, size)))
-]
-  where
-    first : take 33 states ≡ END ∷ states_after END bytes
-    first =
-        sym (append-nil (take 33 states))
-        ∙ ap (λ (z : List ℕ). take 33 states ++ states_after state z) (sym (drop_all 32 bytes (omega (arith, size))))
-        ∙ h.so_far
+-- a list with a 0 after it
+before_zero : (xs : List ℕ) (k : ℕ) → get_or (xs ++ 0 ∷ []) k 0 ≡ get_or xs k 0
+before_zero [] zero = refl
+before_zero [] (suc k) = refl
+before_zero (x ∷ xs) zero = refl
+before_zero (x ∷ xs) (suc k) = before_zero xs k
 
-    past : 33 ≤ k → get_or states k 0 ≡ 0
-    past from = elim (cases_lt 33 k) [
-      | inl lt ↦ get_or_past states k 0 (omega (arith, lt, h.long))
-      | inr le ↦ ap (λ (n : ℕ). get_or states n 0) {x = k} {y = 33} (omega (arith, le, from)) ∙ h.end
-    ]
+-- the states of a bundle, without the 0 after them
+pub state_at : (code : List ℕ) (at : ℕ) (states : List ℕ) (k : ℕ) → AreStates code at states
+    → get_or states k 0 ≡ get_or (END ∷ states_after END (bundle_at code at)) k 0
+state_at code at states k h = ap (λ (z : List ℕ). get_or z k 0) h ∙ before_zero (END ∷ states_after END (bundle_at code at)) k
 
 -- the class of a byte, by what stands beside it
 class_at : (s : ℕ) (states : List ℕ) (k : ℕ) → k < length states
@@ -306,15 +284,17 @@ class_at s (t ∷ states) (suc k) lt =
     ∙ ap (λ (n : ℕ). class_by (get_or (t ∷ states) k 0) (get_or (s ∷ t ∷ states) n 0)) {x = suc (k + 2)} {y = suc k + 2} (omega arith)
 
 -- one class more
-pub class_more : (bytes states : List ℕ) (state k before next : ℕ) → length bytes ≡ 32 → HasRead bytes 32 state states → k < 32
+pub class_more : (code : List ℕ) (at : ℕ) (states : List ℕ) (k before next : ℕ) → at + 32 ≤ length code → AreStates code at states → k < 32
     → before ≡ get_or states k 0 → next ≡ get_or states (k + 2) 0
-    → take k (classes_by END (states_after END bytes)) ++ class_by before next ∷ [] ≡ take (k + 1) (classes_by END (states_after END bytes))
-class_more bytes states state k before next size h lt b n =
-    let all = classes_by END (states_after END bytes) in
-    ap (λ (p : ℕ). take k all ++ class_by p next ∷ []) (b ∙ lane_at bytes states state k size h)
-    ∙ ap (λ (q : ℕ). take k all ++ class_by (get_or (END ∷ states_after END bytes) k 0) q ∷ []) (n ∙ lane_at bytes states state (k + 2) size h)
-    ∙ ap (λ (v : Class). take k all ++ v ∷ []) (sym (class_at END (states_after END bytes) k (omega (arith, lt, size, length-states_after END bytes))))
-    ∙ sym (take_more all k Inside (omega (arith, lt, size, length-classes bytes)))
+    → take k (bundle_classes code at) ++ class_by before next ∷ [] ≡ take (k + 1) (bundle_classes code at)
+class_more code at states k before next room h lt b n =
+    let all = bundle_classes code at in
+    let after = states_after END (bundle_at code at) in
+    ap (λ (p : ℕ). take k all ++ class_by p next ∷ []) (b ∙ state_at code at states k h)
+    ∙ ap (λ (q : ℕ). take k all ++ class_by (get_or (END ∷ after) k 0) q ∷ []) (n ∙ state_at code at states (k + 2) h)
+    ∙ ap (λ (v : Class). take k all ++ v ∷ [])
+    (sym (class_at END after k (omega (arith, lt, length-states_after END (bundle_at code at), bundle_size code at room))))
+    ∙ sym (take_more all k Inside (omega (arith, lt, length-classes code at room)))
 
 -- what is masked at the place where the reading begins, and after it
 pub masked_at_start : (at : ℕ) (masked : Option ℕ) → masked ≡ cond (at == at) masked None

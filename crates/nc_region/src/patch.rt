@@ -1,18 +1,14 @@
 //! A patch of a live chunk: judged first, then made.
 
-ghost use Rattle.std.specs.Prelude.{◌≡◌, ◌+◌, ◌-◌, ◌≤◌, ◌<◌, List, length, Some, IfSome, OnOk, OnErr, IfErr, IsTrue, IsFalse};
+ghost use Rattle.std.specs.Prelude.{◌≡◌, ◌+◌, ◌≤◌, length, Some, IfSome, OnOk, OnErr, IfErr, IsTrue, IsFalse};
 ghost use Rattle.nc_decode.specs.declared.instruction.Instr.{Instr};
 ghost use Rattle.nc_decode.specs.Front.{first_instruction};
-ghost use Rattle.nc_vet.specs.Chunk.{Piece};
 ghost use Rattle.nc_text.specs.Marks.{mark_at};
 ghost use Rattle.nc_text.specs.Places.{InRegion};
 ghost use Rattle.nc_text.specs.Ready.{AreReady};
-ghost use Rattle.nc_text.specs.MarkedText.{MarkedText, IsText, with_span};
-ghost use Rattle.nc_list.specs.declared.chunk.Chunk.{Chunk};
-ghost use Rattle.nc_acts.specs.Log.{Logs};
-ghost use Rattle.nc_region.specs.Region.{HoldsValid};
-ghost use Rattle.nc_region.specs.Patch.{AreBytesOf, IsRun, log_of_modify};
-ghost use Rattle.nc_region.specs.machinery.PatchSteps.{CanPatch, LiesInValid, MayRefuseIn};
+ghost use Rattle.nc_text.specs.MarkedText.{IsText};
+ghost use Rattle.nc_region.specs.Patch.{IsRun};
+ghost use Rattle.nc_region.specs.machinery.PatchSteps.{CanPatch, HasPatched, LiesInValid, MayRefuseIn};
 
 mod judge;
 mod put;
@@ -49,10 +45,8 @@ pub(crate) fn patch<A: Acts>(
     requires ends { at + length new.now ≤ chunk.base + chunk.length }
     requires ready { AreReady (A.made acts.old) at (length new.now) }
     ensures can { OnOk result (CanPatch (A.marked acts.old) chunk at new.now) }
-    ensures bytes { OnOk result ((A.marked acts.new).bytes ≡ with_span (A.marked acts.old).bytes (at - 0x10000) new.now) }
-    ensures holds { OnOk result (HoldsValid (A.marked acts.new) chunk) }
-    ensures log { OnOk result ((news : List Piece) → AreBytesOf new.now news
-        → Logs (A.logged acts.old) (A.logged acts.new) (log_of_modify (A.marked acts.old).bytes at news)) }
+    ensures patched { OnOk result
+        (HasPatched (A.marked acts.old) (A.marked acts.new) (A.logged acts.old) (A.logged acts.new) chunk at new.now) }
     ensures marks { (A.marked acts.new).marks ≡ (A.marked acts.old).marks }
     ensures whole { IsText (A.marked acts.new) }
     ensures made { A.made acts.new ≡ A.made acts.old }

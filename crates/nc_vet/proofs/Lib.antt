@@ -10,6 +10,7 @@ pub mod OneVerdict
 pub mod Scanning
 pub mod LaneBits
 pub mod RunStates
+pub mod BundleStates
 pub mod EightRuns
 pub mod BitPlaces
 pub mod GoodOffsets

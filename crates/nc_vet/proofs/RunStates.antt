@@ -1,21 +1,21 @@
 -- The states after the bytes of bundles, one by one.
 use Rattle.std.proofs.Common.{◌≡◌, ◌≢◌, ℕ, zero, suc, ◌+◌, ◌-◌, ◌*◌, ◌/◌, ◌%◌, ◌^◌, ◌<◌, ◌≤◌, Bool, true, false, List, [], ◌∷◌, ◌++◌}
-use Rattle.std.proofs.Common.{length, take, drop, get_or, set, refl, sym, subst, ◌∙◌, ap, arith, inl, inr, ◌==◌, eqb-true, eq-eqb}
-use Rattle.std.proofs.Common.{leb-true, nat_le}
-use Rattle.std.specs.Prelude.{slice_set, slice_index}
+use Rattle.std.proofs.Common.{length, take, drop, get_or, refl, sym, subst, ◌∙◌, ap, arith, inl, inr, ◌==◌, eqb-true, eq-eqb}
+use Rattle.std.proofs.Common.{leb-true}
+use Rattle.std.specs.Prelude.{slice_index}
 use Rattle.std.specs.Int.{bit_at, w32, leading_zeros}
 use Rattle.std.specs.Int.Count.{leading_of_zero}
 use Rattle.std.proofs.lemmas.Nat.{leading_top}
 use Rattle.std.proofs.Math.Nat.{div-eq_of_lt-le, pow-succ'}
 use Rattle.std.proofs.lemmas.Bool.{cases_lt, eqb-false}
-use Rattle.std.proofs.lemmas.List.{length-drop, length-take-le, take_more, get_or-take, get_or-drop, get_or-set_same, get_or-set_other, length-take}
-use Rattle.std.proofs.lemmas.List.{length-set, get_or_append_left, get_or-append_right, length-append}
-use Rattle.nc_decode.specs.declared.automaton.TheConstants.{END, AFTER_SHORT, AFTER_NEAR, AFTER_PAIR}
+use Rattle.std.proofs.lemmas.List.{length-drop, length-take-le, take_more, get_or-take, get_or-drop, length-take}
+use Rattle.std.proofs.lemmas.List.{get_or_append_left, get_or-append_right, length-append}
+use Rattle.nc_decode.specs.declared.automaton.TheConstants.{END}
 use Rattle.nc_decode.specs.Automaton.{next_state}
 use Rattle.nc_decode.proofs.Offered.{true_or_false}
 use Rattle.nc_decode.specs.declared.bundle.Bundle.{Bundle}
 use Rattle.nc_decode.specs.Bits.{no_bits}
-use Rattle.nc_vet.specs.machinery.Running.{run, state_after, state_before, TellsStates, entered, HasRun, TellsBundle, AreTold, EndsFront}
+use Rattle.nc_vet.specs.machinery.Running.{run, state_after, state_before, entered, TellsBundle, AreTold, EndsFront}
 
 -- a run over some bytes and one more leads to the next state by that byte
 run_more : (s : ℕ) (bs : List ℕ) (b : ℕ) → run s (bs ++ b ∷ []) ≡ next_state (run s bs) b
@@ -74,49 +74,6 @@ entered_some code at i some = elim (true_or_false (i == 0)) [
   | inl none ↦ absurd (omega (arith, some, eqb-true i 0 none))
   | inr other ↦ rw other refl
 ]
-
--- a run goes on by one more byte of its bundle
-pub run_on : (code : List ℕ) (at i state byte : ℕ) (states : List ℕ) → at % 32 ≡ 0 → i < 32 → at + i < length code
-    → HasRun code at i state states → byte ≡ get_or code (at + i) 0
-    → HasRun code at (i + 1) (next_state state byte) (slice_set states i (next_state state byte))
-run_on code at i state byte states start lt in_code h is =
-    let next : next_state state byte ≡ state_after code (at + i) =
-    ap (λ (b : ℕ). next_state state b) is
-    ∙ ap (λ (s : ℕ). next_state s (get_or code (at + i) 0)) (h.now ∙ entered_before code at i start lt)
-    ∙ sym (state_next code (at + i) in_code) in
-    record {
-      now = next ∙ ap (λ (k : ℕ). state_after code k) (omega arith) ∙ sym (entered_some code at (i + 1) (omega arith));
-      each = λ k k-lt. elim (cases_lt k i) [
-        | inl earlier ↦ get_or-set_other states i k (next_state state byte) 0 (λ e. omega (arith, e, earlier)) ∙ h.each k earlier
-        | inr here ↦
-            (let same : k ≡ i = omega (arith, here, k-lt) in
-            ap (λ (j : ℕ). get_or (set states i (next_state state byte)) j 0) same
-            ∙ get_or-set_same states i (next_state state byte) 0 (omega (arith, h.long, lt)) ∙ next
-            ∙ ap (λ (j : ℕ). state_after code (at + j)) (sym same))
-      ];
-      long = length-set states i (next_state state byte) ∙ h.long;
-    }
-
--- a run goes on by one more byte of its bundle, by what a step has left
-pub run_stepped : (code : List ℕ) (at i state byte after : ℕ) (states more : List ℕ) → at % 32 ≡ 0 → i < 32 → at + i < length code
-    → HasRun code at i state states → byte ≡ get_or code (at + i) 0
-    → after ≡ next_state state byte → more ≡ slice_set states i (next_state state byte)
-    → HasRun code at (i + 1) after more
-run_stepped code at i state byte after states more start lt in_code h is to set_is =
-    let w = run_on code at i state byte states start lt in_code h is in
-    subst (λ (z : List ℕ). HasRun code at (i + 1) after z) (sym set_is)
-    (subst (λ (s : ℕ). HasRun code at (i + 1) s (slice_set states i (next_state state byte))) (sym to) w)
-
--- a run over all of a bundle tells the bundle's bits
-pub run_told : (code : List ℕ) (at i state : ℕ) (states : List ℕ) (w : Bundle) → i ≡ 32 → HasRun code at i state states
-    → TellsStates states w → TellsBundle code at w
-run_told code at i state states w end h t = record {
-  ends = λ k lt. t.ends k lt ∙ ap (λ (s : ℕ). nat_le END s) (h.each k (omega (arith, lt, end)));
-  pairs = λ k lt. t.pairs k lt ∙ ap (λ (s : ℕ). s == AFTER_PAIR) (h.each k (omega (arith, lt, end)));
-  shorts = λ k lt. t.shorts k lt ∙ ap (λ (s : ℕ). s == AFTER_SHORT) (h.each k (omega (arith, lt, end)));
-  nears = λ k lt. t.nears k lt ∙ ap (λ (s : ℕ). s == AFTER_NEAR) (h.each k (omega (arith, lt, end)));
-  small = t.small;
-}
 
 -- a bundle told at a place is told at an equal place
 pub moved : (code : List ℕ) (j k : ℕ) (w : Bundle) → j ≡ k → TellsBundle code j w → TellsBundle code k w

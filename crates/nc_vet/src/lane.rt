@@ -1,42 +1,118 @@
-//! Runs the automaton over one bundle.
+//! Runs the automaton over bundles.
 
-ghost use Rattle.std.specs.Prelude.{◌≡◌, ◌<◌, ◌≤◌, ℕ, ◌==◌, length, nat_le, slice_index, slice_set, replicate};
+ghost use Rattle.std.specs.Prelude.{◌≡◌, ◌<◌, ◌≤◌, ◌+◌, ◌%◌, ℕ, List, ◌==◌, length, get_or, nat_le, slice_index, slice_set};
 ghost use Rattle.std.specs.Int.{bit_at};
 ghost use Rattle.nc_decode.specs.Automaton.{next_state};
-ghost use Rattle.nc_vet.specs.machinery.Running.{TellsStates};
+ghost use Rattle.nc_vet.specs.States.{bundle_at, AreStates};
+ghost use Rattle.nc_vet.specs.machinery.Running.{TellsStates, TellsBundle, HasRead};
 
 use nc_decode::{AFTER_NEAR, AFTER_PAIR, AFTER_SHORT, Bundle, END, Row};
 use std::simd::prelude::*;
 
-/// The states after each of the first bytes of a bundle, and the last of these states.
+/// The states of the automaton over one bundle.
+///
+/// Element 0 is the state before the first byte, and element `k + 1` is the state after byte `k`. The last element is 0, which is no
+/// state after an instruction.
+pub type States = [u8; 34];
+
+/// The automaton over one bundle.
 #[derive(Drop)]
-pub(crate) struct Lane {
-    pub(crate) state: Row,
-    pub(crate) states: [u8; 32],
+struct Lane {
+    /// The state after the last byte that is read.
+    state: Row,
+    /// The states up to that byte, and 0 after them.
+    states: States,
 }
 
 impl Lane {
-    /// Before the first byte: each bundle begins in the state after an instruction that masks nothing.
+    /// A lane before its first byte.
     #[inline(always)]
-    pub(crate) fn new() -> Lane
-        ensures { result ≡ record { state = END; states = replicate 32 0 } }
+    fn new() -> Lane
+        ensures { (bytes : List ℕ) → HasRead bytes 0 result.state result.states }
     {
+        let mut states = [0; 34];
+        states[0] = END;
         Lane {
             state: Row::start(),
-            states: [0; 32],
+            states,
         }
     }
 
-    /// Reads one more byte, byte `i` of the bundle.
+    /// Reads this byte, byte `i` of the bundle.
     #[inline(always)]
-    pub(crate) fn step(&mut self, i: usize, byte: u8)
+    fn read(&mut self, i: usize, byte: u8)
         requires place { i < 32 }
-        ensures state { self.new.state ≡ next_state self.old.state byte }
-        ensures states { self.new.states ≡ slice_set self.old.states i (next_state self.old.state byte) }
+        ensures { (bytes : List ℕ) → length bytes ≡ 32 → byte ≡ get_or bytes i 0 → HasRead bytes i self.old.state self.old.states
+            → HasRead bytes (i + 1) self.new.state self.new.states }
     {
         self.state = self.state.next(byte);
-        self.states[i] = self.state.state();
+        self.states[i + 1] = self.state.state();
     }
+
+    /// Reads byte `i` of the bundle at this place of the code.
+    #[inline(always)]
+    fn step(&mut self, code: &[u8], at: usize, i: usize)
+        requires place { i < 32 }
+        requires room { at + 32 ≤ length code.now }
+        ensures { HasRead (bundle_at code.now at) i self.old.state self.old.states
+            → HasRead (bundle_at code.now at) (i + 1) self.new.state self.new.states }
+    {
+        self.read(i, code[at + i]);
+    }
+}
+
+/// The states of the bundle at place `at`.
+#[inline(always)]
+pub fn run_one(code: &[u8], at: usize) -> States
+    requires room { at + 32 ≤ length code.now }
+    ensures { AreStates code.now at result }
+{
+    let mut lane = Lane::new();
+    for i in 0..32 {
+        lane.step(code, at, i);
+    }
+    lane.states
+}
+
+/// The states of the two bundles from place `at` on.
+#[inline(always)]
+pub(crate) fn run_two(code: &[u8], at: usize) -> (States, States)
+    requires room { at + 64 ≤ length code.now }
+    ensures first { AreStates code.now at result.0 }
+    ensures second { AreStates code.now (at + 32) result.1 }
+{
+    let mut a = Lane::new();
+    let mut b = Lane::new();
+    for i in 0..32 {
+        a.step(code, at, i);
+        b.step(code, at + 32, i);
+    }
+    (a.states, b.states)
+}
+
+/// The states of the four bundles at these places.
+///
+/// The bundles are read in lock step. Each state depends on the one before, so a lane mostly waits, and four of them take little
+/// longer than one.
+#[inline(always)]
+pub fn run_four(code: &[u8], at: [usize; 4]) -> (States, States, States, States)
+    requires room { (n : ℕ) → n < 4 → get_or at n 0 + 32 ≤ length code.now }
+    ensures first { AreStates code.now (get_or at 0 0) result.0 }
+    ensures second { AreStates code.now (get_or at 1 0) result.1 }
+    ensures third { AreStates code.now (get_or at 2 0) result.2 }
+    ensures fourth { AreStates code.now (get_or at 3 0) result.3 }
+{
+    let mut a = Lane::new();
+    let mut b = Lane::new();
+    let mut c = Lane::new();
+    let mut d = Lane::new();
+    for i in 0..32 {
+        a.step(code, at[0], i);
+        b.step(code, at[1], i);
+        c.step(code, at[2], i);
+        d.step(code, at[3], i);
+    }
+    (a.states, b.states, c.states, d.states)
 }
 
 /// Reads one more byte in a state; returns the state after it, which is stored at a place.
@@ -76,12 +152,12 @@ fn ended(states: u8x32) -> u32
     bits(states.simd_ge(u8x32::splat(END)).to_bitmask())
 }
 
-/// The bits of a bundle that one lane has read.
+/// The bits of a bundle, by its states.
 #[inline(always)]
-pub(crate) fn bundle_bits(lane: &Lane) -> Bundle
-    ensures { TellsStates lane.now.states result }
+pub(crate) fn bundle_bits(states: &States) -> Bundle
+    ensures { (code : List ℕ) (at : ℕ) → at % 32 ≡ 0 → at + 32 ≤ length code → AreStates code at states.now → TellsBundle code at result }
 {
-    bits_of_states(&lane.states)
+    bits_of_states(&states[1..])
 }
 
 /// The bits of a bundle, by the states after its bytes, which are the first of these.

@@ -5,7 +5,7 @@ ghost use Rattle.std.specs.Int.{bit_at};
 ghost use Rattle.nc_decode.specs.Bits.{no_bits};
 ghost use Rattle.nc_vet.specs.machinery.Running.{TellsBundle, AreEightRuns, AreTold, EndsFront};
 
-use crate::lane::{Lane, bits_of_states, bundle_bits, step_at};
+use crate::lane::{bits_of_states, bundle_bits, run_four, run_one, run_two, step_at};
 use nc_decode::{Bundle, Row};
 use std::alloc::Global;
 
@@ -94,11 +94,7 @@ fn read_one(code: &[u8], at: usize) -> Bundle
     requires room { at + 32 ≤ length code.now }
     ensures { TellsBundle code.now at result }
 {
-    let mut a = Lane::new();
-    for i in 0..32 {
-        a.step(i, code[at + i]);
-    }
-    bundle_bits(&a)
+    bundle_bits(&run_one(code, at))
 }
 
 /// The bits of the two bundles from place `at` on.
@@ -109,12 +105,7 @@ fn read_two(code: &[u8], at: usize) -> (Bundle, Bundle)
     ensures first { TellsBundle code.now at result.0 }
     ensures second { TellsBundle code.now (at + 32) result.1 }
 {
-    let mut a = Lane::new();
-    let mut b = Lane::new();
-    for i in 0..32 {
-        a.step(i, code[at + i]);
-        b.step(i, code[at + 32 + i]);
-    }
+    let (a, b) = run_two(code, at);
     (bundle_bits(&a), bundle_bits(&b))
 }
 
@@ -128,19 +119,8 @@ fn read_four(code: &[u8], at: usize) -> [Bundle; FEW_LANES]
     ensures { (n : ℕ) → n < 4 → at + 32 * n < length code.now → TellsBundle code.now (at + 32 * n) (get_or result n no_bits) }
 {
     let last = code.len() - 32;
-    let second = last.min(at + 32);
-    let third = last.min(at + 64);
-    let fourth = last.min(at + 96);
-    let mut a = Lane::new();
-    let mut b = Lane::new();
-    let mut c = Lane::new();
-    let mut d = Lane::new();
-    for i in 0..32 {
-        a.step(i, code[at + i]);
-        b.step(i, code[second + i]);
-        c.step(i, code[third + i]);
-        d.step(i, code[fourth + i]);
-    }
+    let places = [at, last.min(at + 32), last.min(at + 64), last.min(at + 96)];
+    let (a, b, c, d) = run_four(code, places);
     [
         bundle_bits(&a),
         bundle_bits(&b),

@@ -15,7 +15,8 @@
 //! Which call to use: [`vet`] takes a chunk and returns a [`Vetted`], which is valid and stays so, or the chunk and its
 //! [`VetFault`]. [`judge`] does the same in place, for callers that keep the bytes. `law_of_verdicts` does nothing; its
 //! contract says that a chunk has one verdict, and that code splits into instructions in at most one way. `law_of_profiles`
-//! does nothing either; its contract says that a chunk that was valid before instructions were added is still valid.
+//! does nothing either; its contract says that a chunk that was valid before instructions were added is still valid. [`run_one`]
+//! and [`run_four`] run the automaton over bundles, for readers of code that isn't valid.
 //!
 //! ```
 //! // One bundle of nops in a region that ends at 00010040.
@@ -40,6 +41,7 @@ mod vetted;
 mod vetting;
 
 pub use fault::VetFault;
+pub use lane::{States, run_four, run_one};
 pub use law::{law_of_profiles, law_of_verdicts};
 pub use marks::Marks;
 pub use nc_decode::{Bundle, Mark};

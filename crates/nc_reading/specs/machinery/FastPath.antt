@@ -1,15 +1,10 @@
 -- Machinery of the proofs, cited by no public contract: the classes of a bundle by the states of the automaton.
-use Rattle.std.specs.Prelude.{◌≡◌, ℕ, ◌+◌, ◌≤◌, Option, None, List, [], ◌∷◌, ◌++◌, length, take, drop, get_or, ◌==◌, nat_lt, slice_index, if◌then◌else◌}
+use Rattle.std.specs.Prelude.{◌≡◌, ℕ, ◌≤◌, Option, None, List, [], ◌∷◌, length, ◌==◌, nat_lt, slice_index, if◌then◌else◌}
 use Rattle.nc_decode.specs.declared.automaton.TheConstants.{END, AFTER_PAIR}
-use Rattle.nc_decode.specs.Automaton.{next_state}
+use Rattle.nc_vet.specs.States.{states_after, bundle_at}
 use Rattle.nc_reading.specs.declared.class.Class.{Class}
 use Rattle.nc_reading.specs.declared.class.Class.TheVariants.{Inside, Entry, Second}
 use Rattle.nc_reading.specs.machinery.Seen.{HasFilled}
-
--- the state after each of some bytes, from a state on
-abbrev pub states_after : ℕ → List ℕ → List ℕ
-states_after s [] = []
-states_after s (b ∷ bs) = next_state s b ∷ states_after (next_state s b) bs
 
 -- the class of a byte, by the state before it and the state after the byte that follows it
 abbrev pub class_by : ℕ → ℕ → Class
@@ -20,12 +15,9 @@ abbrev pub classes_by : ℕ → List ℕ → List Class
 classes_by before [] = []
 classes_by before (s ∷ states) = class_by before (slice_index states 0) ∷ classes_by s states
 
--- the first i bytes of a bundle are read: `states` has the state before the first of them, the state after each, and a 0 at its
--- end, and `state` is the state after the last
-pub record HasRead (bytes : List ℕ) (i state : ℕ) (states : List ℕ) : Type 0 where
-  pub so_far : take (i + 1) states ++ states_after state (drop i bytes) ≡ END ∷ states_after END bytes
-  pub long : length states ≡ 34
-  pub end : get_or states 33 0 ≡ 0
+-- the classes of the bytes of the bundle that begins at a place of the code, if an instruction ends at its end
+abbrev pub bundle_classes : List ℕ → ℕ → List Class
+bundle_classes code at = classes_by END (states_after END (bundle_at code at))
 
 -- If `old` has the classes of the bytes before a place, `new` has those of the bytes before `end`, which is that place or
 -- a later one.

@@ -1,10 +1,11 @@
 -- Running the automaton over bundles; machinery of the proofs, cited by no public contract.
-use Rattle.std.specs.Prelude.{◌≡◌, ◌≢◌, ℕ, ◌+◌, ◌-◌, ◌*◌, ◌%◌, ◌^◌, ◌<◌, ◌≤◌, List, [], ◌∷◌, length, take, drop, get_or, slice_index}
+use Rattle.std.specs.Prelude.{◌≡◌, ◌≢◌, ℕ, ◌+◌, ◌-◌, ◌*◌, ◌%◌, ◌^◌, ◌<◌, ◌≤◌, List, [], ◌∷◌, ◌++◌, length, take, drop, get_or, slice_index}
 use Rattle.std.specs.Prelude.{◌==◌, nat_le, if◌then◌else◌, ⊤}
 use Rattle.std.specs.Int.{bit_at}
 use Rattle.nc_decode.specs.declared.automaton.TheConstants.{END, AFTER_SHORT, AFTER_NEAR, AFTER_PAIR}
 use Rattle.nc_decode.specs.Automaton.{next_state}
 use Rattle.nc_decode.specs.declared.bundle.Bundle.{Bundle}
+use Rattle.nc_vet.specs.States.{states_after}
 use Rattle.nc_vet.specs.declared.marks.Marks.{Marks}
 use Rattle.nc_vet.specs.declared.marks.Marks.TheVariants.{Bits, Each}
 use Rattle.nc_decode.specs.Bits.{no_bits}
@@ -34,11 +35,12 @@ pub record TellsStates (states : List ℕ) (w : Bundle) : Type 0 where
 abbrev pub entered : List ℕ → ℕ → ℕ → ℕ
 entered code at i = if i == 0 then END else state_after code (at + i - 1)
 
--- `state` and `states` are those after the first i bytes of the bundle that begins at place `at`
-pub record HasRun (code : List ℕ) (at i state : ℕ) (states : List ℕ) : Type 0 where
-  pub now : state ≡ entered code at i
-  pub each : (k : ℕ) → k < i → get_or states k 0 ≡ state_after code (at + k)
-  pub long : length states ≡ 32
+-- the first i bytes of a bundle are read: `states` has the state before the first of them, the state after each, and a 0 at its
+-- end, and `state` is the state after the last
+pub record HasRead (bytes : List ℕ) (i state : ℕ) (states : List ℕ) : Type 0 where
+  pub so_far : take (i + 1) states ++ states_after state (drop i bytes) ≡ END ∷ states_after END bytes
+  pub long : length states ≡ 34
+  pub end : get_or states 33 0 ≡ 0
 
 -- `last` are the states of eight bundles, the first of which begins at place `at`, after the first i bytes of each, and `states`
 -- those after each of these bytes, 32 for each bundle

@@ -118,10 +118,10 @@ invariant_of-self-2 g c =
     (record {
       region = c.self.invariant.0;
       held = held;
-      holds = c.in_default-patch.ensures.holds;
+      holds = c.in_default-patch.ensures.patched.holds;
       whole = c.patch.ensures.whole;
       bytes_are =
-          c.in_default-patch.ensures.bytes;
+          c.in_default-patch.ensures.patched.bytes;
       marks_are = c.patch.ensures.marks;
       low = l.low;
       high = omega (arith, l.high);
@@ -138,7 +138,7 @@ returns-clause-acts g c = λ news are.
     let text = (g.A.Acts.marked c.self.inside.acts).bytes in
     rw (← c.self.view_is)
     (told_logged (g.A.Acts.logged c.self.inside.acts) (g.A.Acts.logged c.patch.new.acts) (log_of_modify text c.args.at news)
-    (acts_of_modify text c.args.at news) (modified_acts text c.args.at news) (c.in_default-patch.ensures.log news are))
+    (acts_of_modify text c.args.at news) (modified_acts text c.args.at news) (c.in_default-patch.ensures.patched.log news are))
 
 pub returns-clause-lawful : goal.returns-clause-lawful
 returns-clause-lawful g c =

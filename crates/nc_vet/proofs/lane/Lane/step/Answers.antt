@@ -1,6 +1,6 @@
 use Rattle.std.proofs.Common.{sym}
-use Rattle.nc_reading.proofs.BundleReading.{bundle_size, bundle_byte}
-use Rattle.nc_reading.proofs.fast_path.Lane.step.Goals as goal
+use Rattle.nc_vet.proofs.BundleStates.{bundle_size, bundle_byte}
+use Rattle.nc_vet.proofs.lane.Lane.step.Goals as goal
 
 pub returns : goal.returns
 returns c =

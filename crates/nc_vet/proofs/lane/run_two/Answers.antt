@@ -1,0 +1,23 @@
+use Rattle.std.proofs.Common.{◌≡◌, ◌+◌, arith, rules}
+use Rattle.nc_vet.proofs.BundleStates.{all_read}
+use Rattle.nc_vet.proofs.lane.run_two.Goals as goal
+
+pub loop-i-init : goal.loop-i-init
+loop-i-init c = record {
+  a = c.new-a.ensures _;
+  b = c.new-b.ensures _;
+}
+
+pub loop-i-preserved : goal.loop-i-preserved
+loop-i-preserved c = search rules
+
+pub returns : goal.returns
+returns c =
+    let code = c.args.code.now in
+    let at = c.args.at in
+    let i = c.loop-i.i in
+    let all : i ≡ 32 = omega (arith, c.loop-i-test.false, c.loop-i.auto.i-end) in
+    record {
+      first = all_read code at i _ _ (omega (arith, c.requires.room)) all c.loop-i.invariant.a;
+      second = all_read code (at + 32) i _ _ (omega (arith, c.requires.room)) all c.loop-i.invariant.b;
+    }
