@@ -171,10 +171,10 @@ extern "C" {
 #define NC_MASKED(reg) (16u + (reg)) /* an indirect transfer by this register */
 
 /* The kinds of an NcAct. Fields that a kind doesn't name are 0. No call writes 4 or 5. */
-#define NC_PUT 1u    /* put the byte `value` at the address `at` */
-#define NC_MARK 2u   /* the `value` addresses from `at` on get the chunk's marks; for a host that keeps marks */
-#define NC_BUMP 3u   /* draw a stamp */
-#define NC_SETTLE 6u /* make every processor that runs a thread of the host serialize */
+#define NC_PUT 1u       /* put the byte `value` at the address `at` */
+#define NC_MARK 2u      /* the `value` addresses from `at` on get the chunk's marks; for a host that keeps marks */
+#define NC_BUMP 3u      /* draw a stamp */
+#define NC_SERIALIZE 6u /* make every processor that runs a thread of the host serialize */
 
 /* A run puts a byte at `at` + k for each set bit k of `value`, the lowest first. Only the two calls for runs write them. */
 #define NC_PUT_RUN 7u  /* of the chunk's bytes */
@@ -315,7 +315,7 @@ NcSegments nc_host_elf(const uint8_t *file, size_t file_len, NcSegment *segments
                   join, or a SeqCst atomic.
       Handles     An empty handle is refused with NC_NO_HANDLE, before other faults. A call that fills a handle refuses one that isn't empty
                   with NC_HANDLE_TAKEN, even before that. A call without a result does nothing to an empty handle.
-      Changes     A creation or a patch is a call of a history (LogsCall). A change writes its acts, settlings included, which are then
+      Changes     A creation or a patch is a call of a history (LogsCall). A change writes its acts, serializations included, which are then
                   pending in the host's memory (ReportsPending). Once they are made, and a deletion has ended, the memory has the region's
                   bytes. `at` is 0, except for faults 4 to 7 [at]. A call that reads or writes runs never changes the region [same].
       Buffers     A buffer is refused with NC_NO_ROOM if a change of this length can need a longer one. But with a length of 0 the change is

@@ -46,9 +46,9 @@ static void put_act(uint8_t *text, const NcAct *act, const uint8_t *code, uint32
     }
 }
 
-/* Every processor that runs a thread of this process serializes. A call that failed was no settling, and the change can't be left half
+/* Every processor that runs a thread of this process serializes. A call that failed was no serialization, and the change can't be left half
    made: where there is no memory for a moment it is called again. */
-static void settle(void) {
+static void serialize(void) {
     while (syscall(SYS_membarrier, MEMBARRIER_CMD_PRIVATE_EXPEDITED_SYNC_CORE, 0, 0) != 0) {
         must(errno == ENOMEM, "membarrier failed, which the system had granted");
         (void)sched_yield();
@@ -60,8 +60,8 @@ static void make(Live *live, const NcAct *acts, size_t count, const Chunk *chunk
     size_t i;
     __atomic_add_fetch(&live->changes, 1, __ATOMIC_SEQ_CST);
     for (i = 0; i < count; i++) {
-        if (acts[i].kind == NC_SETTLE) {
-            settle();
+        if (acts[i].kind == NC_SERIALIZE) {
+            serialize();
         } else {
             put_act(live->writable, &acts[i], chunk != NULL ? chunk->code : NULL, chunk != NULL ? chunk->base : 0);
         }

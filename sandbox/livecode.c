@@ -148,14 +148,14 @@ static int map_twice(NcsModule *m, int file) {
     return m->selector != 0;
 }
 
-static int can_settle(void) {
+static int can_serialize(void) {
     return syscall(SYS_membarrier, MEMBARRIER_CMD_REGISTER_PRIVATE_EXPEDITED_SYNC_CORE, 0, 0) == 0;
 }
 
 /* No call that may end the thread is made under the lock. */
 static int make_text(NcsModule *m, NcsRefusal *why) {
     int file, made;
-    if (!can_settle()) {
+    if (!can_serialize()) {
         ncs_refuse(why, NCS_BAD_SYSTEM, "the system has no membarrier that makes processors serialize");
         return 0;
     }

@@ -460,7 +460,7 @@ inline bool is_known(const NcAct &act, std::uint32_t base, Bytes code) noexcept 
     if (act.kind == NC_PUT_RUN) {
         return act.at >= base && code.size() >= NC_BUNDLE && act.at - base <= code.size() - NC_BUNDLE;
     }
-    return act.kind == NC_PUT || act.kind == NC_MARK || act.kind == NC_BUMP || act.kind == NC_SETTLE || act.kind == NC_STOP_RUN;
+    return act.kind == NC_PUT || act.kind == NC_MARK || act.kind == NC_BUMP || act.kind == NC_SERIALIZE || act.kind == NC_STOP_RUN;
 }
 
 /* Calls `put(k)` for each bit k of a run, in ascending order. */
@@ -476,7 +476,7 @@ void visit_run(std::uint32_t bits, Put put) {
 } // namespace detail
 
 /*
- * Goes through acts in their order, and through the puts of a run one by one. It calls visitor.put(at, byte), visitor.settle(),
+ * Goes through acts in their order, and through the puts of a run one by one. It calls visitor.put(at, byte), visitor.serialize(),
  * visitor.mark(at, length) and visitor.bump(). `code` is the code of the chunk at `base`, and the source of the bytes of NC_PUT_RUN. Only
  * nc_region_creation_runs writes such acts. Returns false, and calls nothing, if nc_host.h doesn't name an act's kind, or if a run needs
  * bytes that `code` doesn't have. It makes no call of the library. The host holds its lock around making the acts.
@@ -499,8 +499,8 @@ template <class Visitor>
         case NC_STOP_RUN:
             detail::visit_run(act.value, [&](std::uint32_t k) { visitor.put(act.at + k, static_cast<std::uint8_t>(NC_STOP)); });
             break;
-        case NC_SETTLE:
-            visitor.settle();
+        case NC_SERIALIZE:
+            visitor.serialize();
             break;
         case NC_MARK:
             visitor.mark(act.at, act.value);

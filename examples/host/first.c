@@ -21,7 +21,7 @@ static void make(const char *name, NcChange change) {
     for (i = 0; i < change.count && change.fault == NC_OK; i++) {
         if (acts[i].kind == NC_PUT) {
             __atomic_store_n(&memory[acts[i].at - NC_START], (uint8_t)acts[i].value, __ATOMIC_SEQ_CST);
-        } else if (acts[i].kind == NC_SETTLE) {
+        } else if (acts[i].kind == NC_SERIALIZE) {
             /* Here each processor that runs a thread of the host would serialize: membarrier, on Linux. */
         }
     }

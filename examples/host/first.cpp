@@ -30,7 +30,7 @@ class Memory : public nc::PutsOnly {
     void put(std::uint32_t at, std::uint8_t byte) { bytes_[at - NC_START].store(byte, std::memory_order_seq_cst); }
 
     // Here each processor that runs a thread of the host would serialize: membarrier, on Linux.
-    void settle() {}
+    void serialize() {}
 
     void show(const char *name, nc::Fault fault) const {
         std::printf("%s: %s; memory begins %02x %02x\n", name, fault.sentence(), unsigned(bytes_[0]), unsigned(bytes_[1]));

@@ -106,9 +106,9 @@ static void *run(void *given) {
 
 /* ---- The writer */
 
-/* A host that interprets the code has settled once each of its threads has been between two instructions. So this waits until no thread is
-   still at an instruction at which it was when this was called. */
-static void settle(void) {
+/* A host that interprets the code has serialized once each of its threads has been between two instructions. So this waits until no thread
+   is still at an instruction at which it was when this was called. */
+static void serialize(void) {
     int i;
     for (i = 0; i < THREADS; i++) {
         uint32_t turns = __atomic_load_n(&inside[i].turns, __ATOMIC_SEQ_CST);
@@ -127,8 +127,8 @@ static void make(NcChange change) {
     for (i = 0; i < change.count; i++) {
         if (acts[i].kind == NC_PUT) {
             __atomic_store_n(&memory[acts[i].at - NC_START], (uint8_t)acts[i].value, __ATOMIC_SEQ_CST);
-        } else if (acts[i].kind == NC_SETTLE) {
-            settle();
+        } else if (acts[i].kind == NC_SERIALIZE) {
+            serialize();
         }
     }
 }

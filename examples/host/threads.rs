@@ -31,7 +31,7 @@ mod ffi {
 
     pub const OCCUPIED: u32 = 40;
     pub const PUT: u32 = 1;
-    pub const SETTLE: u32 = 6;
+    pub const SERIALIZE: u32 = 6;
 
     #[repr(C)]
     pub struct Handle {
@@ -231,7 +231,7 @@ impl Shared {
     }
 
     /// Waits until no thread is still at an instruction at which it was when this was called.
-    fn settle(&self) {
+    fn serialize(&self) {
         for turns in &self.turns {
             let seen = turns.load(SeqCst);
             while seen % 2 == 1 && turns.load(SeqCst) == seen {
@@ -244,7 +244,7 @@ impl Shared {
         for act in acts {
             match act.kind {
                 ffi::PUT => self.memory[(act.at - START) as usize].store(act.value as u8, SeqCst),
-                ffi::SETTLE => self.settle(),
+                ffi::SERIALIZE => self.serialize(),
                 _ => {}
             }
         }

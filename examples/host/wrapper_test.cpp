@@ -52,7 +52,7 @@ class Memory {
   public:
     Memory() : bytes_(LIMIT - NC_START, std::uint8_t(NC_STOP)) {}
     void put(std::uint32_t at, std::uint8_t byte) { bytes_[at - NC_START] = byte; }
-    void settle() { settled++; }
+    void serialize() { serialized++; }
     void mark(std::uint32_t, std::uint32_t length) { marked += length; }
     void bump() { bumped++; }
 
@@ -67,7 +67,7 @@ class Memory {
         return true;
     }
 
-    unsigned settled = 0, marked = 0, bumped = 0;
+    unsigned serialized = 0, marked = 0, bumped = 0;
 
   private:
     std::vector<std::uint8_t> bytes_;
@@ -76,7 +76,7 @@ class Memory {
 // A list of the acts that are visited, one by one.
 struct List {
     void put(std::uint32_t at, std::uint8_t byte) { acts.push_back({NC_PUT, at, byte}); }
-    void settle() { acts.push_back({NC_SETTLE, 0, 0}); }
+    void serialize() { acts.push_back({NC_SERIALIZE, 0, 0}); }
     void mark(std::uint32_t at, std::uint32_t length) { acts.push_back({NC_MARK, at, length}); }
     void bump() { acts.push_back({NC_BUMP, 0, 0}); }
 
@@ -108,7 +108,7 @@ void life_of_a_chunk() {
     Room acts;
     auto created = region.create(NC_START, chunk_code(), acts);
     CHECK(created && created->size() == ROOM && nc::visit(*created, memory) && memory.follows(region));
-    CHECK(memory.settled == 1 && memory.marked == LEN && memory.bumped == 0);
+    CHECK(memory.serialized == 1 && memory.marked == LEN && memory.bumped == 0);
     auto stamp = region.delete_chunk(NC_START, acts, [&](nc::Deletion &deletion) {
         CHECK(is(region.reclaim().fault(), NC_UNDER_WAY, "NC_UNDER_WAY"));
         CHECK(nc::visit(deletion.acts(), memory));
@@ -150,7 +150,7 @@ void patch() {
     const std::uint8_t other[] = {0xB8, 7, 0, 0, 0}, ret[] = {0xC3};
     CHECK(nc::visit(*region.create(NC_START, chunk_code(), acts), memory));
     auto patched = region.patch(NC_START, other, acts);
-    CHECK(patched && patched->size() == 8 && nc::visit(*patched, memory) && memory.settled == 3 && memory.follows(region));
+    CHECK(patched && patched->size() == 8 && nc::visit(*patched, memory) && memory.serialized == 3 && memory.follows(region));
     CHECK(region.place(NC_START + 1)->byte == 7 && region.place(NC_START + 35)->mark == NC_MASKED(3));
     CHECK(region.patch(NC_START, other, acts)->empty());
     CHECK(is(region.patch(NC_START + 8, ret, acts).fault(), NC_PATCH_NOT_PERMITTED, "NC_PATCH_NOT_PERMITTED"));
@@ -177,7 +177,7 @@ void runs_written_out() {
         CHECK(nc::visit(*deletion_runs, stops) && stops.same_as(deletion.acts()) && stops.acts.size() == ROOM);
     });
     CHECK(stamp.ok());
-    const NcAct strange[] = {{NC_SETTLE, 0, 0}, {4, 0, 0}};
+    const NcAct strange[] = {{NC_SERIALIZE, 0, 0}, {4, 0, 0}};
     List none;
     CHECK(!nc::visit(strange, none) && none.acts.empty());
 }

@@ -33,7 +33,7 @@ void host_put(uint32_t at, uint8_t byte) {
     __atomic_store_n(&writable[at - START], byte, __ATOMIC_SEQ_CST);
 }
 
-void host_settle(void) {
+void host_serialize(void) {
     if (syscall(SYS_membarrier, MEMBARRIER_CMD_PRIVATE_EXPEDITED_SYNC_CORE, 0, 0) != 0) {
         abort();
     }

@@ -1,4 +1,4 @@
-/* Live code in one thread: the order of stores and settlings, the text in memory, what changes do, refusals, and want of memory. */
+/* Live code in one thread: the order of stores and serializations, the text in memory, what changes do, refusals, and want of memory. */
 #define _GNU_SOURCE
 #include "watching.h"
 
@@ -16,7 +16,7 @@ static int is_step(unsigned k, int stamp, const uint8_t bytes[SEEN]) {
            memcmp(step->bytes, bytes, SEEN) == 0;
 }
 
-/* Puts away from bundle starts, a settling, puts at bundle starts. */
+/* Puts away from bundle starts, a serialization, puts at bundle starts. */
 static void order_of_create(NcsModule *m, const uint8_t code[SEEN]) {
     uint8_t bytes[SEEN];
     memcpy(bytes, code, sizeof bytes);
@@ -26,7 +26,7 @@ static void order_of_create(NcsModule *m, const uint8_t code[SEEN]) {
     CHECK(memcmp(codes_text(m, HERE), code, sizeof bytes) == 0 && m->live->changes == 2);
 }
 
-/* A stop at its first byte, a settling, its other bytes, a settling, its first byte. */
+/* A stop at its first byte, a serialization, its other bytes, a serialization, its first byte. */
 static void order_of_patch(NcsModule *m, uint8_t code[SEEN]) {
     uint8_t bytes[SEEN], mov[MOV_LEN];
     codes_mov(mov, 0x55667788);
@@ -49,7 +49,7 @@ static void order_of_byte(NcsModule *m, uint8_t code[SEEN]) {
     CHECK(memcmp(codes_text(m, HERE), code, SEEN) == 0 && m->live->changes == 6);
 }
 
-/* Stops where instructions begin, a settling, stops everywhere, the stamp. */
+/* Stops where instructions begin, a serialization, stops everywhere, the stamp. */
 static void order_of_delete(NcsModule *m, const uint8_t code[SEEN]) {
     static const uint8_t inner[] = {1, 2, 3, 4, 7, 8, 10}; /* within `mov`, and within the two of the pair */
     uint8_t bytes[SEEN];
@@ -75,9 +75,9 @@ static void try_order(void) {
     order_of_patch(m, code);
     order_of_byte(m, code);
     order_of_delete(m, code);
-    watching_fail_settlings = 2;
+    watching_fail_serializations = 2;
     watching_count = 0;
-    CHECK(ncs_reclaim(m) == 1 && codes_create_number(m, HERE, 5) && watching_fail_settlings == 0 && watching_count == 1);
+    CHECK(ncs_reclaim(m) == 1 && codes_create_number(m, HERE, 5) && watching_fail_serializations == 0 && watching_count == 1);
     watching_module = NULL;
     ncs_module_free(m);
     puts("order");

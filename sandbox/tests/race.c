@@ -8,8 +8,8 @@
  *   stays ended in deleted code    these are right: three of four ways in lead to the chunk that is deleted and created
  *   astray                         stays with a result that no version of the code can give
  *
- * With --control patches are written byte by byte, with neither stops nor settlings (creations and deletions keep theirs). Threads then
- * execute halves of instructions; the first five such stays of each thread are shown on standard error.
+ * With --control patches are written byte by byte, with neither stops nor serializations (creations and deletions keep theirs). Threads
+ * then execute halves of instructions; the first five such stays of each thread are shown on standard error.
  *
  * Status 0: nothing is astray. 1: a line says ASTRAY. 2: the command line is wrong, or a change was refused. 77: the system refuses what
  * live code needs.

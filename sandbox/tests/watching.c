@@ -11,7 +11,7 @@
 
 NcsModule *watching_module;
 Step watching_steps[STEPS];
-unsigned watching_count, watching_fail_settlings;
+unsigned watching_count, watching_fail_serializations;
 uint8_t *watching_lent;
 int watching_refuse, watching_times, watching_errno;
 long watching_fail_after = -1;
@@ -70,8 +70,8 @@ REAL(long, syscall, long number, ...) {
         return -1;
     }
     if (number == SYS_membarrier && (int)a == MEMBARRIER_CMD_PRIVATE_EXPEDITED_SYNC_CORE) {
-        if (watching_fail_settlings != 0) {
-            watching_fail_settlings--;
+        if (watching_fail_serializations != 0) {
+            watching_fail_serializations--;
             errno = ENOMEM;
             return -1;
         }

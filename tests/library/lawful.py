@@ -71,8 +71,8 @@ def goes_well(limit, chunk, new):
 
 
 def owed(olds, news):
-    """The acts of a lawful patch. Each instruction whose bytes change owes a stop at its first byte, a settling, its further bytes, a
-    settling and its first byte; one of a single byte only that byte.
+    """The acts of a lawful patch. Each instruction whose bytes change owes a stop at its first byte, a serialization, its further bytes, a
+    serialization and its first byte; one of a single byte only that byte.
     """
     acts = []
     for old, new in zip(olds, news):
@@ -80,6 +80,6 @@ def owed(olds, news):
             continue
         first, *further = [(nc.PUT, new.at + i, byte) for i, byte in enumerate(new.code)]
         if further:
-            acts += [(nc.PUT, new.at, nc.STOP), (nc.SETTLE, 0, 0), *further, (nc.SETTLE, 0, 0)]
+            acts += [(nc.PUT, new.at, nc.STOP), (nc.SERIALIZE, 0, 0), *further, (nc.SERIALIZE, 0, 0)]
         acts.append(first)
     return acts

@@ -87,11 +87,11 @@ class Judge(unittest.TestCase):
 class ActByAct(unittest.TestCase):
     def looks(self, steps):
         """After each act of a life its kind, how many places are wrong, the mark at 00010003, and whether the bundle at 00010000 is all
-        stops. A settling is no act.
+        stops. A serialization is no act.
         """
         life = Life(self, 4)
         for kind, _, _ in life.live(steps):
-            if kind != nc.SETTLE:
+            if kind != nc.SERIALIZE:
                 stopped = life.text.rest_of_bundle(0x10000) == bytes([nc.STOP]) * nc.BUNDLE
                 yield kind, faults(life.text), life.text.mark(0x10003), stopped
 

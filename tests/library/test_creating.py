@@ -63,7 +63,7 @@ class Creating(unittest.TestCase):
         self.assertEqual(region.create(0x10020, filled("83e0e0ffe0")).fault, nc.OK)
         self.assertEqual(marked_places(region), [UNUSED, PAIR, UNUSED, UNUSED])
         self.assertEqual(region.begin_delete(0x10020, room=34).fault, nc.OK)
-        runs = [(nc.STOP_RUN, 0x10020, PAIR), (nc.SETTLE, 0, 0), (nc.STOP_RUN, 0x10020, 0x00000016), (nc.BUMP, 0, 0)]
+        runs = [(nc.STOP_RUN, 0x10020, PAIR), (nc.SERIALIZE, 0, 0), (nc.STOP_RUN, 0x10020, 0x00000016), (nc.BUMP, 0, 0)]
         self.assertEqual(region.deletion_runs(room=4).acts, runs)
         self.assertEqual(region.end_delete().stamp, 1)
         self.assertEqual(marked_places(region), [UNUSED, PAIR, UNUSED, UNUSED])

@@ -101,12 +101,12 @@ def runs(kind, values):
 
 
 def creation_runs():
-    return runs(nc.PUT_RUN, [0xFFFFFFFE]) + act(nc.SETTLE) + act(nc.MARK, nc.START, LENGTH) + runs(nc.PUT_RUN, [1])
+    return runs(nc.PUT_RUN, [0xFFFFFFFE]) + act(nc.SERIALIZE) + act(nc.MARK, nc.START, LENGTH) + runs(nc.PUT_RUN, [1])
 
 
 def deletion_runs():
     marked = [sum(1 << place for place in instructions) for instructions in PLACED]
-    return runs(nc.STOP_RUN, marked) + act(nc.SETTLE) + runs(nc.STOP_RUN, [value ^ 0xFFFFFFFF for value in marked]) + act(nc.BUMP)
+    return runs(nc.STOP_RUN, marked) + act(nc.SERIALIZE) + runs(nc.STOP_RUN, [value ^ 0xFFFFFFFF for value in marked]) + act(nc.BUMP)
 
 
 def instruction_at(at):
@@ -228,7 +228,7 @@ class Largest(unittest.TestCase):
         """The last jump is made to lead to the first bundle."""
         at, new = nc.START + LENGTH - 2 * nc.BUNDLE + 27, b"\xe9" + (nc.BUNDLE - LENGTH).to_bytes(4, "little", signed=True)
         puts = [(nc.PUT, at + i, byte) for i, byte in enumerate(new)]
-        acts = [(nc.PUT, at, nc.STOP), (nc.SETTLE, 0, 0), *puts[1:], (nc.SETTLE, 0, 0), puts[0]]
+        acts = [(nc.PUT, at, nc.STOP), (nc.SERIALIZE, 0, 0), *puts[1:], (nc.SERIALIZE, 0, 0), puts[0]]
         region = self.created()
         self.assertEqual(region.patch(at, new), (nc.OK, 0, acts))
         self.assert_text(region, replaced(self.code, at - nc.START, new), self.marks, every=9)

@@ -1,5 +1,5 @@
-"""A region's life as threads may read it that fetch each byte by itself: with every settling each mixture of bytes is right, and with one
-of them left out some mixture isn't.
+"""A region's life as threads may read it that fetch each byte by itself: with every serialization each mixture of bytes is right, and with
+one of them left out some mixture isn't.
 """
 import unittest
 
@@ -51,8 +51,8 @@ LIFE = [
 # one span unmarked, and 65 of the last creation.
 LOOKS = 247
 
-# What is read first that isn't right, if one settling is left out: its address and its bytes. Each settling has a row, in their order. A
-# byte that was put since the settling before may be read, and so may those that it took the place of.
+# What is read first that isn't right, if one serialization is left out: its address and its bytes. Each serialization has a row, in their
+# order. A byte that was put since the serialization before may be read, and so may those that it took the place of.
 WRONG = [
     # The creation at 00010000. At 00010001 and 00010002 stops stood, and EB and 05 were put. Marked, the jump is read with the stop as its
     # operand: to 00010003 - 12 = 0000FFF7, which is no bundle start.
@@ -82,8 +82,8 @@ WRONG = [
     None,
     # The deletion. The first unmarked place is 00010002. When the stop is put there, EB may still be read before it.
     (0x10001, "ebf4"),
-    # The creation where code stood before. The deletion put stops at the unmarked places and did not settle after them. So C3 may still be
-    # read at 00010004 when that is marked: a return. At 00010001 B0 may be read with 05, F4 or 07 as its operand, and at 00010003 a stop or
+    # The creation where code stood before. The deletion put stops at the unmarked places and did not serialize after them. So C3 may still
+    # be read at 00010004 when that is marked: a return. At 00010001 B0 may be read with 05, F4 or 07 as its operand, and at 00010003 a stop or
     # a nop.
     (0x10004, "c3"),
 ]
@@ -105,12 +105,12 @@ class Mixtures(unittest.TestCase):
                 self.assertEqual([(code.hex(), instruction is not None) for code, instruction in mixtures(places)], found)
 
     def viewed(self, left_out):
-        """What is found in this life. For what may be read one settling is left out, or none for 0."""
+        """What is found in this life. For what may be read one serialization is left out, or none for 0."""
         life = Life(self, 4)
         views = Views(life.text, left_out)
         for act in life.live(LIFE):
             views.follow(act)
-        self.assertEqual((views.looks, views.settlings), (LOOKS, len(WRONG)))
+        self.assertEqual((views.looks, views.serializations), (LOOKS, len(WRONG)))
         return views
 
     def test_every_mixture(self):
@@ -119,7 +119,7 @@ class Mixtures(unittest.TestCase):
         # once at each marked place of the bundle after each put, and of the text after each marking, that would be 2369 readings
         self.assertGreater(views.readings, 2369)
 
-    def test_each_settling_left_out(self):
+    def test_each_serialization_left_out(self):
         for left_out, wrong in enumerate(WRONG, 1):
             with self.subTest(left_out):
                 first = [(at, code.hex()) for at, code in self.viewed(left_out).wrong[:1]]

@@ -81,7 +81,7 @@ def puts(acts):
 class Patches(unittest.TestCase):
     def patch(self, front, at, new, fault, owed):
         """A chunk is created and patched. The patch has its fault, makes its puts, and leaves the bytes that are due. A plain reading of
-        the rules says the same, and where it settles.
+        the rules says the same, and where it serializes.
         """
         region, code = nc.Region(4), filled(front)
         self.assertEqual(region.create(nc.START, code).fault, nc.OK)

@@ -66,7 +66,7 @@ class Texts(unittest.TestCase):
         self.assertEqual(region.create(nc.START, code + filled("")).fault, nc.OK)
         begun = region.begin_delete(nc.START, room=66)
         others = [place for place in range(64) if place not in marked]
-        self.assertEqual(begun.acts, stops_at(marked) + [(nc.SETTLE, 0, 0)] + stops_at(others) + [(nc.BUMP, 0, 0)])
+        self.assertEqual(begun.acts, stops_at(marked) + [(nc.SERIALIZE, 0, 0)] + stops_at(others) + [(nc.BUMP, 0, 0)])
 
     def test_pages(self):
         """A chunk has the pages made in which it lies, and no others; no byte or mark changes beside it."""

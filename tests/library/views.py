@@ -1,5 +1,5 @@
 """What threads may read of a text that fetch each byte by itself: at each place any byte that stood there at some moment since the last
-settling, beside any such byte of the next place.
+serialization, beside any such byte of the next place.
 """
 import nc_host as nc
 from following import UNMARK
@@ -24,22 +24,22 @@ def mixtures(places, front=b""):
 
 
 class Views:
-    """The bytes that each place of a text has had since the last settling, each of them once and the oldest first, and what was found in
-    reading them at marked places. One settling, counted from 1, is left out, or none for 0: what was seen before it stays.
+    """The bytes that each place of a text has had since the last serialization, each of them once and the oldest first, and what was found
+    in reading them at marked places. One serialization, counted from 1, is left out, or none for 0: what was seen before it stays.
     """
 
     def __init__(self, text, left_out):
         self.text, self.left_out = text, left_out
         self.seen = [[nc.STOP] for _ in text.bytes]
-        self.looks, self.settlings, self.readings, self.wrong = 0, 0, 0, []
+        self.looks, self.serializations, self.readings, self.wrong = 0, 0, 0, []
 
     def follow(self, act):
         """An act was made in the text. After a put every mixture of its bundle is read, and after a marking or an unmarking every mixture
         of the text.
         """
         kind, at, value = act
-        if kind == nc.SETTLE:
-            self.settle()
+        if kind == nc.SERIALIZE:
+            self.serialize()
         elif kind == nc.PUT:
             seen = self.seen[at - nc.START]
             if value not in seen:
@@ -49,9 +49,9 @@ class Views:
         elif kind in (nc.MARK, UNMARK):
             self.look(range(nc.START, self.text.limit))
 
-    def settle(self):
-        self.settlings += 1
-        if self.settlings != self.left_out:
+    def serialize(self):
+        self.serializations += 1
+        if self.serializations != self.left_out:
             self.seen = [[byte] for byte in self.text.bytes]
 
     def look(self, addresses):

@@ -178,7 +178,7 @@ PREFIXES = {"flow_number": "NC_FLOW_", "end_number": "NC_END_", "patch_number": 
 # Numbers that have another name in C, and kinds of acts that no call writes.
 OTHER_NAMES = {
     "NOTHING": "NO_HANDLE", "TAKEN": "HANDLE_TAKEN", "UNDERWAY": "UNDER_WAY", "NO_MEMORY": "OUT_OF_MEMORY",
-    "NONE_LEFT": "NO_SEAT", "GENS_FULL": "FULL", "AFTER": "MASKED", "MARK_SPAN": "MARK", "SETTLED": "SETTLE", "ELF64": "64_BITS",
+    "NONE_LEFT": "NO_SEAT", "GENS_FULL": "FULL", "AFTER": "MASKED", "MARK_SPAN": "MARK", "SERIALIZED": "SERIALIZE", "ELF64": "64_BITS",
 }
 UNWRITTEN = {"UnmarkSpan", "Look"}
 

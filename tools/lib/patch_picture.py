@@ -11,7 +11,7 @@ ROW = "crates/nc_tests/src/region/acts.rt"
 TEST = "tests/library/test_mixtures.py"
 # The instruction of the test that is drawn: its address.
 PLACE = 0x10018
-SETTLED = "settled"
+SERIALIZED = "serialized"
 NAMES = {"ffc7": "inc edi", "ffe7": "jmp edi", "f4": "hlt"}
 
 # Where the columns begin and how wide they are, and the lanes with their heights.
@@ -20,18 +20,18 @@ LANES = {"acts": (68, 74), "prompt": (158, 74), "late": (248, 74), "any": (338, 
 
 
 def log_of_instruction(at, code):
-    """The log of an instruction of several bytes, or of one, by the definition: puts as places and bytes, and settlings."""
+    """The log of an instruction of several bytes, or of one, by the definition: puts as places and bytes, and serializations."""
     if len(code) == 1:
         return [(at, code[0])]
     words = found(r"^log_of_instruction at \(byte ∷ next ∷ rest\) =\n(.*?)\n\n", DEFINITION)
-    token = re.compile(r"Did \(Put at (0x\w+|byte)\)|(Settled)|unsettled \((puts_where any_place \(at \+ 1\) \(next ∷ rest\))\)")
+    token = re.compile(r"Did \(Put at (0x\w+|byte)\)|(Serialized)|unserialized \((puts_where any_place \(at \+ 1\) \(next ∷ rest\))\)")
     if re.sub(r"[\s()\[\]∷+]", "", token.sub("", words)):
         raise Unread(f"{DEFINITION}: log_of_instruction has other words than the drawing knows")
     log = []
-    for byte, settled, rest in token.findall(words):
+    for byte, serialized, rest in token.findall(words):
         if byte:
             log.append((at, code[0] if byte == "byte" else number(byte)))
-        log += [SETTLED] if settled else []
+        log += [SERIALIZED] if serialized else []
         log += [(at + k, code[k]) for k in range(1, len(code))] if rest else []
     return log
 
@@ -44,13 +44,13 @@ def check_row():
     owed = []
     for begin, end in zip(begins, begins[1:] + [len(new)]):
         owed += log_of_instruction(base + begin, new[begin:end]) if old[begin:end] != new[begin:end] else []
-    entries = re.findall(r"Act::Put\((\w+), (\w+)\)|Entry::(Settled)", found(r"static PATCH_OWES: .*? = \[(.*?)\];", ROW))
-    if owed != [SETTLED if settled else (number(at), number(byte)) for at, byte, settled in entries]:
+    entries = re.findall(r"Act::Put\((\w+), (\w+)\)|Entry::(Serialized)", found(r"static PATCH_OWES: .*? = \[(.*?)\];", ROW))
+    if owed != [SERIALIZED if serialized else (number(at), number(byte)) for at, byte, serialized in entries]:
         raise Unread(f"{DEFINITION}: log_of_instruction isn't what PATCH_OWES of {ROW} says")
 
 
 def tested():
-    """The old and the new bytes of the instruction in the test, and what may be read there with each settling left out."""
+    """The old and the new bytes of the instruction in the test, and what may be read there with each serialization left out."""
     first, patch = value_in("FIRST", TEST), value_in("ONE_BUNDLE", TEST)
     life = value_in("LIFE", TEST, FIRST=first, ONE_BUNDLE=patch, NEXT_BUNDLE="", filled=lambda *words: None)
     at = next(step[1] for step in life if step[0] == "patch" and step[2] == patch)
@@ -63,19 +63,19 @@ def tested():
 
 
 def moments(old, log, left_out=None):
-    """Before the patch and after each entry of the log: the text, the text at the last settling, and every mixture that may be read.
-    One settling may be left out."""
-    text = settled = tuple(old)
+    """Before the patch and after each entry of the log: the text, the text at the last serialization, and every mixture that may be read.
+    One serialization may be left out."""
+    text = serialized = tuple(old)
     seen, count, made = [{byte} for byte in text], 0, []
     for entry in [None, *log]:
-        if entry == SETTLED:
+        if entry == SERIALIZED:
             count += 1
             if count != left_out:
-                settled, seen = text, [{byte} for byte in text]
+                serialized, seen = text, [{byte} for byte in text]
         elif entry:
             text = text[:entry[0] - PLACE] + (entry[1],) + text[entry[0] - PLACE + 1:]
             seen[entry[0] - PLACE].add(entry[1])
-        made.append((text, settled, set(itertools.product(*seen))))
+        made.append((text, serialized, set(itertools.product(*seen))))
     return made
 
 
@@ -104,12 +104,12 @@ def cell(picture, x, lane, code, old, new):
 
 
 def act(picture, x, entry):
-    """An entry of the log. A settling goes through all lanes."""
+    """An entry of the log. A serialization goes through all lanes."""
     y, high = LANES["acts"]
-    if entry == SETTLED:
+    if entry == SERIALIZED:
         bottom = LANES["any"][0] + LANES["any"][1]
         picture.rect(x + 1, y, WIDE - 2, bottom - y + 4, FILLS[ORANGE], ORANGE, dashed=True, round_=4)
-        picture.text(x + WIDE / 2, y + 25, "settle", "middle", 15, ORANGE, bold=True)
+        picture.text(x + WIDE / 2, y + 25, "serialize", "middle", 15, ORANGE, bold=True)
         picture.text(x + WIDE / 2, y + 47, "all serialize", "middle", 13, ORANGE)
     elif entry:
         picture.rect(x + 4, y, WIDE - 8, high - 14, "#fff", INK, round_=4)
@@ -150,18 +150,18 @@ def draw_moments(picture, log, old, new):
 
 
 def notes(picture, log, old, new, wrong):
-    """What a thread could execute with one of the settlings left out, as the test says it too."""
+    """What a thread could execute with one of the serializations left out, as the test says it too."""
     y = LANES["any"][0] + LANES["any"][1] + 36
-    if len(wrong) != log.count(SETTLED):
-        raise Unread(f"{TEST}: not a row for each settling at {PLACE:08X}")
+    if len(wrong) != log.count(SERIALIZED):
+        raise Unread(f"{TEST}: not a row for each serialization at {PLACE:08X}")
     for k, code in enumerate(wrong):
         mixed = tuple(bytes.fromhex(code))
         if not any(mixed in views for _, _, views in moments(old, log, k + 1)):
-            raise Unread(f"{TEST}: with settling {k + 1} left out the drawing finds no {code} at {PLACE:08X}")
+            raise Unread(f"{TEST}: with serialization {k + 1} left out the drawing finds no {code} at {PLACE:08X}")
         end = "a jump without its mask" if mixed[0] == 0xFF else "not a bundle start"
-        words = f"Without the {['first', 'second'][k]} settling: {bytes(mixed).hex(' ').upper()}, which is {name_of(mixed)}, {end}."
+        words = f"Without the {['first', 'second'][k]} serialization: {bytes(mixed).hex(' ').upper()}, which is {name_of(mixed)}, {end}."
         picture.text(LEFT + 4, y + 22 * k, words, size=14, color=RED)
-    picture.text(14, y + 11, "Why it settles", size=13, bold=True, color=RED)
+    picture.text(14, y + 11, "Why it serializes", size=13, bold=True, color=RED)
     picture.height = y + 22 * len(wrong) + 6
 
 
@@ -170,7 +170,7 @@ def draw():
     old, new, wrong = tested()
     log = log_of_instruction(PLACE, new)
     picture = Picture(f"A patch: {name_of(tuple(old))} at {PLACE:08X} becomes {name_of(tuple(new))}",
-                      "The writer puts hlt at the first byte, settles, puts the other bytes, settles, and puts the new first byte. "
+                      "The writer puts hlt at the first byte, serializes, puts the other bytes, serializes, and puts the new first byte. "
                       "A thread executes the old instruction, hlt or the new one, however late it reads the stores.")
     draw_moments(picture, log, old, new)
     lanes(picture)

@@ -18,7 +18,7 @@ ghost use Rattle.nc_acts.specs.declared.acts.Act.{Act};
 ghost use Rattle.nc_acts.specs.declared.acts.Entry.{Entry};
 ghost use Rattle.nc_acts.specs.Acts.{puts_where, starts_if, marked_if, is_marked_at};
 ghost use Rattle.nc_acts.specs.Chunks.{HasGoodSpan, IsClosedChunk, IsUnused};
-ghost use Rattle.nc_acts.specs.Log.{Logs, unsettled, log_of_create, log_of_stops};
+ghost use Rattle.nc_acts.specs.Log.{Logs, unserialized, log_of_create, log_of_stops};
 
 use nc_decode::{Bundle, Mark, STOP, mark_bit};
 use nc_gens::{GensFull, Pass};
@@ -39,22 +39,22 @@ pub enum Act {
     Look,
 }
 
-/// One entry of a log: an act, or a settling between two acts.
+/// One entry of a log: an act, or a serialization between two acts.
 #[derive(Clone, Copy, Debug, PartialEq, Eq)]
 pub enum Entry {
     /// This act was done.
     Did(Act),
-    /// The region settled.
-    Settled,
+    /// The region serialized.
+    Serialized,
 }
 
 /// The operations that a region is built on: those of a text, changed one act at a time, and of the keeper of a table of
 /// generations.
 ///
 /// The contracts are those of `nc_text::Text` and `nc_gens::Gens`; an act on the text leaves the keeper unchanged, and vice
-/// versa. Every value logs its puts, spans marked and unmarked, bumps, looks and settlings. Each is appended to `logged`, which
+/// versa. Every value logs its puts, spans marked and unmarked, bumps, looks and serializations. Each is appended to `logged`, which
 /// only clauses read. An implementer hands its acts on to one that logs, or notes them in a [`History`](crate::History), which
-/// has no bytes. The acts that a value has told are those of its log, without the settlings.
+/// has no bytes. The acts that a value has told are those of its log, without the serializations.
 pub trait Acts {
     /// Bytes and marks.
     ghost marked: { Self → MarkedText };
@@ -65,7 +65,7 @@ pub trait Acts {
     /// The keeper.
     ghost keeper: { Self → KeeperState };
 
-    /// The acts so far, with the settlings among them.
+    /// The acts so far, with the serializations among them.
     ghost logged: { Self → List Entry };
 
     /// Makes the pages of a span. This isn't an act and isn't logged. The only refusal is `OutOfMemory`; some of the pages may then
@@ -114,7 +114,7 @@ pub trait Acts {
         ensures made { made self.new ≡ made self.old }
         ensures whole { IsText (marked self.new) }
         ensures keeper { keeper self.new ≡ keeper self.old }
-        ensures logged { Logs (logged self.old) (logged self.new) (unsettled (puts_where (starts_if at_starts) at code.now)) }
+        ensures logged { Logs (logged self.old) (logged self.new) (unserialized (puts_where (starts_if at_starts) at code.now)) }
     {
         // Called for its postconditions.
         let _facts = self.limit();
@@ -145,7 +145,7 @@ pub trait Acts {
         ensures whole { IsText (marked self.new) }
         ensures keeper { keeper self.new ≡ keeper self.old }
         ensures logged { Logs (logged self.old) (logged self.new)
-            (unsettled (puts_where (marked_if at_marked (marked self.old).marks) at (replicate len 0xF4))) }
+            (unserialized (puts_where (marked_if at_marked (marked self.old).marks) at (replicate len 0xF4))) }
     {
         // Called for its postconditions.
         let _facts = self.limit();
@@ -157,11 +157,11 @@ pub trait Acts {
         }
     }
 
-    /// Puts F4 at every place of a chunk's span: at the marked places, and, once the region has settled, at the others. The text is
+    /// Puts F4 at every place of a chunk's span: at the marked places, and, once the region has serialized, at the others. The text is
     /// closed after each put.
     ///
-    /// This default calls `stop_where` and `settle`. An implementation over a text that no thread executes is faster if it overrides
-    /// it. In memory that threads execute, it must make each store by itself, in the order of the entries, and settle at `Settled`.
+    /// This default calls `stop_where` and `serialize`. An implementation over a text that no thread executes is faster if it overrides
+    /// it. In memory that threads execute, it must make each store by itself, in the order of the entries, and serialize at `Serialized`.
     fn stop_span(&mut self, at: u32, len: u32)
         requires placed { HasGoodSpan at (limit_of (marked self.old).bytes) len }
         requires ready { AreReady (made self.old) at len }
@@ -174,14 +174,14 @@ pub trait Acts {
         // Called for its postconditions.
         let _facts = self.limit();
         self.stop_where(at, len, true);
-        self.settle();
+        self.serialize();
         self.stop_where(at, len, false);
     }
 
     /// Makes every processor fetch anew: once it has returned, no byte is executed that was overwritten before the call. It
     /// changes no byte, no mark and no number. It is logged, but isn't an act.
-    fn settle(&mut self)
-        ensures logged { Logs (logged self.old) (logged self.new) (Entry.Settled ∷ []) }
+    fn serialize(&mut self)
+        ensures logged { Logs (logged self.old) (logged self.new) (Entry.Serialized ∷ []) }
         ensures marked { marked self.new ≡ marked self.old }
         ensures made { made self.new ≡ made self.old }
         ensures whole { IsText (marked self.new) }
@@ -201,12 +201,12 @@ pub trait Acts {
         ensures logged { Logs (logged self.old) (logged self.new) (Entry.Did (Act.MarkSpan at (length marks.now)) ∷ []) };
 
     /// Creates a chunk from the bits of its bundles and returns true, or does nothing and returns false. If it returns false, the region
-    /// makes the creation's acts by `put_where`, `settle` and `mark_span`. The entries logged are the same. The text is closed after each
-    /// of these acts, since the chunk is closed by itself and its span is unused.
+    /// makes the creation's acts by `put_where`, `serialize` and `mark_span`. The entries logged are the same. The text is closed after
+    /// each of these acts, since the chunk is closed by itself and its span is unused.
     ///
     /// This default does nothing. An implementation that keeps marks as bits, over a text that no thread executes, is faster if it
-    /// overrides it. In memory that threads execute, it must make each store by itself, in the order of the entries, and settle at
-    /// `Settled`.
+    /// overrides it. In memory that threads execute, it must make each store by itself, in the order of the entries, and serialize at
+    /// `Serialized`.
     fn put_bundles(&mut self, at: u32, code: &[u8], bundles: &[Bundle]) -> bool
         requires chunk { IsClosedChunk at (limit_of (marked self.old).bytes) code.now (marks_in code.now bundles.now) }
         requires unused { IsUnused (marked self.old) at (length code.now) }

@@ -125,10 +125,10 @@ impl<G: GensRef + Drop> Acts for PlainOf<G> {
         self.history.note(&Note::Stops(at, len, &self.text));
     }
 
-    fn settle(&mut self) {
+    fn serialize(&mut self) {
         // Called for its postconditions.
         let _facts = self.text.limit();
-        self.history.note(&Note::One(Entry::Settled));
+        self.history.note(&Note::One(Entry::Serialized));
     }
 
     fn mark_span(&mut self, at: u32, marks: &[Mark]) {

@@ -22,7 +22,7 @@ use nc_gens::{GensFull, Pass};
 use nc_text::TextFault;
 use std::alloc::{AllocError, Global};
 
-/// Acts that are recorded. Each is appended to a list as it is done, and so is each settling.
+/// Acts that are recorded. Each is appended to a list as it is done, and so is each serialization.
 ///
 /// The list's room is allocated when the recorder is made. From the first entry for which there is no room, the recorder has no
 /// list, for good; the acts themselves are still done. The clause `goes_on` of each act says this. As long as there is room, the
@@ -37,7 +37,7 @@ pub struct Recorder<A: Acts + Drop> {
 }
 
 impl<A: Acts + Drop> Recorder<A> {
-    /// A recorder with room for this number of entries, each an act or a settling. It is refused if there is no memory for the room.
+    /// A recorder with room for this number of entries, each an act or a serialization. It is refused if there is no memory for the room.
     pub fn new(alloc: Global, acts: A, room: usize) -> Result<Recorder<A>, AllocError>
         ensures acts { IfOk result (λ r. r.acts ≡ acts) }
         ensures logged { IfOk result (λ r. (r.history.entries ≡ []) × (r.entries.items ≡ []) × (r.full ≡ false)) }
@@ -53,7 +53,7 @@ impl<A: Acts + Drop> Recorder<A> {
         })
     }
 
-    /// The acts so far with the settlings among them, first to last, as long as there was room.
+    /// The acts so far with the serializations among them, first to last, as long as there was room.
     pub fn entries(&self) -> Option<&[Entry]>
         ensures entries { IfSome result (λ entries. entries.now ≡ ⟦<Recorder<A> as Acts>⟧.logged self.now) }
         ensures room { IsNone result ↔ (self.now.full ≡ true) }
@@ -112,18 +112,18 @@ impl<A: Acts + Drop> Acts for Recorder<A> {
         self.record(Entry::Did(Act::Put(at, byte)));
     }
 
-    fn settle(&mut self)
-        ensures logged { Logs self.old.history.entries self.new.history.entries (Entry.Settled ∷ []) }
+    fn serialize(&mut self)
+        ensures logged { Logs self.old.history.entries self.new.history.entries (Entry.Serialized ∷ []) }
         ensures goes_on { (self.new.full ≡ false) ↔ ((self.old.full ≡ false)
             × (vec_len self.old.entries < vec_capacity self.old.entries)) }
         ensures marked { A.marked self.new.acts ≡ A.marked self.old.acts }
         ensures made { A.made self.new.acts ≡ A.made self.old.acts }
         ensures whole { IsText (A.marked self.new.acts) }
         ensures keeper { A.keeper self.new.acts ≡ A.keeper self.old.acts }
-        ensures handed_on { Logs (A.logged self.old.acts) (A.logged self.new.acts) (Entry.Settled ∷ []) }
+        ensures handed_on { Logs (A.logged self.old.acts) (A.logged self.new.acts) (Entry.Serialized ∷ []) }
     {
-        self.acts.settle();
-        self.record(Entry::Settled);
+        self.acts.serialize();
+        self.record(Entry::Serialized);
     }
 
     fn mark_span(&mut self, at: u32, marks: &[Mark])

@@ -73,7 +73,7 @@ fn bad_target(base: u32, code: Vec<u8>) -> Option<u32> {
 }
 
 /// Writes nops over each direct transfer to a bad target, until the code is accepted or refused for another reason.
-fn settle(alloc: Global, code: &mut [u8], base: u32) -> Result<(), AllocError> {
+fn erase_bad_targets(alloc: Global, code: &mut [u8], base: u32) -> Result<(), AllocError> {
     for _ in 0..code.len() {
         let copied = Vec::from_slice(alloc, code)?;
         let Some(at) = bad_target(base, copied) else {
@@ -88,7 +88,7 @@ fn settle(alloc: Global, code: &mut [u8], base: u32) -> Result<(), AllocError> {
 
 /// Prepares code as a source's kind says.
 fn prepare(alloc: Global, source: &Source<'_>, code: &mut [u8]) -> Result<(), AllocError> {
-    settle(alloc, code, source.base)?;
+    erase_bad_targets(alloc, code, source.base)?;
     let last = code.len().saturating_sub(BUNDLE);
     match source.kind {
         Kind::Accepted => {}

@@ -23,7 +23,7 @@ use Rattle.nc_calls.proofs.Modified.{modified}
 use Rattle.nc_calls.proofs.Reclaimed.{reclaimed}
 use Rattle.nc_calls.proofs.Refusals.{refusal_same, refusal_silent}
 use Rattle.nc_calls.proofs.Fetching.{fetch_whole_after}
-use Rattle.nc_calls.proofs.StaysWhole.{whole_settled, StaysWhole, whole_append}
+use Rattle.nc_calls.proofs.StaysWhole.{whole_serialized, StaysWhole, whole_append}
 use Rattle.nc_calls.proofs.StillRegion.{still_created, still_patched, still_deleted, still_reclaimed}
 
 -- what is kept from one call to the next
@@ -99,7 +99,7 @@ history_stays limit seats first r turns h =
     turns_stay limit seats turns first r
     (record {
       led = g.led;
-      whole = g.whole (whole_settled (unused_text limit).marks (unused_text limit).bytes);
+      whole = g.whole (whole_serialized (unused_text limit).marks (unused_text limit).bytes);
       region = subst (λ (m : MarkedText). IsRegion m r.chunks) (sym h.marked)
           (subst (IsRegion (unused_text limit)) (sym h.chunks) (region_of_new (unused_text limit) (limit, h.lawful, refl)));
     }) h.turns_are

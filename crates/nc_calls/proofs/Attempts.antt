@@ -6,7 +6,7 @@ use Rattle.nc_decode.specs.declared.instruction.Mark.{Mark}
 use Rattle.nc_list.specs.declared.chunk.Chunk.{Chunk}
 use Rattle.nc_list.specs.declared.chunk.ChunkState.TheVariants.{Retired}
 use Rattle.nc_region.specs.schedules.World.{World}
-use Rattle.nc_region.specs.schedules.Events.{Event, Puts, Settles, Retires, after}
+use Rattle.nc_region.specs.schedules.Events.{Event, Puts, Serializes, Retires, after}
 use Rattle.nc_region.proofs.Offered.{Keeps}
 use Rattle.nc_acts.specs.declared.acts.Act.TheVariants.{Put}
 use Rattle.nc_acts.specs.Acts.{is_marked_at, is_unmarked_at, puts_where}
@@ -20,7 +20,7 @@ use Rattle.nc_calls.proofs.Deletion.{stopped, deletion_leads}
 use Rattle.nc_calls.proofs.Entries.{events_of, delete_is}
 use Rattle.nc_calls.proofs.Good.{Good}
 use Rattle.nc_calls.proofs.Parting.{Kept}
-use Rattle.nc_calls.proofs.Putting.{with_text, settled, Views, Leads, Reaches, leads_none, leads_more, settling_leads, settled_views, MayLay}
+use Rattle.nc_calls.proofs.Putting.{with_text, serialized, Views, Leads, Reaches, leads_none, leads_more, serialization_leads, serialized_views, MayLay}
 use Rattle.nc_calls.proofs.Putting.{lay_all}
 use Rattle.nc_calls.proofs.RetiredSpans.{AreSpansOf}
 use Rattle.nc_calls.proofs.StaysWhole.{PutsWhole}
@@ -78,14 +78,14 @@ first_puts d chosen at zero (x ∷ p) q is = absurd (let bad : x ∷ (p ++ q) �
 first_puts d chosen at (suc n) (x ∷ p) q is =
     first_put d chosen at n x p q (λ r same. first_puts d chosen (at + 1) n r q same) (chosen at) refl is
 
--- the first events of a deletion: stops at some of its marked places; or at all of these, and after the settling at some of the others
+-- the first events of a deletion: stops at some of its marked places; or at all of these, and after the serialization at some of the others
 pub data IsPart (marks : List Mark) (base len : ℕ) (part : List Event) : Type 0 where
   OfMarked : (n : ℕ) → n ≤ len
       → part ≡ events_of (record no_details { base = base; len = len }) (puts_where (is_marked_at marks) base (replicate n 244))
       → IsPart marks base len part
   OfOthers : (n : ℕ) → n ≤ len
       → part ≡ events_of (record no_details { base = base; len = len }) (puts_where (is_marked_at marks) base (replicate len 244))
-      ++ (Settles ∷ events_of (record no_details { base = base; len = len }) (puts_where (is_unmarked_at marks) base (replicate n 244)))
+      ++ (Serializes ∷ events_of (record no_details { base = base; len = len }) (puts_where (is_unmarked_at marks) base (replicate n 244)))
       → IsPart marks base len part
 
 -- no list of events that ends with a retiring is empty
@@ -100,7 +100,7 @@ pub is_part : (marks : List Mark) (base len : ℕ) (part rest : List Event)
 is_part marks base len part rest is =
     elim (split_joined part (rest ++ Retires base len ∷ [])
     (events_of (record no_details { base = base; len = len }) (puts_where (is_marked_at marks) base (replicate len 244)))
-    (Settles ∷ (events_of (record no_details { base = base; len = len }) (puts_where (is_unmarked_at marks) base (replicate len 244))
+    (Serializes ∷ (events_of (record no_details { base = base; len = len }) (puts_where (is_unmarked_at marks) base (replicate len 244))
     ++ Retires base len ∷ [])) (is ∙ delete_is marks base len)) [
       | inl f ↦
           let g = first_puts (record no_details { base = base; len = len }) (is_marked_at marks) base len part f.0 (sym f.1) in
@@ -133,14 +133,14 @@ is_part marks base len part rest is =
     behind : (r : List Event)
         → part ≡ events_of (record no_details { base = base; len = len }) (puts_where (is_marked_at marks) base (replicate len 244)) ++ r
         → r ++ (rest ++ Retires base len ∷ [])
-        ≡ Settles ∷ (events_of (record no_details { base = base; len = len }) (puts_where (is_unmarked_at marks) base (replicate len 244))
+        ≡ Serializes ∷ (events_of (record no_details { base = base; len = len }) (puts_where (is_unmarked_at marks) base (replicate len 244))
         ++ Retires base len ∷ [])
         → IsPart marks base len part
     behind [] here same =
         OfMarked len (omega arith) (here
         ∙ append-nil (events_of (record no_details { base = base; len = len }) (puts_where (is_marked_at marks) base (replicate len 244))))
     behind (e ∷ r) here same =
-        let first : e ≡ Settles = cc in
+        let first : e ≡ Serializes = cc in
         let rest_is : r ++ (rest ++ Retires base len ∷ [])
         ≡ events_of (record no_details { base = base; len = len }) (puts_where (is_unmarked_at marks) base (replicate len 244))
         ++ Retires base len ∷ [] = cc in
@@ -149,7 +149,7 @@ is_part marks base len part rest is =
         ∙ (ap (λ (x : Event). events_of (record no_details { base = base; len = len })
         (puts_where (is_marked_at marks) base (replicate len 244)) ++ x ∷ r) first
         ∙ ap (λ (z : List Event). events_of (record no_details { base = base; len = len })
-        (puts_where (is_marked_at marks) base (replicate len 244)) ++ Settles ∷ z) f.2))
+        (puts_where (is_marked_at marks) base (replicate len 244)) ++ Serializes ∷ z) f.2))
 
 -- ---- what they leave
 
@@ -212,14 +212,14 @@ part_begun w chunks k c r now before agrees good part (OfOthers n le is) =
     a.mid [] (Emptied w c.base c.length a.mid)
     (may_lay_some w (is_unmarked_at w.marked.marks) c.base c.length n (Emptied w c.base c.length a.mid) le
     (may_lay_others w c.base c.length a.mid p)) (omega (arith, long, le, p.high, mid_agrees.as_long))
-    (settled_views (Emptied w c.base c.length a.mid) a.mid a.emptied) in
+    (serialized_views (Emptied w c.base c.length a.mid) a.mid a.emptied) in
     subst (HasBegun w c now before) (sym is)
     (record {
       bytes = b.bytes;
       earlier = b.earlier;
       leads = leads_more (with_text w now before) (with_text w a.mid a.earlier) (with_text w b.bytes b.earlier) _ _ a.leads
-          (leads_more (with_text w a.mid a.earlier) (settled w a.mid) (with_text w b.bytes b.earlier) (Settles ∷ []) _
-          (settling_leads w a.mid a.earlier) b.leads);
+          (leads_more (with_text w a.mid a.earlier) (serialized w a.mid) (with_text w b.bytes b.earlier) (Serializes ∷ []) _
+          (serialization_leads w a.mid a.earlier) b.leads);
       agrees = put_agrees (is_unmarked_at w.marked.marks) c.base c.length (length (replicate {A = ℕ} n 244)) (replicate n 244)
           w.marked.bytes a.mid b.bytes (omega (arith, long, le)) b.has mid_agrees;
       views = λ view v. (b.views view v).good;

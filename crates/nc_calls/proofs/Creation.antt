@@ -18,7 +18,7 @@ use Rattle.nc_vet.specs.Chunk.{MarkedChunk, IsValid}
 use Rattle.nc_list.specs.declared.chunk.Chunk.{Chunk}
 use Rattle.nc_region.specs.schedules.Spans.{RetiredSpan, IsShut}
 use Rattle.nc_region.specs.schedules.World.{World}
-use Rattle.nc_region.specs.schedules.Events.{Event, Marks, Settles}
+use Rattle.nc_region.specs.schedules.Events.{Event, Marks, Serializes}
 use Rattle.nc_region.proofs.Offered.{Keeps, only_as_it_stands}
 use Rattle.nc_acts.specs.declared.acts.Act.TheVariants.{MarkSpan}
 use Rattle.nc_acts.specs.Acts.{is_inside, is_start, puts_where}
@@ -35,9 +35,9 @@ use Rattle.nc_calls.proofs.Entries.{events_of, create_is}
 use Rattle.nc_calls.proofs.Good.{text_of, Good, KeepsInstruction, good_by_places, stop_ends}
 use Rattle.nc_calls.proofs.OnePut.{good_put_unread, byte_beside, byte_there}
 use Rattle.nc_calls.proofs.PutsWhole.{put_in_both, whole_put_unread, whole_put_marked}
-use Rattle.nc_calls.proofs.StaysWhole.{PutsWhole, whole_settled}
+use Rattle.nc_calls.proofs.StaysWhole.{PutsWhole, whole_serialized}
 use Rattle.nc_calls.proofs.Parting.{Kept, region_good, region_stopped}
-use Rattle.nc_calls.proofs.Putting.{with_text, settled, Views, Leads, Reaches, leads_one, leads_more, settling_leads, settled_views, MayLay, lay_all}
+use Rattle.nc_calls.proofs.Putting.{with_text, serialized, Views, Leads, Reaches, leads_one, leads_more, serialization_leads, serialized_views, MayLay, lay_all}
 use Rattle.nc_calls.proofs.RetiredSpans.{AreSpansOf, retired_insert}
 
 -- every view is good where a call begins
@@ -336,29 +336,29 @@ record Creates (w : World) (chunks : List Chunk) (k base : ℕ) (code : List ℕ
 
 -- the world in which the chunk is marked and its bundle starts aren't put
 abbrev marked_world : World → ℕ → List ℕ → List Mark → List ℕ → World
-marked_world w base code marks mid = record (settled w mid) { marked = text_of mid (with_chunk w.marked base code marks).marks }
+marked_world w base code marks mid = record (serialized w mid) { marked = text_of mid (with_chunk w.marked base code marks).marks }
 
 -- the marks may be set
 marking_leads : (w : World) (chunks : List Chunk) (k base : ℕ) (code : List ℕ) (marks : List Mark) (mid : List ℕ)
     → Creates w chunks k base code marks → length mid ≡ length w.marked.bytes
     → IsNearly (with_chunk w.marked base code marks).bytes mid
-    → Leads (settled w mid) (Marks base marks ∷ []) (marked_world w base code marks mid)
+    → Leads (serialized w mid) (Marks base marks ∷ []) (marked_world w base code marks mid)
 marking_leads w chunks k base code marks mid c long nearly =
     let placed = c.joins.chunk.placed in
     let good = nearly_good (with_chunk w.marked base code marks).bytes mid (with_chunk w.marked base code marks).marks w.retired
     c.final nearly in
-    leads_one (settled w mid) (Marks base marks) (
+    leads_one (serialized w mid) (Marks base marks) (
       λ j lt. (omega (arith, placed.low), omega (arith, placed.high, lt, c.joins.chunk.as_long, long)),
       chunk_keeps w.marked base code marks c.joins,
       λ view v. subst (λ (z : List ℕ). IsClosed z (with_chunk w.marked base code marks).marks
           × All (IsShut z (with_chunk w.marked base code marks).marks) w.retired) (sym (only_as_it_stands mid view v)) (good.closed, good.shut),
     )
-    (λ whole. whole_settled (with_chunk w.marked base code marks).marks mid)
+    (λ whole. whole_serialized (with_chunk w.marked base code marks).marks mid)
 
 -- the chunk's acts lead to the text with the chunk, and every view is nearly that text
 creation_leads : (w : World) (chunks : List Chunk) (k base : ℕ) (code : List ℕ) (marks : List Mark) → Creates w chunks k base code marks
     → Reaches w (events_of (record no_details { marks = marks }) (puts_where is_inside base code)
-    ++ (Settles ∷ events_of (record no_details { marks = marks }) (MarkSpan base (length code) ∷ puts_where is_start base code)))
+    ++ (Serializes ∷ events_of (record no_details { marks = marks }) (MarkSpan base (length code) ∷ puts_where is_start base code)))
     (record w { marked = with_chunk w.marked base code marks }) (IsNearly (with_chunk w.marked base code marks).bytes)
 creation_leads w chunks k base code marks c =
     let placed = c.joins.chunk.placed in
@@ -377,7 +377,7 @@ creation_leads w chunks k base code marks c =
     let b = lay_all (marked_world w base code marks a.bytes) (record no_details { marks = marks }) is_start base code a.bytes []
     (IsNearly (with_chunk w.marked base code marks).bytes)
     (may_lay_starts (marked_world w base code marks a.bytes) (with_chunk w.marked base code marks).bytes base code placed.low c.final code_is)
-    (omega (arith, fits, a.has.as_long)) (settled_views (IsNearly (with_chunk w.marked base code marks).bytes) a.bytes nearly) in
+    (omega (arith, fits, a.has.as_long)) (serialized_views (IsNearly (with_chunk w.marked base code marks).bytes) a.bytes nearly) in
     let same : b.bytes ≡ (with_chunk w.marked base code marks).bytes =
     final_all (with_chunk w.marked base code marks).bytes b.bytes (base + length code)
     (final_from_puts (with_chunk w.marked base code marks).bytes a.bytes b.bytes base code (length code)
@@ -393,10 +393,10 @@ creation_leads w chunks k base code marks c =
       leads =
           leads_more w (with_text w a.bytes a.earlier) (record w { marked = with_chunk w.marked base code marks; earlier = b.earlier }) _ _
           a.leads
-          (leads_more (with_text w a.bytes a.earlier) (settled w a.bytes)
-          (record w { marked = with_chunk w.marked base code marks; earlier = b.earlier }) (Settles ∷ []) _
-          (settling_leads w a.bytes a.earlier)
-          (leads_more (settled w a.bytes) (marked_world w base code marks a.bytes)
+          (leads_more (with_text w a.bytes a.earlier) (serialized w a.bytes)
+          (record w { marked = with_chunk w.marked base code marks; earlier = b.earlier }) (Serializes ∷ []) _
+          (serialization_leads w a.bytes a.earlier)
+          (leads_more (serialized w a.bytes) (marked_world w base code marks a.bytes)
           (record w { marked = with_chunk w.marked base code marks; earlier = b.earlier }) (Marks base marks ∷ []) _
           (marking_leads w chunks k base code marks a.bytes c a.has.as_long nearly) last));
       views = subst (λ (z : List ℕ). Views (IsNearly (with_chunk w.marked base code marks).bytes) z b.earlier) same b.views;

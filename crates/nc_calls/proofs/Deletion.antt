@@ -18,7 +18,7 @@ use Rattle.nc_list.specs.declared.chunk.Chunk.{Chunk}
 use Rattle.nc_list.specs.declared.chunk.ChunkState.TheVariants.{Retired}
 use Rattle.nc_region.specs.schedules.Spans.{IsQuiet, IsShut}
 use Rattle.nc_region.specs.schedules.World.{World, AreApart}
-use Rattle.nc_region.specs.schedules.Events.{Settles, Retires, IsAllowed, after, new_span}
+use Rattle.nc_region.specs.schedules.Events.{Serializes, Retires, IsAllowed, after, new_span}
 use Rattle.nc_region.proofs.Offered.{Keeps, admits_is_mark, shut_if_quiet, as_it_stands}
 use Rattle.nc_acts.specs.Acts.{is_mark, is_marked_at, is_unmarked_at, puts_where}
 use Rattle.nc_acts.specs.Chunks.{HasGoodSpan}
@@ -35,7 +35,7 @@ use Rattle.nc_calls.proofs.Good.{text_of, Good, KeepsInstruction, step_back, sto
 use Rattle.nc_calls.proofs.OnePut.{good_put_marked, good_put_unread, byte_beside, byte_there}
 use Rattle.nc_calls.proofs.Parting.{Kept, region_stopped}
 use Rattle.nc_calls.proofs.PutsWhole.{whole_put_unread, whole_put_stop}
-use Rattle.nc_calls.proofs.Putting.{with_text, settled, Views, Leads, Reaches, leads_one, leads_more, settling_leads, settled_views, MayLay, lay_all}
+use Rattle.nc_calls.proofs.Putting.{with_text, serialized, Views, Leads, Reaches, leads_one, leads_more, serialization_leads, serialized_views, MayLay, lay_all}
 use Rattle.nc_calls.proofs.RetiredSpans.{AreSpansOf, IsBeside, all_spans, retired_each}
 
 -- what is marked stands for some state
@@ -324,7 +324,7 @@ same_stopped base len old now low fits a =
     get_or-with_span_above now (base - 65536) (replicate len 244) k 0 there past
     ∙ agrees_at base len old now k a (inr (omega (arith, past, n))))
 
--- the text once stops are at all marked places, and nothing else is to be settled
+-- the text once stops are at all marked places, and nothing else is to be serialized
 pub record HasStopped (w : World) (c : Chunk) (now : List ℕ) (before : List (List ℕ)) : Type 0 where
   pub mid : List ℕ
   pub earlier : List (List ℕ)
@@ -357,7 +357,7 @@ pub deletion_leads : (w : World) (chunks : List Chunk) (k : ℕ) (c : Chunk) →
     (before : List (List ℕ)) → Agrees c.base c.length w.marked.bytes now → Views (λ view. Good view w.marked.marks w.retired) now before
     → Reaches (with_text w now before) (events_of (record no_details { base = c.base; len = c.length })
     (puts_where (is_marked_at w.marked.marks) c.base (replicate c.length 244))
-    ++ (Settles ∷ (events_of (record no_details { base = c.base; len = c.length })
+    ++ (Serializes ∷ (events_of (record no_details { base = c.base; len = c.length })
     (puts_where (is_unmarked_at w.marked.marks) c.base (replicate c.length 244)) ++ Retires c.base c.length ∷ [])))
     (after (record w { marked = stopped w c }) (Retires c.base c.length)) (Kept w.marked.marks (retired_list w chunks k c))
 deletion_leads w chunks k c r now before agrees good =
@@ -366,16 +366,16 @@ deletion_leads w chunks k c r now before agrees good =
     let a = stops_marked w chunks k c r now before agrees good in
     let b = lay_all w (record no_details { base = c.base; len = c.length }) (is_unmarked_at w.marked.marks) c.base
     (replicate c.length 244) a.mid [] (Emptied w c.base c.length a.mid) (may_lay_others w c.base c.length a.mid p)
-    (omega (arith, n, p.high, a.done.as_long, agrees.as_long)) (settled_views (Emptied w c.base c.length a.mid) a.mid a.emptied) in
+    (omega (arith, n, p.high, a.done.as_long, agrees.as_long)) (serialized_views (Emptied w c.base c.length a.mid) a.mid a.emptied) in
     let same : b.bytes ≡ (stopped w c).bytes =
     all_stops now a.mid b.bytes w.marked.marks c.base c.length p.low (omega (arith, p.high, agrees.as_long)) a.done
     (subst (λ (l : ℕ). HasPut (is_unmarked_at w.marked.marks) c.base (replicate c.length 244) l a.mid b.bytes) n b.has)
     ∙ same_stopped c.base c.length w.marked.bytes now p.low (omega (arith, p.high)) agrees in
     let views : Views (Emptied w c.base c.length a.mid) (stopped w c).bytes b.earlier =
     subst (λ (z : List ℕ). Views (Emptied w c.base c.length a.mid) z b.earlier) same b.views in
-    let second : Leads (settled w a.mid) (events_of (record no_details { base = c.base; len = c.length })
+    let second : Leads (serialized w a.mid) (events_of (record no_details { base = c.base; len = c.length })
     (puts_where (is_unmarked_at w.marked.marks) c.base (replicate c.length 244))) (record w { marked = stopped w c; earlier = b.earlier }) =
-    subst (λ (z : List ℕ). Leads (settled w a.mid) (events_of (record no_details { base = c.base; len = c.length })
+    subst (λ (z : List ℕ). Leads (serialized w a.mid) (events_of (record no_details { base = c.base; len = c.length })
     (puts_where (is_unmarked_at w.marked.marks) c.base (replicate c.length 244))) (with_text w z b.earlier)) same b.leads in
     let last = leads_one (record w { marked = stopped w c; earlier = b.earlier }) (Retires c.base c.length)
     (may_retire w chunks k c b.earlier a.mid r views) (λ whole. whole) in
@@ -386,9 +386,9 @@ deletion_leads w chunks k c r now before agrees good =
       leads = leads_more (with_text w now before) (with_text w a.mid a.earlier)
           (after (record w { marked = stopped w c; earlier = b.earlier })
           (Retires c.base c.length)) _ _ a.leads
-          (leads_more (with_text w a.mid a.earlier) (settled w a.mid) (after (record w { marked = stopped w c; earlier = b.earlier })
-          (Retires c.base c.length)) (Settles ∷ []) _ (settling_leads w a.mid a.earlier)
-          (leads_more (settled w a.mid) (record w { marked = stopped w c; earlier = b.earlier })
+          (leads_more (with_text w a.mid a.earlier) (serialized w a.mid) (after (record w { marked = stopped w c; earlier = b.earlier })
+          (Retires c.base c.length)) (Serializes ∷ []) _ (serialization_leads w a.mid a.earlier)
+          (leads_more (serialized w a.mid) (record w { marked = stopped w c; earlier = b.earlier })
           (after (record w { marked = stopped w c; earlier = b.earlier }) (Retires c.base c.length)) _ (Retires c.base c.length ∷ [])
           second last));
       views = λ view v.

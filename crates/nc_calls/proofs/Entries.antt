@@ -3,24 +3,24 @@ use Rattle.std.proofs.Common.{◌≡◌, ℕ, ◌+◌, Bool, true, false, cond, 
 use Rattle.std.specs.List.{flat_map}
 use Rattle.nc_decode.specs.declared.instruction.Mark.{Mark}
 use Rattle.nc_vet.specs.Chunk.{MarkedChunk, Piece}
-use Rattle.nc_region.specs.schedules.Events.{Event, Puts, Settles, Retires}
+use Rattle.nc_region.specs.schedules.Events.{Event, Puts, Serializes, Retires}
 use Rattle.nc_acts.specs.declared.acts.Act.{Act}
 use Rattle.nc_acts.specs.declared.acts.Act.TheVariants.{MarkSpan, Bump}
 use Rattle.nc_acts.specs.declared.acts.Entry.{Entry}
-use Rattle.nc_acts.specs.declared.acts.Entry.TheVariants.{Did, Settled}
+use Rattle.nc_acts.specs.declared.acts.Entry.TheVariants.{Did, Serialized}
 use Rattle.nc_acts.specs.Acts.{puts_where, is_inside, is_start, is_marked_at, is_unmarked_at}
-use Rattle.nc_acts.specs.Log.{unsettled}
+use Rattle.nc_acts.specs.Log.{unserialized}
 use Rattle.nc_region.specs.Patch.{any_place, stands_there, log_of_instruction, log_of_modify}
 use Rattle.nc_calls.specs.Calls.{Details, no_details, events_of_act, events_of_log, create_events, modify_events, delete_events}
 
--- the events that acts are, with no settling among them
+-- the events that acts are, with no serialization among them
 abbrev pub events_of : Details → List Act → List Event
 events_of d acts = flat_map (events_of_act d) acts
 
--- the events of a log with no settling are those of its acts
-pub unsettled_events : (d : Details) (acts : List Act) → events_of_log d (unsettled acts) ≡ events_of d acts
-unsettled_events d [] = refl
-unsettled_events d (act ∷ acts) = ap (λ (z : List Event). events_of_act d act ++ z) (unsettled_events d acts)
+-- the events of a log with no serialization are those of its acts
+pub unserialized_events : (d : Details) (acts : List Act) → events_of_log d (unserialized acts) ≡ events_of d acts
+unserialized_events d [] = refl
+unserialized_events d (act ∷ acts) = ap (λ (z : List Event). events_of_act d act ++ z) (unserialized_events d acts)
 
 -- the events of two logs are those of the one and then those of the other
 pub log_append : (d : Details) (xs ys : List Entry) → events_of_log d (xs ++ ys) ≡ events_of_log d xs ++ events_of_log d ys
@@ -28,36 +28,36 @@ log_append d [] ys = refl
 log_append d (Did act ∷ xs) ys =
     ap (λ (z : List Event). events_of_act d act ++ z) (log_append d xs ys)
     ∙ sym (append_assoc (events_of_act d act) (events_of_log d xs) (events_of_log d ys))
-log_append d (Settled ∷ xs) ys = ap (λ (z : List Event). Settles ∷ z) (log_append d xs ys)
+log_append d (Serialized ∷ xs) ys = ap (λ (z : List Event). Serializes ∷ z) (log_append d xs ys)
 
 -- the events of acts and then a log are those of the acts and then those of the log
 acts_then : (d : Details) (acts : List Act) (rest : List Entry)
-    → events_of_log d (unsettled acts ++ rest) ≡ events_of d acts ++ events_of_log d rest
+    → events_of_log d (unserialized acts ++ rest) ≡ events_of d acts ++ events_of_log d rest
 acts_then d acts rest =
-    log_append d (unsettled acts) rest ∙ ap (λ (z : List Event). z ++ events_of_log d rest) (unsettled_events d acts)
+    log_append d (unserialized acts) rest ∙ ap (λ (z : List Event). z ++ events_of_log d rest) (unserialized_events d acts)
 
 -- the events of a creation, part by part
 pub create_is : (v : MarkedChunk) → create_events v ≡ events_of (record no_details { marks = v.marks }) (puts_where is_inside v.base v.code)
-    ++ (Settles ∷ events_of (record no_details { marks = v.marks }) (MarkSpan v.base (length v.code) ∷ puts_where is_start v.base v.code))
+    ++ (Serializes ∷ events_of (record no_details { marks = v.marks }) (MarkSpan v.base (length v.code) ∷ puts_where is_start v.base v.code))
 create_is v =
     let d : Details = record no_details { marks = v.marks } in
     let first = events_of (record no_details { marks = v.marks }) (puts_where is_inside v.base v.code) in
     acts_then (record no_details { marks = v.marks }) (puts_where is_inside v.base v.code)
-    (Settled ∷ Did (MarkSpan v.base (length v.code)) ∷ unsettled (puts_where is_start v.base v.code))
+    (Serialized ∷ Did (MarkSpan v.base (length v.code)) ∷ unserialized (puts_where is_start v.base v.code))
     ∙ ap (λ (z : List Event). events_of (record no_details { marks = v.marks }) (puts_where is_inside v.base v.code)
-    ++ (Settles ∷ (events_of_act (record no_details { marks = v.marks }) (MarkSpan v.base (length v.code)) ++ z)))
-    (unsettled_events (record no_details { marks = v.marks }) (puts_where is_start v.base v.code))
+    ++ (Serializes ∷ (events_of_act (record no_details { marks = v.marks }) (MarkSpan v.base (length v.code)) ++ z)))
+    (unserialized_events (record no_details { marks = v.marks }) (puts_where is_start v.base v.code))
 
 -- the events of a deletion, part by part
 pub delete_is : (marks : List Mark) (base len : ℕ) → delete_events marks base len
     ≡ events_of (record no_details { base = base; len = len }) (puts_where (is_marked_at marks) base (replicate len 244))
-    ++ (Settles ∷ (events_of (record no_details { base = base; len = len }) (puts_where (is_unmarked_at marks) base (replicate len 244))
+    ++ (Serializes ∷ (events_of (record no_details { base = base; len = len }) (puts_where (is_unmarked_at marks) base (replicate len 244))
     ++ Retires base len ∷ []))
 delete_is marks base len =
     acts_then (record no_details { base = base; len = len }) (puts_where (is_marked_at marks) base (replicate len 244))
-    (Settled ∷ (unsettled (puts_where (is_unmarked_at marks) base (replicate len 244)) ++ Did Bump ∷ []))
+    (Serialized ∷ (unserialized (puts_where (is_unmarked_at marks) base (replicate len 244)) ++ Did Bump ∷ []))
     ∙ ap (λ (z : List Event). events_of (record no_details { base = base; len = len })
-    (puts_where (is_marked_at marks) base (replicate len 244)) ++ (Settles ∷ z))
+    (puts_where (is_marked_at marks) base (replicate len 244)) ++ (Serializes ∷ z))
     (acts_then (record no_details { base = base; len = len }) (puts_where (is_unmarked_at marks) base (replicate len 244)) (Did Bump ∷ []))
 
 -- one instruction of a patch
@@ -65,7 +65,7 @@ abbrev pub instruction_events : ℕ → List ℕ → List Event
 instruction_events at [] = []
 instruction_events at (byte ∷ []) = Puts at byte ∷ []
 instruction_events at (byte ∷ next ∷ rest) =
-    Puts at 244 ∷ Settles ∷ (events_of no_details (puts_where any_place (at + 1) (next ∷ rest)) ++ (Settles ∷ Puts at byte ∷ []))
+    Puts at 244 ∷ Serializes ∷ (events_of no_details (puts_where any_place (at + 1) (next ∷ rest)) ++ (Serializes ∷ Puts at byte ∷ []))
 
 -- the events of all instructions of a patch
 abbrev pub patch_events : List ℕ → ℕ → List Piece → List Event
@@ -78,8 +78,8 @@ instruction_is : (at : ℕ) (bytes : List ℕ) → events_of_log no_details (log
 instruction_is at [] = refl
 instruction_is at (byte ∷ []) = refl
 instruction_is at (byte ∷ next ∷ rest) =
-    ap (λ (z : List Event). Puts at 244 ∷ Settles ∷ z)
-    (acts_then no_details (puts_where any_place (at + 1) (next ∷ rest)) (Settled ∷ Did (Act.Put at byte) ∷ []))
+    ap (λ (z : List Event). Puts at 244 ∷ Serializes ∷ z)
+    (acts_then no_details (puts_where any_place (at + 1) (next ∷ rest)) (Serialized ∷ Did (Act.Put at byte) ∷ []))
 
 -- the events of an instruction's log, made or not, are its events
 turn_is : (b : Bool) (at : ℕ) (bytes : List ℕ)

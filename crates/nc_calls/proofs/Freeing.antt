@@ -12,7 +12,7 @@ use Rattle.nc_list.specs.declared.chunk.ChunkState.TheVariants.{Live, Retired}
 use Rattle.nc_region.specs.schedules.Spans.{RetiredSpan}
 use Rattle.nc_region.specs.schedules.Views.{IsView}
 use Rattle.nc_region.specs.schedules.World.{World, IsViewOf, is_same_span}
-use Rattle.nc_region.specs.schedules.Events.{Event, Steps, Enters, Exits, Takes, Sees, Stores, Leaves, Puts, Settles, Marks, Bumps, Retires, Frees}
+use Rattle.nc_region.specs.schedules.Events.{Event, Steps, Enters, Exits, Takes, Sees, Stores, Leaves, Puts, Serializes, Marks, Bumps, Retires, Frees}
 use Rattle.nc_region.specs.schedules.Events.{Looks, after, world_after, AreAllowed}
 use Rattle.nc_region.proofs.Offered.{Keeps, keeps_event, may_free_now, freed_was}
 use Rattle.nc_region.specs.Deletion.{is_due, kept}
@@ -103,7 +103,7 @@ thins (Leaves k ∷ events) w spans least keeps a may =
     thins_more w (Leaves k) events (thinned_beside w (after w (Leaves k)) refl refl)
     (thins events (after w (Leaves k)) spans least (keeps_event w (Leaves k) keeps a.0) a.1 may)
 thins (Puts at byte ∷ events) w spans least keeps a may = absurd may
-thins (Settles ∷ events) w spans least keeps a may = absurd may
+thins (Serializes ∷ events) w spans least keeps a may = absurd may
 thins (Marks at marks ∷ events) w spans least keeps a may = absurd may
 thins (Bumps ∷ events) w spans least keeps a may = absurd may
 thins (Retires base len ∷ events) w spans least keeps a may = absurd may

@@ -2,7 +2,7 @@
 use Rattle.std.proofs.Common.{◌≡◌, true, List, [], ◌∷◌, refl, ◌∙◌, sym, ap, subst}
 use Rattle.std.specs.Prelude.{⊤}
 use Rattle.nc_region.specs.schedules.World.{World, Seat}
-use Rattle.nc_region.specs.schedules.Events.{Event, Steps, Enters, Exits, Takes, Sees, Stores, Leaves, Puts, Settles, Marks, Bumps, Retires, Frees}
+use Rattle.nc_region.specs.schedules.Events.{Event, Steps, Enters, Exits, Takes, Sees, Stores, Leaves, Puts, Serializes, Marks, Bumps, Retires, Frees}
 use Rattle.nc_region.specs.schedules.Events.{Looks}
 use Rattle.nc_region.specs.schedules.Events.{IsAllowed, after, world_after, AreAllowed}
 use Rattle.nc_calls.specs.Interleaving.{is_writers, writers, ThreadsMay}
@@ -12,11 +12,11 @@ use Rattle.nc_calls.proofs.StaysWhole.{StaysWhole, whole_first}
 abbrev pub seated : World → List Seat → World
 seated w seats = record w { seats = seats }
 
--- each of the events is a put, a settling or a marking, or raises the generation
+-- each of the events is a put, a serialization or a marking, or raises the generation
 abbrev pub ArePlain : List Event → Type 0
 ArePlain [] = ⊤
 ArePlain (Puts at byte ∷ events) = ArePlain events
-ArePlain (Settles ∷ events) = ArePlain events
+ArePlain (Serializes ∷ events) = ArePlain events
 ArePlain (Marks at marks ∷ events) = ArePlain events
 ArePlain (Bumps ∷ events) = ArePlain events
 ArePlain (Retires base len ∷ events) = ArePlain events
@@ -81,8 +81,8 @@ interleave w seats (Leaves k ∷ events) plain allowed threads =
 interleave w seats (Puts at byte ∷ events) plain allowed threads =
     writer_more w seats (Puts at byte) events refl allowed.0 refl refl
     (interleave (after w (Puts at byte)) seats events plain allowed.1 threads.1)
-interleave w seats (Settles ∷ events) plain allowed threads =
-    writer_more w seats Settles events refl allowed.0 refl refl (interleave (after w Settles) seats events plain allowed.1 threads.1)
+interleave w seats (Serializes ∷ events) plain allowed threads =
+    writer_more w seats Serializes events refl allowed.0 refl refl (interleave (after w Serializes) seats events plain allowed.1 threads.1)
 interleave w seats (Marks at marks ∷ events) plain allowed threads =
     writer_more w seats (Marks at marks) events refl allowed.0 refl refl
     (interleave (after w (Marks at marks)) seats events plain allowed.1 threads.1)

@@ -19,7 +19,7 @@ use Rattle.nc_calls.proofs.OneMoreCall.{Grows, grown}
 use Rattle.nc_calls.proofs.Knowing.{knows_as_much}
 use Rattle.nc_calls.proofs.Looking.{KeeperOnly, keeper_interleaved, placed}
 use Rattle.nc_calls.proofs.Parting.{Kept, region_kept}
-use Rattle.nc_calls.proofs.Putting.{settled_views}
+use Rattle.nc_calls.proofs.Putting.{serialized_views}
 
 -- the keeper's own events lead to a world that stands for the new region
 pub keeper : (limit seats : ℕ) (before events : List Event) (old new : Region) → HasLedTo limit seats before old
@@ -49,7 +49,7 @@ keeper limit seats before events old new h marked chunks own threads found range
 first_views : (limit seats : ℕ) → IsLawfulLimit limit → ViewsKeep (first_world limit seats) []
 first_views limit seats lawful =
     let region : IsRegion (unused_text limit) [] = region_of_new (unused_text limit) (limit, lawful, refl) in
-    let kept = settled_views (Kept (unused_text limit).marks []) (unused_text limit).bytes (region_kept (unused_text limit) [] region) in
+    let kept = serialized_views (Kept (unused_text limit).marks []) (unused_text limit).bytes (region_kept (unused_text limit) [] region) in
     record { parted = λ view v. (kept view v).parted; stopped = λ view v. (kept view v).stopped }
 
 -- A new region. It is the one over an unused keeper, after what this keeper did.

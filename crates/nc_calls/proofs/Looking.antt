@@ -8,7 +8,7 @@ use Rattle.nc_gens.specs.declared.view.KeeperNumbers.{KeeperNumbers}
 use Rattle.nc_gens.specs.Rule.{left_word, last_generation}
 use Rattle.nc_gens.specs.Seen.{staying, least_or, least_number}
 use Rattle.nc_region.specs.schedules.World.{World, Seat, seat_at, HasPassed}
-use Rattle.nc_region.specs.schedules.Events.{Event, Steps, Enters, Exits, Takes, Sees, Stores, Leaves, Puts, Settles, Marks, Bumps, Retires, Frees}
+use Rattle.nc_region.specs.schedules.Events.{Event, Steps, Enters, Exits, Takes, Sees, Stores, Leaves, Puts, Serializes, Marks, Bumps, Retires, Frees}
 use Rattle.nc_region.specs.schedules.Events.{Looks}
 use Rattle.nc_region.specs.schedules.Events.{IsAllowed, after, world_after, AreAllowed}
 use Rattle.nc_region.proofs.Offered.{Keeps}
@@ -121,7 +121,7 @@ keeper_interleaved w (Leaves k ∷ events) keeper seats own threads =
     keeper_more w keeper keeper seats _ (Leaves k) events (threads.0 refl) refl (keeper_interleaved w events keeper _ own threads.1)
 keeper_interleaved w (Puts at byte ∷ events) keeper seats own threads =
     absurd (All-head IsKeepers (Puts at byte) (writers events) own)
-keeper_interleaved w (Settles ∷ events) keeper seats own threads = absurd (All-head IsKeepers Settles (writers events) own)
+keeper_interleaved w (Serializes ∷ events) keeper seats own threads = absurd (All-head IsKeepers Serializes (writers events) own)
 keeper_interleaved w (Marks at marks ∷ events) keeper seats own threads =
     absurd (All-head IsKeepers (Marks at marks) (writers events) own)
 keeper_interleaved w (Retires base len ∷ events) keeper seats own threads =

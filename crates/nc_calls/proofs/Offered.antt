@@ -10,6 +10,6 @@ pub use Rattle.nc_calls.proofs.Looking.{KeeperOnly, keeper_interleaved}
 pub use Rattle.nc_calls.proofs.StillRegion.{still_created, still_patched, still_deleted, still_reclaimed}
 pub use Rattle.nc_calls.proofs.Refusals.{refusal_same, refusal_silent}
 pub use Rattle.nc_calls.proofs.Knowing.{knows_as_much, knows_raised}
-pub use Rattle.nc_calls.proofs.StaysWhole.{IsWholeIn, StaysWhole, whole_settled, whole_append, whole_front}
+pub use Rattle.nc_calls.proofs.StaysWhole.{IsWholeIn, StaysWhole, whole_serialized, whole_append, whole_front}
 pub use Rattle.nc_calls.proofs.Fetching.{fetch_whole_after}
 pub use Rattle.nc_calls.proofs.AllTurns.{Stays, same_region, call_stays, all_stand}

@@ -13,7 +13,7 @@ use Rattle.nc_list.specs.declared.chunk.Chunk.{Chunk}
 use Rattle.nc_list.specs.declared.chunk.ChunkState.TheVariants.{Retired}
 use Rattle.nc_region.specs.schedules.Spans.{RetiredSpan}
 use Rattle.nc_region.specs.schedules.World.{World, Seat, first_world}
-use Rattle.nc_region.specs.schedules.Events.{Event, Settles, Marks, Retires, after, world_after, AreAllowed}
+use Rattle.nc_region.specs.schedules.Events.{Event, Serializes, Marks, Retires, after, world_after, AreAllowed}
 use Rattle.nc_region.proofs.Offered.{Keeps, keeps_reached, allowed_append, after_append}
 use Rattle.nc_acts.specs.Acts.{puts_where, is_inside, is_start, is_marked_at, is_unmarked_at}
 use Rattle.nc_acts.specs.Chunks.{with_chunk}
@@ -49,7 +49,7 @@ create_plain v =
     let starts = events_of (record { marks = v.marks; base = 0; len = 0; seats = 0; spans = [] }) (puts_where is_start v.base v.code) in
     subst ArePlain (sym (create_is v))
     (plain_puts d is_inside v.base v.code
-    (Settles ∷ Marks v.base v.marks ∷ events_of (record { marks = v.marks; base = 0; len = 0; seats = 0; spans = [] })
+    (Serializes ∷ Marks v.base v.marks ∷ events_of (record { marks = v.marks; base = 0; len = 0; seats = 0; spans = [] })
     (puts_where is_start v.base v.code))
     (subst ArePlain (append-nil (events_of (record { marks = v.marks; base = 0; len = 0; seats = 0; spans = [] })
     (puts_where is_start v.base v.code)))
@@ -61,7 +61,7 @@ delete_plain marks base len =
     let d : Details = record { marks = []; base = base; len = len; seats = 0; spans = [] } in
     subst ArePlain (sym (delete_is marks base len))
     (plain_puts d (is_marked_at marks) base (replicate len 244)
-    (Settles ∷ (events_of (record { marks = []; base = base; len = len; seats = 0; spans = [] })
+    (Serializes ∷ (events_of (record { marks = []; base = base; len = len; seats = 0; spans = [] })
     (puts_where (is_unmarked_at marks) base (replicate len 244)) ++ Retires base len ∷ []))
     (plain_puts d (is_unmarked_at marks) base (replicate len 244) (Retires base len ∷ []) tt))
 
@@ -76,8 +76,8 @@ part_plain marks base len part more (OfOthers n le is) plain =
     (puts_where (is_unmarked_at marks) base (replicate n 244)) in
     subst (λ (z : List Event). ArePlain (z ++ more)) (sym is)
     (subst ArePlain (sym (append_assoc (events_of (record no_details { base = base; len = len })
-    (puts_where (is_marked_at marks) base (replicate len 244))) (Settles ∷ others) more))
-    (plain_puts d (is_marked_at marks) base (replicate len 244) (Settles ∷ (others ++ more))
+    (puts_where (is_marked_at marks) base (replicate len 244))) (Serializes ∷ others) more))
+    (plain_puts d (is_marked_at marks) base (replicate len 244) (Serializes ∷ (others ++ more))
     (plain_puts d (is_unmarked_at marks) base (replicate n 244) more plain)))
 
 -- any number of attempts at a deletion are plain before plain events

@@ -19,7 +19,7 @@ use Rattle.nc_vet.proofs.Offered.{same_pieces}
 use Rattle.nc_list.specs.declared.chunk.Chunk.{Chunk}
 use Rattle.nc_region.specs.schedules.Spans.{RetiredSpan}
 use Rattle.nc_region.specs.schedules.World.{World}
-use Rattle.nc_region.specs.schedules.Events.{Event, Puts, Settles}
+use Rattle.nc_region.specs.schedules.Events.{Event, Puts, Serializes}
 use Rattle.nc_region.proofs.Offered.{as_it_stands, only_as_it_stands}
 use Rattle.nc_acts.specs.Acts.{is_mark, puts_where}
 use Rattle.nc_region.specs.Patch.{AreBytesOf, IsHeldBy, IsPatch, any_place, stands_there}
@@ -37,7 +37,7 @@ use Rattle.nc_calls.proofs.OnePut.{good_put_marked, good_put_unread, byte_beside
 use Rattle.nc_calls.proofs.Parting.{region_good, region_stopped}
 use Rattle.nc_calls.proofs.PutsWhole.{whole_put_unread, whole_put_marked, whole_put_single, whole_put_stop}
 use Rattle.nc_calls.proofs.StaysWhole.{PutsWhole}
-use Rattle.nc_calls.proofs.Putting.{with_text, settled, Views, Leads, Reaches, leads_none, leads_more, put_leads, settling_leads, settled_views, MayLay, lay_all}
+use Rattle.nc_calls.proofs.Putting.{with_text, serialized, Views, Leads, Reaches, leads_none, leads_more, put_leads, serialization_leads, serialized_views, MayLay, lay_all}
 use Rattle.nc_calls.proofs.RetiredSpans.{AreSpansOf}
 
 -- what every view keeps from one instruction to the next
@@ -216,7 +216,7 @@ may_lay_rest w chunks at first rest r =
 -- the events of a new instruction of several bytes lead to the world with it in place
 longer_leads : (w : World) (chunks : List Chunk) (at first : ℕ) (rest : List ℕ) → Replaces w chunks at (first ∷ rest)
     → Views (λ view. Sound w chunks view) w.marked.bytes w.earlier
-    → Reaches w (Puts at 244 ∷ Settles ∷ (events_of no_details (puts_where any_place (at + 1) rest) ++ (Settles ∷ Puts at first ∷ [])))
+    → Reaches w (Puts at 244 ∷ Serializes ∷ (events_of no_details (puts_where any_place (at + 1) rest) ++ (Serializes ∷ Puts at first ∷ [])))
     (record w { marked = changed w.marked at (first ∷ rest) }) (λ view. Sound w chunks view)
 longer_leads w chunks at first rest r views =
     let inside : InRegion w.marked.bytes at = (r.replacing.low, omega (arith, r.replacing.high)) in
@@ -234,35 +234,35 @@ longer_leads w chunks at first rest r views =
     } in
     let a = lay_all w no_details any_place (at + 1) rest (set w.marked.bytes (at - 65536) 244) [] (Open w chunks at)
     (may_lay_rest w chunks at first rest r) (omega (arith, r.replacing.high, long0))
-    (settled_views (Open w chunks at) (set w.marked.bytes (at - 65536) 244) opened) in
+    (serialized_views (Open w chunks at) (set w.marked.bytes (at - 65536) 244) opened) in
     let long : length a.bytes ≡ length w.marked.bytes = a.has.as_long ∙ long0 in
     let same : set a.bytes (at - 65536) first ≡ (changed w.marked at (first ∷ rest)).bytes =
     patch_final w.marked at first rest a.bytes r.replacing a.has in
     let here = a.views a.bytes (as_it_stands a.bytes a.earlier) in
     let b = put_leads w (λ view. Sound w chunks view) a.bytes [] at first (inside.0, omega (arith, inside.1, long)) (λ view s. s.good)
-    (settled_views (λ view. Sound w chunks view) a.bytes here.sound)
+    (serialized_views (λ view. Sound w chunks view) a.bytes here.sound)
     (λ view is s. subst (λ (z : List ℕ). Sound w chunks (set z (at - 65536) first)) (sym (only_as_it_stands a.bytes view is))
     (subst (λ view. Sound w chunks view) (sym same) r.final))
     (λ view is s. whole_put_marked w.marked.marks w.retired view a.bytes (state at r.masked) first s.good inside.0 r.marked
     (λ i there k lt. ap (λ (z : List ℕ). byte_at (set z (at - 65536) first) (at + k)) (sym (only_as_it_stands a.bytes view is)))) in
     let is : b.bytes ≡ (changed w.marked at (first ∷ rest)).bytes = b.has ∙ same in
     let end : World = record w { marked = changed w.marked at (first ∷ rest); earlier = b.earlier } in
-    let last : Leads (settled w a.bytes) (Puts at first ∷ [])
+    let last : Leads (serialized w a.bytes) (Puts at first ∷ [])
     (record w { marked = changed w.marked at (first ∷ rest); earlier = b.earlier }) =
-    subst (λ (z : List ℕ). Leads (settled w a.bytes) (Puts at first ∷ []) (with_text w z b.earlier)) is b.leads in
+    subst (λ (z : List ℕ). Leads (serialized w a.bytes) (Puts at first ∷ []) (with_text w z b.earlier)) is b.leads in
     record {
       earlier = b.earlier;
       leads =
           leads_more w (with_text w (set w.marked.bytes (at - 65536) 244) p.earlier)
           (record w { marked = changed w.marked at (first ∷ rest); earlier = b.earlier }) (Puts at 244 ∷ []) _ started
-          (leads_more (with_text w (set w.marked.bytes (at - 65536) 244) p.earlier) (settled w (set w.marked.bytes (at - 65536) 244))
-          (record w { marked = changed w.marked at (first ∷ rest); earlier = b.earlier }) (Settles ∷ []) _
-          (settling_leads w (set w.marked.bytes (at - 65536) 244) p.earlier)
-          (leads_more (settled w (set w.marked.bytes (at - 65536) 244)) (with_text w a.bytes a.earlier)
-          (record w { marked = changed w.marked at (first ∷ rest); earlier = b.earlier }) _ (Settles ∷ Puts at first ∷ []) a.leads
-          (leads_more (with_text w a.bytes a.earlier) (settled w a.bytes)
-          (record w { marked = changed w.marked at (first ∷ rest); earlier = b.earlier }) (Settles ∷ []) (Puts at first ∷ [])
-          (settling_leads w a.bytes a.earlier) last)));
+          (leads_more (with_text w (set w.marked.bytes (at - 65536) 244) p.earlier) (serialized w (set w.marked.bytes (at - 65536) 244))
+          (record w { marked = changed w.marked at (first ∷ rest); earlier = b.earlier }) (Serializes ∷ []) _
+          (serialization_leads w (set w.marked.bytes (at - 65536) 244) p.earlier)
+          (leads_more (serialized w (set w.marked.bytes (at - 65536) 244)) (with_text w a.bytes a.earlier)
+          (record w { marked = changed w.marked at (first ∷ rest); earlier = b.earlier }) _ (Serializes ∷ Puts at first ∷ []) a.leads
+          (leads_more (with_text w a.bytes a.earlier) (serialized w a.bytes)
+          (record w { marked = changed w.marked at (first ∷ rest); earlier = b.earlier }) (Serializes ∷ []) (Puts at first ∷ [])
+          (serialization_leads w a.bytes a.earlier) last)));
       views = subst (λ (z : List ℕ). Views (λ view. Sound w chunks view) z b.earlier) is b.views;
     }
 

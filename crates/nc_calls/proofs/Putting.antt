@@ -5,7 +5,7 @@ use Rattle.std.proofs.lemmas.List.{drop_more, length-drop}
 use Rattle.nc_text.specs.Places.{InRegion}
 use Rattle.nc_region.specs.schedules.Views.{IsView}
 use Rattle.nc_region.specs.schedules.World.{World}
-use Rattle.nc_region.specs.schedules.Events.{Event, Puts, Settles, IsAllowed, after, world_after, AreAllowed}
+use Rattle.nc_region.specs.schedules.Events.{Event, Puts, Serializes, IsAllowed, after, world_after, AreAllowed}
 use Rattle.nc_region.proofs.Offered.{allowed_append, after_append, views_after_put, as_it_stands, only_as_it_stands}
 use Rattle.nc_acts.specs.declared.acts.Act.TheVariants.{Put}
 use Rattle.nc_acts.specs.Acts.{puts_where}
@@ -14,23 +14,23 @@ use Rattle.nc_region.proofs.Offered.{put_none, put_more, put_passed}
 use Rattle.nc_calls.specs.Calls.{Details}
 use Rattle.nc_calls.proofs.Entries.{events_of}
 use Rattle.nc_calls.proofs.Good.{text_of, Good}
-use Rattle.nc_calls.proofs.StaysWhole.{PutsWhole, whole_after_put, whole_settled, IsWholeIn, StaysWhole, whole_append}
+use Rattle.nc_calls.proofs.StaysWhole.{PutsWhole, whole_after_put, whole_serialized, IsWholeIn, StaysWhole, whole_append}
 
 -- the world with these bytes, after those that stood before
 abbrev pub with_text : World → List ℕ → List (List ℕ) → World
 with_text w bytes earlier = record w { marked = text_of bytes w.marked.marks; earlier = earlier }
 
--- the world with these bytes, and nothing put since it settled
-abbrev pub settled : World → List ℕ → World
-settled w bytes = with_text w bytes []
+-- the world with these bytes, and nothing put since it serialized
+abbrev pub serialized : World → List ℕ → World
+serialized w bytes = with_text w bytes []
 
 -- what holds of every view of a text and of those that stood before it
 abbrev pub Views : (List ℕ → Type 0) → List ℕ → List (List ℕ) → Type 0
 Views V bytes earlier = (view : List ℕ) → IsView bytes earlier view → V view
 
--- where nothing was put since the last settling, what holds of the text holds of every view
-pub settled_views : (V : List ℕ → Type 0) (bytes : List ℕ) → V bytes → Views V bytes []
-settled_views V bytes v = λ view is. subst V (sym (only_as_it_stands bytes view is)) v
+-- where nothing was put since the last serialization, what holds of the text holds of every view
+pub serialized_views : (V : List ℕ → Type 0) (bytes : List ℕ) → V bytes → Views V bytes []
+serialized_views V bytes v = λ view is. subst V (sym (only_as_it_stands bytes view is)) v
 
 -- Events that are allowed in one world and lead to another. If what views have at marked places stood there whole before them, it
 -- did after each.
@@ -98,9 +98,9 @@ put_leads w V now before at byte inside good views put whole =
       views = later;
     }
 
--- a settling leads to the world that has settled
-pub settling_leads : (w : World) (now : List ℕ) (before : List (List ℕ)) → Leads (with_text w now before) (Settles ∷ []) (settled w now)
-settling_leads w now before = leads_one (with_text w now before) Settles tt (λ whole. whole_settled w.marked.marks now)
+-- a serialization leads to the world that has serialized
+pub serialization_leads : (w : World) (now : List ℕ) (before : List (List ℕ)) → Leads (with_text w now before) (Serializes ∷ []) (serialized w now)
+serialization_leads w now before = leads_one (with_text w now before) Serializes tt (λ whole. whole_serialized w.marked.marks now)
 
 -- what a run of puts needs: views with V are good, and have V again after each of the puts, in whatever order; and each puts
 -- instructions whole

@@ -16,7 +16,7 @@ use Rattle.nc_list.specs.declared.chunk.ChunkState.{ChunkState}
 use Rattle.nc_list.specs.declared.chunk.ChunkState.TheVariants.{Live, Retired}
 use Rattle.nc_region.specs.schedules.Spans.{RetiredSpan}
 use Rattle.nc_region.specs.schedules.World.{World, Seat, is_same_span}
-use Rattle.nc_region.specs.schedules.Events.{Event, Steps, Enters, Exits, Takes, Sees, Stores, Leaves, Puts, Settles, Marks, Bumps, Retires, Frees}
+use Rattle.nc_region.specs.schedules.Events.{Event, Steps, Enters, Exits, Takes, Sees, Stores, Leaves, Puts, Serializes, Marks, Bumps, Retires, Frees}
 use Rattle.nc_region.specs.schedules.Events.{Looks}
 use Rattle.nc_region.specs.schedules.Events.{IsAllowed, after, world_after}
 use Rattle.nc_region.proofs.Offered.{Keeps, keeps_event}
@@ -71,7 +71,7 @@ frees_interleaved (Leaves k ∷ events) w seats known keeps range knows may thre
     thread_more w seats _ (Leaves k) events (threads.0 refl) refl refl
     (frees_interleaved events w _ known (keeps_event (seated w seats) (Leaves k) keeps (threads.0 refl)) range knows may threads.1)
 frees_interleaved (Puts at byte ∷ events) w seats known keeps range knows may threads = absurd may
-frees_interleaved (Settles ∷ events) w seats known keeps range knows may threads = absurd may
+frees_interleaved (Serializes ∷ events) w seats known keeps range knows may threads = absurd may
 frees_interleaved (Marks at marks ∷ events) w seats known keeps range knows may threads = absurd may
 frees_interleaved (Bumps ∷ events) w seats known keeps range knows may threads = absurd may
 frees_interleaved (Retires base len ∷ events) w seats known keeps range knows may threads = absurd may
@@ -316,7 +316,7 @@ keeper_stays (Sees k ∷ events) w spans least may = keeper_stays events (after 
 keeper_stays (Stores k ∷ events) w spans least may = keeper_stays events (after w (Stores k)) spans least may
 keeper_stays (Leaves k ∷ events) w spans least may = keeper_stays events (after w (Leaves k)) spans least may
 keeper_stays (Puts at byte ∷ events) w spans least may = absurd may
-keeper_stays (Settles ∷ events) w spans least may = absurd may
+keeper_stays (Serializes ∷ events) w spans least may = absurd may
 keeper_stays (Marks at marks ∷ events) w spans least may = absurd may
 keeper_stays (Bumps ∷ events) w spans least may = absurd may
 keeper_stays (Retires base len ∷ events) w spans least may = absurd may

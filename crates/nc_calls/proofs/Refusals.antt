@@ -4,7 +4,7 @@ use Rattle.nc_vet.specs.Chunk.{MarkedChunk}
 use Rattle.nc_region.specs.declared.fault.CreateFault.{CreateFault}
 use Rattle.nc_region.specs.declared.fault.CreateFault.TheVariants.{WrongLimit, Occupied, OutOfMemory}
 use Rattle.nc_region.specs.schedules.World.{World}
-use Rattle.nc_region.specs.schedules.Events.{Event, Steps, Enters, Exits, Takes, Sees, Stores, Leaves, Puts, Settles, Marks, Bumps, Retires, Frees}
+use Rattle.nc_region.specs.schedules.Events.{Event, Steps, Enters, Exits, Takes, Sees, Stores, Leaves, Puts, Serializes, Marks, Bumps, Retires, Frees}
 use Rattle.nc_region.specs.schedules.Events.{Looks, after, world_after}
 use Rattle.nc_region.specs.Region.{Region, IsRefused}
 use Rattle.nc_calls.specs.Interleaving.{writers}
@@ -45,7 +45,7 @@ only_seats w (Sees k ∷ events) own = only_seats (after w (Sees k)) events own
 only_seats w (Stores k ∷ events) own = only_seats (after w (Stores k)) events own
 only_seats w (Leaves k ∷ events) own = only_seats (after w (Leaves k)) events own
 only_seats w (Puts at byte ∷ events) own = absurd (let no : Puts at byte ∷ writers events ≡ [] = own in cc)
-only_seats w (Settles ∷ events) own = absurd (let no : Settles ∷ writers events ≡ [] = own in cc)
+only_seats w (Serializes ∷ events) own = absurd (let no : Serializes ∷ writers events ≡ [] = own in cc)
 only_seats w (Marks at marks ∷ events) own = absurd (let no : Marks at marks ∷ writers events ≡ [] = own in cc)
 only_seats w (Bumps ∷ events) own = absurd (let no : Bumps ∷ writers events ≡ [] = own in cc)
 only_seats w (Retires base len ∷ events) own = absurd (let no : Retires base len ∷ writers events ≡ [] = own in cc)

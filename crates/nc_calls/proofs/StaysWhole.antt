@@ -1,4 +1,4 @@
--- What a view has at a marked place stood there whole: after a put, after a settling, and after each event of a list.
+-- What a view has at a marked place stood there whole: after a put, after a serialization, and after each event of a list.
 use Rattle.std.proofs.Common.{◌≡◌, ℕ, ◌+◌, ◌-◌, ◌<◌, ◌⊎◌, List, [], ◌∷◌, ◌++◌, length, set, Some, inl, inr, arith, refl, ◌∙◌, sym, ap, subst}
 use Rattle.std.specs.Prelude.{Contains}
 use Rattle.std.proofs.lemmas.List.{length-set}
@@ -19,9 +19,9 @@ use Rattle.nc_calls.specs.Whole.{StoodWhole}
 abbrev pub AllStoodWhole : List Mark → List ℕ → List (List ℕ) → Type 0
 AllStoodWhole marks text earlier = (now : State) → IsMarked marks now → StoodWhole text earlier now.place
 
--- where nothing was put since the last settling, what views have at marked places stood there whole
-pub whole_settled : (marks : List Mark) (text : List ℕ) → AllStoodWhole marks text []
-whole_settled marks text = λ now m view i v is.
+-- where nothing was put since the last serialization, what views have at marked places stood there whole
+pub whole_serialized : (marks : List Mark) (text : List ℕ) → AllStoodWhole marks text []
+whole_serialized marks text = λ now m view i v is.
     let same : view ≡ text = only_as_it_stands text view v in (
       text,
       (0, omega arith, refl),

@@ -1,7 +1,7 @@
--- What the events of a patch keep, if puts and settlings keep it.
+-- What the events of a patch keep, if puts and serializations keep it.
 use Rattle.std.proofs.Common.{ℕ, ◌+◌, Bool, true, false, cond, List, [], ◌∷◌, ◌++◌, length, sym, subst, append_assoc}
 use Rattle.nc_vet.specs.Chunk.{Piece}
-use Rattle.nc_region.specs.schedules.Events.{Event, Puts, Settles}
+use Rattle.nc_region.specs.schedules.Events.{Event, Puts, Serializes}
 use Rattle.nc_acts.specs.declared.acts.Act.TheVariants.{Put}
 use Rattle.nc_acts.specs.Acts.{puts_where}
 use Rattle.nc_region.specs.Patch.{any_place, stands_there}
@@ -9,7 +9,7 @@ use Rattle.nc_calls.specs.Calls.{Details, no_details}
 use Rattle.nc_calls.proofs.Entries.{events_of, instruction_events, patch_events}
 
 module _ (P : List Event → Type 0) (put : (at byte : ℕ) (more : List Event) → P more → P (Puts at byte ∷ more))
-    (settled : (more : List Event) → P more → P (Settles ∷ more)) where
+    (serialized : (more : List Event) → P more → P (Serializes ∷ more)) where
   -- puts before other events keep P
   pub puts_keep : (d : Details) (chosen : ℕ → Bool) (at : ℕ) (bytes : List ℕ) (more : List Event) → P more
       → P (events_of d (puts_where chosen at bytes) ++ more)
@@ -27,10 +27,10 @@ module _ (P : List Event → Type 0) (put : (at byte : ℕ) (more : List Event) 
   instruction_keeps at (byte ∷ []) more p = put at byte more p
   instruction_keeps at (byte ∷ next ∷ rest) more p =
       let events : List Event = events_of no_details (puts_where any_place (at + 1) (next ∷ rest)) in
-      put at 244 (Settles ∷ ((events ++ (Settles ∷ Puts at byte ∷ [])) ++ more)) (settled ((events ++ (Settles ∷ Puts at byte ∷ [])) ++ more)
-      (subst P (sym (append_assoc events (Settles ∷ Puts at byte ∷ []) more))
-      (puts_keep no_details any_place (at + 1) (next ∷ rest) (Settles ∷ Puts at byte ∷ more)
-      (settled (Puts at byte ∷ more) (put at byte more p)))))
+      put at 244 (Serializes ∷ ((events ++ (Serializes ∷ Puts at byte ∷ [])) ++ more)) (serialized ((events ++ (Serializes ∷ Puts at byte ∷ [])) ++ more)
+      (subst P (sym (append_assoc events (Serializes ∷ Puts at byte ∷ []) more))
+      (puts_keep no_details any_place (at + 1) (next ∷ rest) (Serializes ∷ Puts at byte ∷ more)
+      (serialized (Puts at byte ∷ more) (put at byte more p)))))
 
   -- an instruction of a patch, put or left as it stands, keeps P before other events
   turn_keeps : (b : Bool) (at : ℕ) (bytes : List ℕ) (more : List Event) → P more → P (cond b [] (instruction_events at bytes) ++ more)

@@ -9,12 +9,12 @@ use Rattle.nc_vet.specs.Chunk.{MarkedChunk, Piece}
 use Rattle.nc_list.specs.declared.chunk.Chunk.{Chunk}
 use Rattle.nc_region.specs.schedules.Spans.{RetiredSpan}
 use Rattle.nc_region.specs.schedules.World.{World, first_world}
-use Rattle.nc_region.specs.schedules.Events.{Event, Puts, Settles, Marks, Retires, Frees, Looks, world_after, AreAllowed}
+use Rattle.nc_region.specs.schedules.Events.{Event, Puts, Serializes, Marks, Retires, Frees, Looks, world_after, AreAllowed}
 use Rattle.nc_acts.specs.declared.acts.Act.{Act}
 use Rattle.nc_acts.specs.declared.acts.Act.TheVariants.{Put, MarkSpan, UnmarkSpan, Bump, Look}
 use Rattle.nc_acts.specs.declared.acts.Entry.{Entry}
-use Rattle.nc_acts.specs.declared.acts.Entry.TheVariants.{Did, Settled}
-use Rattle.nc_acts.specs.Log.{unsettled, log_of_create, log_of_delete}
+use Rattle.nc_acts.specs.declared.acts.Entry.TheVariants.{Did, Serialized}
+use Rattle.nc_acts.specs.Log.{unserialized, log_of_create, log_of_delete}
 use Rattle.nc_region.specs.Patch.{log_of_modify}
 use Rattle.nc_region.specs.Deletion.{freed, unmarkings}
 use Rattle.nc_region.specs.Quiet.{retired_spans}
@@ -69,10 +69,10 @@ events_of_act d (UnmarkSpan at len) = Frees (span_from d.spans at) ∷ []
 events_of_act d Bump = Retires d.base d.len ∷ []
 events_of_act d Look = map Looks (range_with_len 0 d.seats)
 
--- The events of an entry of a log: those of its act, or a settling.
+-- The events of an entry of a log: those of its act, or a serialization.
 abbrev pub events_of_entry : Details → Entry → List Event
 events_of_entry d (Did act) = events_of_act d act
-events_of_entry d Settled = Settles ∷ []
+events_of_entry d Serialized = Serializes ∷ []
 
 -- the events of a log: those of its entries, concatenated
 abbrev pub events_of_log : Details → List Entry → List Event
@@ -94,8 +94,8 @@ modify_events text at news = events_of_log no_details (log_of_modify text at new
 abbrev pub delete_events : List Mark → ℕ → ℕ → List Event
 delete_events marks base len = events_of_log (record no_details { base = base; len = len }) (log_of_delete marks base len)
 
--- the events of a reclaim: one look at each seat in order, then `Frees` for each freed span; there is no settling
+-- the events of a reclaim: one look at each seat in order, then `Frees` for each freed span; there is no serialization
 abbrev pub reclaim_events : ℕ → ℕ → List Chunk → List Event
 reclaim_events seats least chunks =
     events_of_log (record no_details { seats = seats; spans = retired_spans chunks })
-    (unsettled (Look ∷ unmarkings (freed least chunks)))
+    (unserialized (Look ∷ unmarkings (freed least chunks)))

@@ -1,12 +1,12 @@
 -- The writer's events among those of the threads.
 use Rattle.std.specs.Prelude.{◌≡◌, ⊤, Bool, true, false, List, [], ◌∷◌, filter}
 use Rattle.nc_region.specs.schedules.World.{World}
-use Rattle.nc_region.specs.schedules.Events.{Event, Puts, Settles, Marks, Bumps, Retires, Frees, Looks, ThreadMay, after}
+use Rattle.nc_region.specs.schedules.Events.{Event, Puts, Serializes, Marks, Bumps, Retires, Frees, Looks, ThreadMay, after}
 
 -- the event is the writer's, not a thread's
 abbrev pub is_writers : Event → Bool
 is_writers (Puts at byte) = true
-is_writers Settles = true
+is_writers Serializes = true
 is_writers (Marks at marks) = true
 is_writers Bumps = true
 is_writers (Retires base len) = true

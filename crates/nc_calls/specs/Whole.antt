@@ -14,7 +14,7 @@ StoodWhole text earlier at =
     × ((k : ℕ) → k < i.len → byte_at one (at + k) ≡ byte_at view (at + k))
 
 -- Wherever a thread is in the region, the instruction that it fetches, in any view, stood there whole in one of the texts
--- since the last settling.
+-- since the last serialization.
 abbrev pub AllFetchWhole : World → Type 0
 AllFetchWhole w =
     All (λ (seat : Seat). IfSome seat.inside (λ now. 0x10000 ≤ now.place → StoodWhole w.marked.bytes w.earlier now.place)) w.seats

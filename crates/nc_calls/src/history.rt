@@ -17,21 +17,21 @@ ghost use Rattle.nc_calls.specs.Whole.{AllFetchWhole};
 /// - after every event each thread inside is, in every view, at a permitted instruction that isn't barred and lies wholly
 ///   inside its bundle, or at a bundle start of the zone; it is at an indirect jump or call only with its register just masked;
 /// - if it is in the region, the instruction that it fetches, in any view, stood there, with all its bytes, in one of the
-///   texts since the last settling;
+///   texts since the last serialization;
 /// - when a retired span is freed, no thread is in it except possibly at a bundle start;
 /// - the world at the end stands for the region at the end: its bytes and marks are the region's, and its retired spans
 ///   those of the retired chunks; and the region's text is confined, so a thread that enters later is just as safe;
 /// - a turn whose call was refused has no event of the writer, and whatever the threads do beside it, nothing of the world
 ///   changes but its seats. The region is the one before, except that a refused creation may have made pages.
 ///
-/// A *view* has at each place one of the bytes that were there since the last settling, in any mixture, so a thread may
+/// A *view* has at each place one of the bytes that were there since the last serialization, in any mixture, so a thread may
 /// fetch each byte of an instruction at a different moment. None of its steps shows whether it does, or fetches whole
 /// instructions, each possibly late. A *history* (`specs/Histories`) is a list of calls, each of which does what its contract
 /// says. The function does nothing when called.
 ///
 /// Its assumptions are in `ThreadsMay`, `IsTurn` and `IsHistory`: a thread enters only at bundle starts and while its seat
 /// hasn't left, and its pass checks in and leaves only while it is outside; the keeper has the world's generation and a bound for
-/// each of its seats, and finds no word to be greater than it is; and puts and settlings reach execution in the order in which the
+/// each of its seats, and finds no word to be greater than it is; and puts and serializations reach execution in the order in which the
 /// calls make them.
 pub fn law_of_histories()
     ensures stand { (limit seats : ℕ) (first events later : List Event) (r : Region) (turns : List Turn)

@@ -5,8 +5,8 @@
 //! stood there whole. `docs/THEOREM.md` walks through it.
 //!
 //! `law_of_schedules` of `nc_region` says that no list of allowed events brings a thread to a state that isn't safe; the
-//! contracts of a region's calls say which acts each makes, and where it settles. [`law_of_calls`] joins them. In a
-//! world that stands for the region, the acts and settlings of a call are allowed events, with whatever the threads do between
+//! contracts of a region's calls say which acts each makes, and where it serializes. [`law_of_calls`] joins them. In a
+//! world that stands for the region, the acts and serializations of a call are allowed events, with whatever the threads do between
 //! any two of them. They leave a world that stands for the region after the call. Further clauses cover the keeper by itself,
 //! before and after the region is made, and refused calls. Whatever is proved about every schedule therefore holds for every
 //! history of a region.
@@ -25,7 +25,7 @@
 //! ```
 //!
 //! - `specs/Interleaving` separates the writer's events from those of the threads.
-//! - `specs/Calls` turns the acts and settlings of each call into events.
+//! - `specs/Calls` turns the acts and serializations of each call into events.
 //! - `specs/Views` has the properties of every view between two calls.
 //! - `specs/Histories` defines a history. `specs/Whole` says that threads fetch whole instructions. `specs/Example` has a
 //!   chunk's life in a history.

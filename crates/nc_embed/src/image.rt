@@ -9,19 +9,19 @@
 //!
 //! What an implementation of `Acts` has to know:
 //!
-//! - `logged` is a ghost list of all acts and settlings. Over a `Plain` it is that of the `Plain`, as here. Without a `Plain`, keep a
-//!   `History` as a private field, and note each act and each settling in it. `Note::Creation` notes a `put_bundles`. `Note::Stops` notes a
-//!   `stop_span`, by the marks of a `Text`; without one, note each entry by itself.
-//! - `settle` is called where a barrier belongs, `ready` before the first put into a span, `bump` after the last stop of a deletion.
+//! - `logged` is a ghost list of all acts and serializations. Over a `Plain` it is that of the `Plain`, as here. Without a `Plain`, keep a
+//!   `History` as a private field, and note each act and each serialization in it. `Note::Creation` notes a `put_bundles`. `Note::Stops`
+//!   notes a `stop_span`, by the marks of a `Text`; without one, note each entry by itself.
+//! - `serialize` is called where a barrier belongs, `ready` before the first put into a span, `bump` after the last stop of a deletion.
 //! - `marked_places`, which patches call for each instruction, asks for each mark of the bundle unless you forward it.
-//! - A creation calls `put_bundles`, which returns false unless you override it, and then `put_where`, `settle` and `mark_span`. `Image`
-//!   doesn't override it. The marks are then written out as a list, for a chunk of at most 512 bytes on the stack, where they take 1 KB.
-//!   A deletion calls `stop_span`, which calls `stop_where` and `settle`. `put_where` and `stop_where` call `put` for each byte. So a host
+//! - A creation calls `put_bundles`, which returns false unless you override it, and then `put_where`, `serialize` and `mark_span`. `Image`
+//!   doesn't override it. The marks are then written out as a list, for a chunk of at most 512 bytes on the stack, where they take 1 KB. A
+//!   deletion calls `stop_span`, which calls `stop_where` and `serialize`. `put_where` and `stop_where` call `put` for each byte. So a host
 //!   whose stores are in `put` needs no other.
 //! - If you override one of these four, store each byte by itself in your memory, in the order of the entries that the method logs, and
-//!   settle at each `Settled` among them. In this order the text is closed after each store. Then hand the call on to a `Plain`. It makes
-//!   the whole change in its own text at once. No processor runs that text. A `put_bundles` or a `stop_span` that is handed on alone leaves
-//!   your memory as it was.
+//!   serialize at each `Serialized` among them. In this order the text is closed after each store. Then hand the call on to a `Plain`. It
+//!   makes the whole change in its own text at once. No processor runs that text. A `put_bundles` or a `stop_span` that is handed on alone
+//!   leaves your memory as it was.
 //! - `RegionOf::over` requires a new text (`IsNew`), and `SharedOf::over` the table of the region's keeper. So a constructor needs a clause
 //!   about each (`made` and `keeper` of `Image::new`).
 //!
@@ -128,8 +128,8 @@ impl<'g> Acts for Image<'g> {
     }
 
     // A host has its own means here: every processor that runs one of its threads must serialize before this returns.
-    fn settle(&mut self) {
-        self.plain.settle();
+    fn serialize(&mut self) {
+        self.plain.serialize();
     }
 
     // It takes no bits, so a creation's marks come as a list: `put_bundles` is the trait's.

@@ -5,13 +5,13 @@ use Rattle.nc_decode.specs.declared.instruction.Mark.{Mark}
 use Rattle.nc_acts.specs.declared.acts.Act.{Act}
 use Rattle.nc_acts.specs.declared.acts.Act.TheVariants.{Put, MarkSpan, Bump}
 use Rattle.nc_acts.specs.declared.acts.Entry.{Entry}
-use Rattle.nc_acts.specs.declared.acts.Entry.TheVariants.{Did, Settled}
+use Rattle.nc_acts.specs.declared.acts.Entry.TheVariants.{Did, Serialized}
 use Rattle.nc_acts.specs.Acts.{is_start, is_inside, is_marked_at, is_unmarked_at}
-use Rattle.nc_acts.specs.Log.{unsettled}
+use Rattle.nc_acts.specs.Log.{unserialized}
 use Rattle.nc_entries.specs.declared.act.NcAct.{NcAct}
 use Rattle.nc_entries.specs.Shown.{entry_of, over}
 
--- A run: a single act or settling; or puts of the chunk's bytes, or of stops, at those of the 32 places from an address on
+-- A run: a single act or serialization; or puts of the chunk's bytes, or of stops, at those of the 32 places from an address on
 -- whose bits are set. The lowest bit is the first place's.
 pub data Run : Type 0 where
   Single : Entry → Run
@@ -34,8 +34,8 @@ puts_by_bits at bits (byte ∷ rest) =
 -- the entries that a run stands for, for a chunk of this code at this base
 abbrev pub entries_of : ℕ → List ℕ → Run → List Entry
 entries_of base code (Single entry) = entry ∷ []
-entries_of base code (PutRun at bits) = unsettled (puts_by_bits at bits (take 32 (drop (at - base) code)))
-entries_of base code (StopRun at bits) = unsettled (puts_by_bits at bits (replicate 32 0xF4))
+entries_of base code (PutRun at bits) = unserialized (puts_by_bits at bits (take 32 (drop (at - base) code)))
+entries_of base code (StopRun at bits) = unserialized (puts_by_bits at bits (replicate 32 0xF4))
 
 -- the entries that these runs stand for, concatenated
 abbrev pub entries_in : ℕ → List ℕ → List Run → List Entry
@@ -56,19 +56,19 @@ abbrev pub runs_where : (ℕ → ℕ → Run) → (ℕ → Bool) → ℕ → ℕ
 runs_where run chosen at zero = []
 runs_where run chosen at (suc n) = run at (bits_at chosen at) ∷ runs_where run chosen (at + 32) n
 
--- the runs of a creation: for each bundle its bytes after the first, then the settling and the marks, then for each
+-- the runs of a creation: for each bundle its bytes after the first, then the serialization and the marks, then for each
 -- bundle its first byte
 abbrev pub runs_of_create : ℕ → List ℕ → List Run
 runs_of_create base code =
     runs_where PutRun is_inside base (length code / 32)
-    ++ (Single Settled ∷ Single (Did (MarkSpan base (length code))) ∷ runs_where PutRun is_start base (length code / 32))
+    ++ (Single Serialized ∷ Single (Did (MarkSpan base (length code))) ∷ runs_where PutRun is_start base (length code / 32))
 
--- the runs of a deletion: for each bundle F4 at its marked places, then the settling, then for each bundle F4 at the
+-- the runs of a deletion: for each bundle F4 at its marked places, then the serialization, then for each bundle F4 at the
 -- others, then the stamp
 abbrev pub runs_of_delete : List Mark → ℕ → ℕ → List Run
 runs_of_delete marks base len =
     runs_where StopRun (is_marked_at marks) base (len / 32)
-    ++ (Single Settled ∷ (runs_where StopRun (is_unmarked_at marks) base (len / 32) ++ Single (Did Bump) ∷ []))
+    ++ (Single Serialized ∷ (runs_where StopRun (is_unmarked_at marks) base (len / 32) ++ Single (Did Bump) ∷ []))
 
 -- The buffer now begins with these runs, and is as before beyond them; the count is their number, and they stand for
 -- exactly this log of a chunk. A run is an entry; or it is 7 (the chunk's bytes) or 8 (F4), an address, and a number

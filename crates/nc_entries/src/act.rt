@@ -1,6 +1,6 @@
 //! One entry of a list of acts, as a host reads it.
 
-/// One act on a text, a settling between two acts, or a run of puts in a bundle.
+/// One act on a text, a serialization between two acts, or a run of puts in a bundle.
 #[repr(C)]
 #[derive(Clone, Copy)]
 pub struct NcAct {

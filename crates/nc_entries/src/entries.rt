@@ -40,9 +40,9 @@ pub(crate) fn bump() -> NcAct
     }
 }
 
-/// A settling of the host.
-pub(crate) fn settle() -> NcAct
-    ensures { result ≡ entry_of Entry.Settled }
+/// A serialization of the host.
+pub(crate) fn serialize() -> NcAct
+    ensures { result ≡ entry_of Entry.Serialized }
 {
     NcAct {
         kind: 6,

@@ -1,4 +1,4 @@
-//! The acts of a creation and of a deletion with their settlings, written into a host's buffer.
+//! The acts of a creation and of a deletion with their serializations, written into a host's buffer.
 
 ghost use Rattle.std.specs.Prelude.{◌≡◌, ◌+◌, ◌%◌, ◌==◌, ◌<◌, ◌≤◌, ◌^◌, ℕ, List, length, take, drop, replicate};
 ghost use Rattle.std.specs.Int.{bit_at};
@@ -11,7 +11,7 @@ ghost use Rattle.nc_entries.specs.machinery.Writing.{HasPutUpTo, starts_if, mark
 
 use crate::act::NcAct;
 use crate::chunk::ReadChunk;
-use crate::entries::{bump, mark_span, put, settle, write};
+use crate::entries::{bump, mark_span, put, serialize, write};
 use nc_decode::STOP;
 use nc_text::lowest_place;
 
@@ -124,8 +124,8 @@ fn write_stops<C: ReadChunk>(
     count
 }
 
-/// Writes the acts of the creation of a chunk at the address `base`, with the settling, into the front of a buffer: the puts of
-/// the bytes that aren't bundle starts, in ascending order, the settling, the marking of all places, and the puts of the bundle
+/// Writes the acts of the creation of a chunk at the address `base`, with the serialization, into the front of a buffer: the puts of
+/// the bytes that aren't bundle starts, in ascending order, the serialization, the marking of all places, and the puts of the bundle
 /// starts, in ascending order. They are two more than the chunk has bytes. What the buffer has behind them stays.
 pub fn write_creation<C: ReadChunk>(acts: &mut [NcAct], base: u32, chunk: &C)
     requires start { base % 32 ≡ 0 }
@@ -135,13 +135,13 @@ pub fn write_creation<C: ReadChunk>(acts: &mut [NcAct], base: u32, chunk: &C)
     ensures { HasWritten acts.old acts.new (length (C.code chunk.now) + 2) (log_of_create base (C.code chunk.now)) }
 {
     let count = write_code(acts, 0, base, chunk, false);
-    let settled = write(acts, count, settle());
-    let marked = write(acts, settled, mark_span(base, chunk.len() as u32));
+    let serialized = write(acts, count, serialize());
+    let marked = write(acts, serialized, mark_span(base, chunk.len() as u32));
     write_code(acts, marked, base, chunk, true);
 }
 
-/// Writes the acts of the deletion of the chunk at the address `base`, with the settling, into the front of a buffer: stops at the
-/// marked places, in ascending order, the settling, stops at the other places, in ascending order, and the drawing of the stamp.
+/// Writes the acts of the deletion of the chunk at the address `base`, with the serialization, into the front of a buffer: stops at the
+/// marked places, in ascending order, the serialization, stops at the other places, in ascending order, and the drawing of the stamp.
 /// They are two more than the chunk has bytes. What the buffer has behind them stays.
 pub fn write_deletion<C: ReadChunk>(acts: &mut [NcAct], base: u32, chunk: &C)
     requires high { base + length (C.code chunk.now) < 2 ^ 32 }
@@ -152,7 +152,7 @@ pub fn write_deletion<C: ReadChunk>(acts: &mut [NcAct], base: u32, chunk: &C)
         → HasWritten acts.old acts.new (length (C.code chunk.now) + 2) (log_of_delete text base (length (C.code chunk.now))) }
 {
     let marked = write_stops(acts, 0, base, chunk, true);
-    let settled = write(acts, marked, settle());
-    let count = write_stops(acts, settled, base, chunk, false);
+    let serialized = write(acts, marked, serialize());
+    let count = write_stops(acts, serialized, base, chunk, false);
     write(acts, count, bump());
 }

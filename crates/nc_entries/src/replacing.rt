@@ -1,4 +1,4 @@
-//! The acts of a patch with their settlings, written into a host's buffer.
+//! The acts of a patch with their serializations, written into a host's buffer.
 
 ghost use Rattle.std.specs.Prelude.{◌≡◌, ◌+◌, ◌*◌, ◌<◌, ◌≤◌, ◌^◌, ℕ, List, [], length, if◌then◌else◌};
 ghost use Rattle.nc_vet.specs.Chunk.{Piece};
@@ -8,7 +8,7 @@ ghost use Rattle.nc_entries.specs.Written.{Adds};
 ghost use Rattle.nc_entries.specs.machinery.Writing.{HasPutUpTo};
 
 use crate::act::NcAct;
-use crate::entries::{put, settle, write};
+use crate::entries::{put, serialize, write};
 use nc_decode::{STOP, decode};
 
 /// Whether the code has these bytes from this place on.
@@ -35,7 +35,7 @@ fn write_all(acts: &mut [NcAct], from: usize, at: u32, bytes: &[u8]) -> usize
     count
 }
 
-/// Writes the acts that replace an instruction by one of the same length, with their settlings. Returns the new number of
+/// Writes the acts that replace an instruction by one of the same length, with their serializations. Returns the new number of
 /// acts.
 fn write_instruction(acts: &mut [NcAct], from: usize, at: u32, bytes: &[u8]) -> usize
     requires some { 0 < length bytes.now }
@@ -50,10 +50,10 @@ fn write_instruction(acts: &mut [NcAct], from: usize, at: u32, bytes: &[u8]) -> 
         return write(acts, from, put(at, first));
     }
     let count = write(acts, from, put(at, STOP));
-    let stopped = write(acts, count, settle());
+    let stopped = write(acts, count, serialize());
     let count = write_all(acts, stopped, at + 1, &bytes[1..]);
-    let settled = write(acts, count, settle());
-    write(acts, settled, put(at, first))
+    let serialized = write(acts, count, serialize());
+    write(acts, serialized, put(at, first))
 }
 
 /// Writes the acts that replace one instruction, or none if its bytes are there already.
@@ -80,13 +80,13 @@ fn write_where_new(
     write_instruction(acts, count, base + from as u32, bytes)
 }
 
-/// Writes the acts that replace instructions of a chunk by others of the same lengths, with the settlings, behind the first `count`
+/// Writes the acts that replace instructions of a chunk by others of the same lengths, with the serializations, behind the first `count`
 /// elements of a buffer, which stay. Returns the new number of elements, which is greater by at most three for each new byte.
 ///
-/// `code` has the bytes that stand from the address `base` on, and `new` the instructions that come from the index `from` on, in
-/// ascending order. One whose bytes stand there already has no act, and one of a single byte has one put. Any other has a stop at
-/// its first byte, a settling, the puts of its other bytes, in ascending order, a settling, and the put of its first byte. What is
-/// written for bytes that aren't whole permitted instructions is not promised, but for its length.
+/// `code` has the bytes that stand from the address `base` on, and `new` the instructions that come from the index `from` on, in ascending
+/// order. One whose bytes stand there already has no act, and one of a single byte has one put. Any other has a stop at its first byte, a
+/// serialization, the puts of its other bytes, in ascending order, a serialization, and the put of its first byte. What is written for
+/// bytes that aren't whole permitted instructions is not promised, but for its length.
 pub fn write_patch(
     acts: &mut [NcAct],
     count: usize,

@@ -3,14 +3,14 @@
 ghost use Rattle.std.specs.Prelude.{◌≡◌, ◌+◌, ◌*◌, ◌/◌, ◌%◌, ◌<◌, ◌≤◌, ◌^◌, ℕ, List, length};
 ghost use Rattle.nc_decode.specs.declared.instruction.Mark.{Mark};
 ghost use Rattle.nc_acts.specs.Acts.{puts_where};
-ghost use Rattle.nc_acts.specs.Log.{log_of_create, log_of_delete, unsettled};
+ghost use Rattle.nc_acts.specs.Log.{log_of_create, log_of_delete, unserialized};
 ghost use Rattle.nc_entries.specs.Runs.{HasRuns, run_of, runs_where, runs_of_create, runs_of_delete};
 ghost use Rattle.nc_entries.specs.Standing.{AreMarksAt};
 ghost use Rattle.nc_entries.specs.machinery.Running.{AddsRuns, HasBits, bytes_for, picks, run_at};
 
 use crate::act::NcAct;
 use crate::chunk::ReadChunk;
-use crate::entries::{bump, mark_span, settle, write};
+use crate::entries::{bump, mark_span, serialize, write};
 
 /// The places of a bundle that a run may include.
 #[derive(Clone, Copy, Drop)]
@@ -70,7 +70,7 @@ fn write_runs<C: ReadChunk>(
     ensures count { result ≡ from + length (C.code chunk.now) / 32 }
     ensures added { AddsRuns base (C.code chunk.now) acts.old from acts.new result
         (runs_where (run_at places) (picks places (C.marks chunk.now) base) base (length (C.code chunk.now) / 32))
-        (unsettled (puts_where (picks places (C.marks chunk.now) base) base (bytes_for places (C.code chunk.now)))) }
+        (unserialized (puts_where (picks places (C.marks chunk.now) base) base (bytes_for places (C.code chunk.now)))) }
 {
     let mut count = from;
     for i in 0..chunk.len() / 32 {
@@ -80,8 +80,8 @@ fn write_runs<C: ReadChunk>(
     count
 }
 
-/// Writes the acts of the creation of a chunk at the address `base`, with the settling, as runs into the front of a buffer: for each
-/// bundle, in ascending order, one for its bytes after the first, the settling, the marking of all places, and for each bundle one
+/// Writes the acts of the creation of a chunk at the address `base`, with the serialization, as runs into the front of a buffer: for each
+/// bundle, in ascending order, one for its bytes after the first, the serialization, the marking of all places, and for each bundle one
 /// for its first byte. They are two for each bundle of the chunk, and two more. What the buffer has behind them stays.
 pub fn write_creation_runs<C: ReadChunk>(acts: &mut [NcAct], base: u32, chunk: &C)
     requires start { base % 32 ≡ 0 }
@@ -93,13 +93,13 @@ pub fn write_creation_runs<C: ReadChunk>(acts: &mut [NcAct], base: u32, chunk: &
         (runs_of_create base (C.code chunk.now)) (log_of_create base (C.code chunk.now)) }
 {
     let count = write_runs(acts, 0, base, chunk, Places::Inside);
-    let settled = write(acts, count, settle());
-    let marked = write(acts, settled, mark_span(base, chunk.len() as u32));
+    let serialized = write(acts, count, serialize());
+    let marked = write(acts, serialized, mark_span(base, chunk.len() as u32));
     write_runs(acts, marked, base, chunk, Places::Starts);
 }
 
-/// Writes the acts of the deletion of the chunk at the address `base`, with the settling, as runs into the front of a buffer: for each
-/// bundle, in ascending order, one for stops at its marked places, the settling, for each bundle one for stops at its other places,
+/// Writes the acts of the deletion of the chunk at the address `base`, with the serialization, as runs into the front of a buffer: for each
+/// bundle, in ascending order, one for stops at its marked places, the serialization, for each bundle one for stops at its other places,
 /// and the drawing of the stamp. They are two for each bundle of the chunk, and two more. What the buffer has behind them stays.
 pub fn write_deletion_runs<C: ReadChunk>(acts: &mut [NcAct], base: u32, chunk: &C)
     requires start { base % 32 ≡ 0 }
@@ -112,7 +112,7 @@ pub fn write_deletion_runs<C: ReadChunk>(acts: &mut [NcAct], base: u32, chunk: &
         (runs_of_delete text base (length (C.code chunk.now))) (log_of_delete text base (length (C.code chunk.now))) }
 {
     let marked = write_runs(acts, 0, base, chunk, Places::Marked);
-    let settled = write(acts, marked, settle());
-    let count = write_runs(acts, settled, base, chunk, Places::Unmarked);
+    let serialized = write(acts, marked, serialize());
+    let count = write_runs(acts, serialized, base, chunk, Places::Unmarked);
     write(acts, count, bump());
 }

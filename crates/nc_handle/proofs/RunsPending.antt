@@ -9,9 +9,9 @@ use Rattle.nc_vet.specs.Chunk.{MarkedChunk}
 use Rattle.nc_region.specs.schedules.Events.{Event, Puts, Retires}
 use Rattle.nc_acts.specs.declared.acts.Act.TheVariants.{Put, MarkSpan, Bump}
 use Rattle.nc_acts.specs.declared.acts.Entry.{Entry}
-use Rattle.nc_acts.specs.declared.acts.Entry.TheVariants.{Did, Settled}
+use Rattle.nc_acts.specs.declared.acts.Entry.TheVariants.{Did, Serialized}
 use Rattle.nc_acts.specs.Acts.{is_inside, is_start, is_marked_at, is_unmarked_at}
-use Rattle.nc_acts.specs.Log.{unsettled, log_of_create, log_of_delete}
+use Rattle.nc_acts.specs.Log.{unserialized, log_of_create, log_of_delete}
 use Rattle.nc_calls.specs.Calls.{Details, no_details, events_of_log, create_events, delete_events}
 use Rattle.nc_calls.proofs.Offered.{log_append}
 use Rattle.nc_entries.specs.declared.act.NcAct.{NcAct}
@@ -22,13 +22,13 @@ use Rattle.nc_handle.specs.Pending.{puts_pending, events_pending_by, events_pend
 use Rattle.nc_handle.proofs.Reporting.{due_append}
 
 -- the puts of a run
-bits_read : (d : Details) (bytes : List ℕ) (at bits : ℕ) → puts_pending at bits bytes ≡ events_of_log d (unsettled (puts_by_bits at bits bytes))
+bits_read : (d : Details) (bytes : List ℕ) (at bits : ℕ) → puts_pending at bits bytes ≡ events_of_log d (unserialized (puts_by_bits at bits bytes))
 bits_read d [] at bits = refl
 bits_read d (byte ∷ rest) at bits = go (bits % 2 == 1) (bits_read d rest (at + 1) (bits / 2))
   where
-    go : (b : Bool) → puts_pending (at + 1) (bits / 2) rest ≡ events_of_log d (unsettled (puts_by_bits (at + 1) (bits / 2) rest))
+    go : (b : Bool) → puts_pending (at + 1) (bits / 2) rest ≡ events_of_log d (unserialized (puts_by_bits (at + 1) (bits / 2) rest))
         → cond b (Puts at byte ∷ puts_pending (at + 1) (bits / 2) rest) (puts_pending (at + 1) (bits / 2) rest)
-        ≡ events_of_log d (unsettled (cond b (Put at byte ∷ puts_by_bits (at + 1) (bits / 2) rest) (puts_by_bits (at + 1) (bits / 2) rest)))
+        ≡ events_of_log d (unserialized (cond b (Put at byte ∷ puts_by_bits (at + 1) (bits / 2) rest) (puts_by_bits (at + 1) (bits / 2) rest)))
     go true same = ap (λ (z : List Event). Puts at byte ∷ z) same
     go false same = same
 
@@ -75,9 +75,9 @@ create_runs_due v lent now count is =
     ap (events_pending v) (runs_front lent now count v.base v.code (runs_of_create v.base v.code) (log_of_create v.base v.code) is)
     ∙ (runs_read v (record no_details { marks = v.marks }) (runs_of_create v.base v.code)
     (All-append (IsRunRead v (record no_details { marks = v.marks })) (runs_where PutRun is_inside v.base (length v.code / 32))
-    (Single Settled ∷ Single (Did (MarkSpan v.base (length v.code))) ∷ runs_where PutRun is_start v.base (length v.code / 32))
+    (Single Serialized ∷ Single (Did (MarkSpan v.base (length v.code))) ∷ runs_where PutRun is_start v.base (length v.code / 32))
     (put_runs v (record no_details { marks = v.marks }) is_inside (length v.code / 32) v.base)
-    (All-cons (IsRunRead v (record no_details { marks = v.marks })) (Single Settled)
+    (All-cons (IsRunRead v (record no_details { marks = v.marks })) (Single Serialized)
     (Single (Did (MarkSpan v.base (length v.code))) ∷ runs_where PutRun is_start v.base (length v.code / 32)) refl
     (All-cons (IsRunRead v (record no_details { marks = v.marks })) (Single (Did (MarkSpan v.base (length v.code))))
     (runs_where PutRun is_start v.base (length v.code / 32)) refl
@@ -88,12 +88,12 @@ create_runs_due v lent now count is =
 abbrev stops_in_runs : List Mark → ℕ → ℕ → List Run
 stops_in_runs marks base len =
     runs_where StopRun (is_marked_at marks) base (len / 32)
-    ++ (Single Settled ∷ runs_where StopRun (is_unmarked_at marks) base (len / 32))
+    ++ (Single Serialized ∷ runs_where StopRun (is_unmarked_at marks) base (len / 32))
 
 runs_then : (marks : List Mark) (base len : ℕ) → runs_of_delete marks base len ≡ stops_in_runs marks base len ++ Single (Did Bump) ∷ []
 runs_then marks base len =
     sym (append_assoc (runs_where StopRun (is_marked_at marks) base (len / 32))
-    (Single Settled ∷ runs_where StopRun (is_unmarked_at marks) base (len / 32)) (Single (Did Bump) ∷ []))
+    (Single Serialized ∷ runs_where StopRun (is_unmarked_at marks) base (len / 32)) (Single (Did Bump) ∷ []))
 
 -- stops don't depend on the chunk
 stops_entries : (base other : ℕ) (code bytes : List ℕ) (chosen : ℕ → Bool) (n at : ℕ)
@@ -107,13 +107,13 @@ runs_entries : (marks : List Mark) (base len other : ℕ) (code bytes : List ℕ
     → entries_in base code (stops_in_runs marks base len) ≡ entries_in other bytes (stops_in_runs marks base len)
 runs_entries marks base len other code bytes =
     entries_append base code (runs_where StopRun (is_marked_at marks) base (len / 32))
-    (Single Settled ∷ runs_where StopRun (is_unmarked_at marks) base (len / 32))
-    ∙ (ap (λ (z : List Entry). z ++ (Settled ∷ entries_in base code (runs_where StopRun (is_unmarked_at marks) base (len / 32))))
+    (Single Serialized ∷ runs_where StopRun (is_unmarked_at marks) base (len / 32))
+    ∙ (ap (λ (z : List Entry). z ++ (Serialized ∷ entries_in base code (runs_where StopRun (is_unmarked_at marks) base (len / 32))))
     (stops_entries base other code bytes (is_marked_at marks) (len / 32) base)
-    ∙ (ap (λ (z : List Entry). entries_in other bytes (runs_where StopRun (is_marked_at marks) base (len / 32)) ++ (Settled ∷ z))
+    ∙ (ap (λ (z : List Entry). entries_in other bytes (runs_where StopRun (is_marked_at marks) base (len / 32)) ++ (Serialized ∷ z))
     (stops_entries base other code bytes (is_unmarked_at marks) (len / 32) base)
     ∙ sym (entries_append other bytes (runs_where StopRun (is_marked_at marks) base (len / 32))
-    (Single Settled ∷ runs_where StopRun (is_unmarked_at marks) base (len / 32)))))
+    (Single Serialized ∷ runs_where StopRun (is_unmarked_at marks) base (len / 32)))))
 
 -- the runs of a deletion are read as its events, but for the stamp
 pub delete_runs_due : (v : MarkedChunk) (marks : List Mark) (base len : ℕ) (code : List ℕ) (lent now : List NcAct) (count : ℕ)
@@ -128,9 +128,9 @@ delete_runs_due v marks base len code lent now count is =
     ∙ (append-nil (events_pending v (map run_of (stops_in_runs marks base len)))
     ∙ runs_read v (record no_details { base = base; len = len }) (stops_in_runs marks base len)
     (All-append (IsRunRead v (record no_details { base = base; len = len })) (runs_where StopRun (is_marked_at marks) base (len / 32))
-    (Single Settled ∷ runs_where StopRun (is_unmarked_at marks) base (len / 32))
+    (Single Serialized ∷ runs_where StopRun (is_unmarked_at marks) base (len / 32))
     (stop_runs v (record no_details { base = base; len = len }) (is_marked_at marks) (len / 32) base)
-    (All-cons (IsRunRead v (record no_details { base = base; len = len })) (Single Settled)
+    (All-cons (IsRunRead v (record no_details { base = base; len = len })) (Single Serialized)
     (runs_where StopRun (is_unmarked_at marks) base (len / 32)) refl
     (stop_runs v (record no_details { base = base; len = len }) (is_unmarked_at marks) (len / 32) base))))) in
     ap (λ (z : List Event). z ++ Retires base len ∷ [])

@@ -6,7 +6,7 @@ use Rattle.nc_entries.specs.Shown.{entry_of, over}
 
 -- A lent buffer begins with exactly the entries of this log, and is as before beyond them; the count is their number. If
 -- none is lent, the count is 0. An entry is three numbers: 1, address and byte for a put; 2, address and length for a marked span; 3 for a
--- stamp; 6 for a settling.
+-- stamp; 6 for a serialization.
 pub record IsReported (old new : List NcAct) (count : ℕ) (log : List Entry) : Type 0 where
   pub lent : 0 < length old → (count ≡ length log) × (new ≡ over (map entry_of log) old)
   pub not_lent : length old ≡ 0 → count ≡ 0

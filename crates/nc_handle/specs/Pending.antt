@@ -3,7 +3,7 @@ use Rattle.std.specs.Prelude.{◌≡◌, ℕ, ◌+◌, ◌-◌, ◌/◌, ◌%◌
 use Rattle.std.specs.List.{flat_map}
 use Rattle.nc_vet.specs.Chunk.{MarkedChunk}
 use Rattle.nc_list.specs.declared.chunk.Chunk.{Chunk}
-use Rattle.nc_region.specs.schedules.Events.{Event, Puts, Settles, Marks, Retires, Frees, Looks}
+use Rattle.nc_region.specs.schedules.Events.{Event, Puts, Serializes, Marks, Retires, Frees, Looks}
 use Rattle.nc_calls.specs.Calls.{delete_events}
 use Rattle.nc_calls.specs.Histories.{IsCall}
 use Rattle.nc_entries.specs.declared.act.NcAct.{NcAct}
@@ -17,13 +17,13 @@ puts_pending at bits (byte ∷ rest) =
     if bits % 2 == 1 then Puts at byte ∷ puts_pending (at + 1) (bits / 2) rest else puts_pending (at + 1) (bits / 2) rest
 
 -- The events that an element of a buffer is for a host, by its kind: 1 is a store, 2 the marking of this chunk, which changes
--- no memory, 6 a settling, 7 stores of this chunk's bytes, and 8 stores of F4. An element of any other kind is no event. For
+-- no memory, 6 a serialization, 7 stores of this chunk's bytes, and 8 stores of F4. An element of any other kind is no event. For
 -- the stamp, kind 3, the host calls the library (`Ends` of `IsHandleCall`).
 abbrev pub events_pending_by : MarkedChunk → NcAct → List Event
 events_pending_by v a =
     if a.kind == 1 then Puts a.at a.value ∷ []
     else (if a.kind == 2 then Marks a.at v.marks ∷ []
-    else (if a.kind == 6 then Settles ∷ []
+    else (if a.kind == 6 then Serializes ∷ []
     else (if a.kind == 7 then puts_pending a.at a.value (take 32 (drop (a.at - v.base) v.code))
     else (if a.kind == 8 then puts_pending a.at a.value (replicate 32 0xF4)
     else []))))

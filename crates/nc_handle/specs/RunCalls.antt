@@ -15,7 +15,7 @@ abbrev pub runs_of : ℕ → ℕ
 runs_of len = 2 * (len / 32) + 2
 
 -- The buffer begins with the runs of this chunk's creation, for its bytes in the region, and they stand for the log of
--- that creation: for each bundle one run for its bytes after the first, then the settling and the marks, then for each
+-- that creation: for each bundle one run for its bytes after the first, then the serialization and the marks, then for each
 -- bundle one run for its first byte. A run is an entry; or it is 7 (the chunk's bytes) or 8 (F4), an address, and a
 -- number whose bits select among the 32 places from that address on, the lowest bit the first.
 abbrev pub AreCreationRuns : RegionHandleState → Chunk → List NcAct → List NcAct → ℕ → Type 0
@@ -24,7 +24,7 @@ AreCreationRuns h c old new count =
     (count ≡ runs_of c.length) × HasRuns old new count c.base code (runs_of_create c.base code) (log_of_create c.base code)
 
 -- The buffer begins with the runs of this chunk's deletion, by the region's marks, and they stand for the log of that
--- deletion: for each bundle one run for F4 at its marked places, then the settling, then for each bundle one run for F4
+-- deletion: for each bundle one run for F4 at its marked places, then the serialization, then for each bundle one run for F4
 -- at the others, then the stamp.
 abbrev pub AreDeletionRuns : RegionHandleState → Chunk → List NcAct → List NcAct → ℕ → Type 0
 AreDeletionRuns h c old new count =

@@ -148,7 +148,7 @@ impl RegionHandle {
 }
 
 impl RegionHandle {
-    /// `RegionOf::create`, which also writes its acts into the buffer, with the settling among them: two more than the chunk
+    /// `RegionOf::create`, which also writes its acts into the buffer, with the serialization among them: two more than the chunk
     /// has bytes. An empty buffer counts as none. Returns the number of acts written.
     ///
     /// A refusal returns the chunk and changes nothing, except that a lack of memory may leave pages of the chunk's span
@@ -166,7 +166,7 @@ impl RegionHandle {
         // The chunk was vetted for this region's limit, and its span overlapped no chunk.
         ensures free { OnOk result ((vetted.limit ≡ limit_of self.old.region.marked.bytes)
             × ¬ Meets vetted.base (length vetted.code) self.old.region.chunks) }
-        // The acts written are those of a creation, with the settling.
+        // The acts written are those of a creation, with the serialization.
         ensures reported { IfOk result (λ count. IsReported acts.old acts.new count (log_of_create vetted.base vetted.code)) }
         // So are those logged, and they are a call of a history, in which the span gets the chunk's marks.
         ensures log { OnOk result (Logs self.old.region.logged self.new.region.logged (log_of_create vetted.base vetted.code)) }
@@ -196,7 +196,7 @@ impl RegionHandle {
         Ok(report_creation(acts, &span))
     }
 
-    /// `RegionOf::modify`, which also writes its acts into the buffer, with the settlings among them: at most three for each
+    /// `RegionOf::modify`, which also writes its acts into the buffer, with the serializations among them: at most three for each
     /// new byte. An empty buffer counts as none. Returns the number of acts written. It takes no memory, and a refusal changes
     /// nothing.
     pub fn modify(&mut self, at: u32, new: &[u8], acts: &mut [NcAct]) -> Result<usize, PatchFault>
@@ -207,7 +207,7 @@ impl RegionHandle {
         ensures lawful { OnOk result (IsPatch self.old.region at new.now) }
         // No deletion was under way, and a lent buffer had room for three acts for each byte.
         ensures allowed { OnOk result ((self.old.begun ≡ None) × ¬ IsShortForPatch (length acts.old) (length new.now)) }
-        // The acts written are those of a patch of the region's own bytes, with the settlings.
+        // The acts written are those of a patch of the region's own bytes, with the serializations.
         ensures reported { IfOk result (λ count. (news : List Piece) → AreBytesOf new.now news
             → IsReported acts.old acts.new count (log_of_modify self.old.region.marked.bytes at news)) }
         // So are those logged, and they are a call of a history.
@@ -255,7 +255,7 @@ impl RegionHandle {
         }
     }
 
-    /// The first call of a deletion: writes its acts, which are the stops, the settling among them and the stamp, two more
+    /// The first call of a deletion: writes its acts, which are the stops, the serialization among them and the stamp, two more
     /// than the chunk has bytes. Nothing else changes. The host makes them, and then `end_delete` draws the stamp; until then
     /// every call that changes the region is refused. An empty buffer counts as none. Returns the chunk and the number of acts
     /// written. It takes no memory.
@@ -267,7 +267,7 @@ impl RegionHandle {
         ensures begun { IfOk result (λ r. HasBegun self.old self.new base r.0) }
         // A lent buffer had room for the acts.
         ensures allowed { IfOk result (λ r. ¬ IsShort (length acts.old) (r.0.length + 2)) }
-        // The acts written are those of a deletion, by the region's own marks, with the settling.
+        // The acts written are those of a deletion, by the region's own marks, with the serialization.
         ensures reported { IfOk result (λ r. IsReported acts.old acts.new r.1 (log_of_delete self.old.region.marked.marks base r.0.length)) }
         // The acts in the buffer, up to the stamp, are then pending.
         ensures pending { (v : MarkedChunk) → IfOk result (λ r. ReportsPending self.old self.new v acts.old acts.new r.1) }

@@ -47,7 +47,7 @@ impl RegionHandle {
     /// bundles, and two more. Directly after `create` these are the acts of that call. Returns their number. A refusal writes
     /// nothing.
     pub fn creation_runs(&self, base: u32, acts: &mut [NcAct]) -> Result<usize, RunsFault>
-        // The runs of a creation of the chunk's bytes, which stand for its acts, with the settling.
+        // The runs of a creation of the chunk's bytes, which stand for its acts, with the serialization.
         ensures reported { IfOk result (λ count. (c : Chunk) × IsLiveAt self.now.region.chunks base c
             × AreCreationRuns self.now c acts.old acts.new count) }
         ensures untouched { OnErr result (acts.new ≡ acts.old) }
@@ -73,7 +73,7 @@ impl RegionHandle {
     /// Writes into the buffer, as runs, the acts of the deletion that is under way: two for each bundle of its chunk, and two more.
     /// Returns their number. A refusal writes nothing.
     pub fn deletion_runs(&self, acts: &mut [NcAct]) -> Result<usize, RunsFault>
-        // The runs of a deletion by the region's own marks, which stand for its acts, with the settling.
+        // The runs of a deletion by the region's own marks, which stand for its acts, with the serialization.
         ensures reported { IfOk result (λ count. (c : Chunk) × (self.now.begun ≡ Some c)
             × AreDeletionRuns self.now c acts.old acts.new count) }
         ensures untouched { OnErr result (acts.new ≡ acts.old) }

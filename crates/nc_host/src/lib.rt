@@ -8,7 +8,7 @@
 //!
 //! - [`nc_region_new`], [`nc_region_free`], [`nc_region_seat`]: a region, and a seat for each of its threads.
 //! - [`nc_region_create`], [`nc_region_patch`], [`nc_region_begin_delete`], [`nc_region_end_delete`]: the region is changed,
-//!   and the acts of the change are written, in their order, with the places where the host settles.
+//!   and the acts of the change are written, in their order, with the places where the host serializes.
 //! - [`nc_vetted_new`], [`nc_vetted_free`], [`nc_region_load`]: a chunk that is vetted without a region, and created in one.
 //! - [`nc_region_reclaim`], [`nc_seat_check_in`], [`nc_seat_leave`]: when a deleted chunk's span may be used again.
 //! - [`nc_region_creation_runs`], [`nc_region_deletion_runs`]: the same acts, with runs for the puts of a bundle.

@@ -75,7 +75,7 @@ fn vet_and_load(
 
 /// Vets a chunk and creates it in a region, with its acts.
 ///
-/// The acts are written into the buffer, with the settling among them: two more than the chunk has bytes. An empty buffer
+/// The acts are written into the buffer, with the serialization among them: two more than the chunk has bytes. An empty buffer
 /// counts as none, and then the count is 0. A refusal changes nothing, except that a lack of memory may leave pages of the
 /// chunk's span allocated.
 #[unsafe(no_mangle)]
@@ -88,7 +88,7 @@ pub extern "C" fn nc_region_create(
 ) -> NcChange
     ensures created { result.fault ≡ 0 → IsDone region.old.value region.new.value
         (λ old new. (v : MarkedChunk) × IsChunkFor old base code.now v × HasLoaded v old new) }
-    // The acts written are those of a creation, with the settling.
+    // The acts written are those of a creation, with the serialization.
     ensures reported { result.fault ≡ 0 → IsReported acts.old acts.new result.count (log_of_create base code.now) }
     // The acts in the buffer are then pending, for a chunk of this code.
     ensures pending { result.fault ≡ 0 → IsDone region.old.value region.new.value (λ old new. (v : MarkedChunk) × (v.base ≡ base)
@@ -137,7 +137,7 @@ fn patch(handle: &mut RegionHandle, at: u32, new: &[u8], acts: &mut [NcAct]) -> 
 /// Patches a chunk of a region, with its acts. It takes no memory, and of the chunk it reads only the bundles of the patch and
 /// of its targets.
 ///
-/// The acts are written into the buffer, with the settlings among them: at most three for each new byte. An empty buffer counts
+/// The acts are written into the buffer, with the serializations among them: at most three for each new byte. An empty buffer counts
 /// as none, and then the count is 0. A refusal changes nothing.
 #[unsafe(no_mangle)]
 pub extern "C" fn nc_region_patch(
@@ -151,7 +151,7 @@ pub extern "C" fn nc_region_patch(
     ensures modified { result.fault ≡ 0 → IsDone region.old.value region.new.value (HasPatched at bytes.now) }
     // A lent buffer had room for three acts for each byte.
     ensures allowed { result.fault ≡ 0 → ¬ IsShortForPatch (length acts.old) (length bytes.now) }
-    // The acts written are those of a patch of the region's own bytes, with the settlings.
+    // The acts written are those of a patch of the region's own bytes, with the serializations.
     ensures reported { result.fault ≡ 0 → (h : RegionHandleState) (news : List Piece) → region.old.value ≡ Some h → AreBytesOf bytes.now news
         → IsReported acts.old acts.new result.count (log_of_modify h.region.marked.bytes at news) }
     // The acts in the buffer are then pending.

@@ -37,7 +37,7 @@ fn begin(handle: &mut RegionHandle, base: u32, acts: &mut [NcAct]) -> NcChange
 
 /// The first call of a deletion: its acts are written, and the region still has the chunk. It takes no memory.
 ///
-/// The acts are written into the buffer, with the settling among them and the stamp at the end: two more than the chunk has
+/// The acts are written into the buffer, with the serialization among them and the stamp at the end: two more than the chunk has
 /// bytes. An empty buffer counts as none, and then the count is 0. Until `nc_region_end_delete` every call that changes the
 /// region is refused. A refusal changes nothing.
 #[unsafe(no_mangle)]
@@ -47,7 +47,7 @@ pub extern "C" fn nc_region_begin_delete(
     base: u32,
     acts: &mut [NcAct],
 ) -> NcChange
-    // The acts written are those of a deletion, by the region's own marks, with the settling.
+    // The acts written are those of a deletion, by the region's own marks, with the serialization.
     ensures begun { result.fault ≡ 0 → IsDone region.old.value region.new.value (λ old new. (c : Chunk) × HasBegun old new base c
         × IsReported acts.old acts.new result.count (log_of_delete old.region.marked.marks base c.length)) }
     // The acts in the buffer, up to the stamp, are then pending.

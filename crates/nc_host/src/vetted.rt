@@ -119,7 +119,7 @@ pub extern "C" fn nc_region_load(
     vetted: &mut NcVetted,
     acts: &mut [NcAct],
 ) -> NcChange
-    // The acts written are those of a creation, with the settling.
+    // The acts written are those of a creation, with the serialization.
     ensures created { result.fault ≡ 0 → (vetted.new.value ≡ None) × ((k : VettedHandle) × (vetted.old.value ≡ Some k)
         × ((v : MarkedChunk) × (k.chunk ≡ Some v) × IsDone region.old.value region.new.value (HasLoaded v)
         × IsReported acts.old acts.new result.count (log_of_create v.base v.code))) }

@@ -6,14 +6,14 @@ use Rattle.std.proofs.lemmas.List.{append-nil, take_at}
 use Rattle.std.proofs.lemmas.List.Elements.{All-nil, All-cons, All-head, All-tail, All-append, All-take, All-weaker, filter-append}
 use Rattle.nc_decode.specs.declared.instruction.Mark.{Mark}
 use Rattle.nc_region.specs.schedules.World.{World}
-use Rattle.nc_region.specs.schedules.Events.{Event, Steps, Enters, Exits, Takes, Sees, Stores, Leaves, Puts, Settles, Marks, Bumps, Retires, Frees}
+use Rattle.nc_region.specs.schedules.Events.{Event, Steps, Enters, Exits, Takes, Sees, Stores, Leaves, Puts, Serializes, Marks, Bumps, Retires, Frees}
 use Rattle.nc_region.specs.schedules.Events.{Looks, after, world_after}
 use Rattle.nc_acts.specs.declared.acts.Act.TheVariants.{Put, MarkSpan, UnmarkSpan, Bump, Look}
 use Rattle.nc_acts.specs.declared.acts.Entry.{Entry}
-use Rattle.nc_acts.specs.declared.acts.Entry.TheVariants.{Did, Settled}
+use Rattle.nc_acts.specs.declared.acts.Entry.TheVariants.{Did, Serialized}
 use Rattle.nc_gens.specs.Seen.{least_number}
 use Rattle.nc_region.specs.Region.{Region}
-use Rattle.nc_acts.specs.Log.{unsettled, log_of_create, log_of_delete}
+use Rattle.nc_acts.specs.Log.{unserialized, log_of_create, log_of_delete}
 use Rattle.nc_region.specs.Patch.{log_of_modify}
 use Rattle.nc_region.specs.Deletion.{freed, unmarkings}
 use Rattle.nc_region.specs.Quiet.{retired_spans}
@@ -70,7 +70,7 @@ thread_seats w (Sees k) is = refl
 thread_seats w (Stores k) is = refl
 thread_seats w (Leaves k) is = refl
 thread_seats w (Puts at byte) is = absurd (let bad : true ≡ false = is in cc)
-thread_seats w Settles is = absurd (let bad : true ≡ false = is in cc)
+thread_seats w Serializes is = absurd (let bad : true ≡ false = is in cc)
 thread_seats w (Marks at marks) is = absurd (let bad : true ≡ false = is in cc)
 thread_seats w Bumps is = absurd (let bad : true ≡ false = is in cc)
 thread_seats w (Retires base len) is = absurd (let bad : true ≡ false = is in cc)
@@ -95,7 +95,7 @@ entry_writers d (Did (MarkSpan at len)) = one_writers (Marks at d.marks) refl
 entry_writers d (Did (UnmarkSpan at len)) = one_writers (Frees _) refl
 entry_writers d (Did Bump) = one_writers (Retires d.base d.len) refl
 entry_writers d (Did Look) = looks_writers 0 d.seats
-entry_writers d Settled = one_writers Settles refl
+entry_writers d Serialized = one_writers Serializes refl
 
 -- the events of a log are all the writer's
 pub log_writers : (d : Details) (log : List Entry) → All IsWriters (events_of_log d log)
@@ -106,7 +106,7 @@ log_writers d (entry ∷ log) =
 -- the keeper's events are the writer's
 keepers_writers : (event : Event) → IsKeepers event → IsWriters event
 keepers_writers (Puts at byte) k = refl
-keepers_writers Settles k = refl
+keepers_writers Serializes k = refl
 keepers_writers (Marks at marks) k = refl
 keepers_writers Bumps k = refl
 keepers_writers (Retires base len) k = refl
@@ -142,7 +142,7 @@ call_writers seats old new own (Deletes base stamp is made begun same) =
 call_writers seats old new own (Reclaims count is same) =
     subst (All IsWriters) (sym same)
     (log_writers (record no_details { seats = seats; spans = retired_spans old.chunks })
-    (unsettled (Look ∷ unmarkings (freed (least_number new.keeper.numbers) old.chunks))))
+    (unserialized (Look ∷ unmarkings (freed (least_number new.keeper.numbers) old.chunks))))
 call_writers seats old new own (UsesKeeper marked chunks all range) = All-weaker IsKeepers IsWriters keepers_writers own all
 call_writers seats old new own (Refuses is) = subst (All IsWriters) (sym (refusal_silent old new own is)) (All-nil IsWriters)
 call_writers seats old new own (Keeps is same) = subst (All IsWriters) (sym same) (All-nil IsWriters)

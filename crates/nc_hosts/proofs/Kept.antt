@@ -1,10 +1,10 @@
--- What leaves the numbers of the world's keeper as they are: events of threads, and the stores and settlings of a deletion.
+-- What leaves the numbers of the world's keeper as they are: events of threads, and the stores and serializations of a deletion.
 use Rattle.std.proofs.Common.{◌≡◌, ℕ, ◌+◌, Bool, true, false, cond, List, [], ◌∷◌, ◌++◌, replicate, refl, ◌∙◌, sym, ap, subst, append_assoc}
 use Rattle.std.specs.Prelude.{⊤, All}
 use Rattle.std.proofs.lemmas.List.Elements.{All-nil, All-cons, All-head, All-tail, All-append, All-weaker}
 use Rattle.nc_decode.specs.declared.instruction.Mark.{Mark}
 use Rattle.nc_region.specs.schedules.World.{World}
-use Rattle.nc_region.specs.schedules.Events.{Event, Steps, Enters, Exits, Takes, Sees, Stores, Leaves, Puts, Settles, Marks, Bumps, Retires, Frees}
+use Rattle.nc_region.specs.schedules.Events.{Event, Steps, Enters, Exits, Takes, Sees, Stores, Leaves, Puts, Serializes, Marks, Bumps, Retires, Frees}
 use Rattle.nc_region.specs.schedules.Events.{Looks, after, world_after}
 use Rattle.nc_acts.specs.declared.acts.Act.TheVariants.{Put}
 use Rattle.nc_acts.specs.Acts.{puts_where, is_marked_at, is_unmarked_at}
@@ -16,10 +16,10 @@ use Rattle.nc_hosts.specs.Hosts.{IsNoLook}
 use Rattle.nc_hosts.proofs.Looked.{all_back}
 use Rattle.nc_hosts.proofs.Interleaving.{thread_seats}
 
--- the event is a store or a settling
+-- the event is a store or a serialization
 abbrev pub IsStore : Event → Type 0
 IsStore (Puts at byte) = ⊤
-IsStore Settles = ⊤
+IsStore Serializes = ⊤
 IsStore event = ⊥
 
 -- puts at chosen places are stores
@@ -42,8 +42,8 @@ part_stores marks base len part (OfOthers n le is) =
     (puts_where (is_unmarked_at marks) base (replicate n 244)) in
     subst (All IsStore) (sym is)
     (All-append IsStore (events_of (record no_details { base = base; len = len }) (puts_where (is_marked_at marks) base (replicate len 244)))
-    (Settles ∷ others) (puts_store d (is_marked_at marks) base (replicate len 244))
-    (All-cons IsStore Settles others tt (puts_store d (is_unmarked_at marks) base (replicate n 244))))
+    (Serializes ∷ others) (puts_store d (is_marked_at marks) base (replicate len 244))
+    (All-cons IsStore Serializes others tt (puts_store d (is_unmarked_at marks) base (replicate n 244))))
 
 -- the events that are left of a deletion before its retiring are stores
 pub rest_stores : (marks : List Mark) (base len : ℕ) (first rest : List Event)
@@ -57,7 +57,7 @@ rest_stores marks base len first rest is =
 pub stores_keep : (w : World) (events : List Event) → All IsStore events → (world_after w events).keeper ≡ w.keeper
 stores_keep w [] all = refl
 stores_keep w (Puts at byte ∷ events) all = stores_keep (after w (Puts at byte)) events (All-tail IsStore (Puts at byte) events all)
-stores_keep w (Settles ∷ events) all = stores_keep (after w Settles) events (All-tail IsStore Settles events all)
+stores_keep w (Serializes ∷ events) all = stores_keep (after w Serializes) events (All-tail IsStore Serializes events all)
 stores_keep w (Steps k next ∷ events) all = absurd (All-head IsStore (Steps k next) events all)
 stores_keep w (Enters k at ∷ events) all = absurd (All-head IsStore (Enters k at) events all)
 stores_keep w (Exits k ∷ events) all = absurd (All-head IsStore (Exits k) events all)
@@ -77,7 +77,7 @@ stores_look_not events all = All-weaker IsStore IsNoLook no_look events all
   where
     no_look : (event : Event) → IsStore event → IsNoLook event
     no_look (Puts at byte) is = tt
-    no_look Settles is = tt
+    no_look Serializes is = tt
     no_look (Steps k next) is = tt
     no_look (Enters k at) is = tt
     no_look (Exits k) is = tt
@@ -105,7 +105,7 @@ event_keeper (Sees k) w v none same = same
 event_keeper (Stores k) w v none same = same
 event_keeper (Leaves k) w v none same = same
 event_keeper (Puts at byte) w v none same = same
-event_keeper Settles w v none same = same
+event_keeper Serializes w v none same = same
 event_keeper (Marks at marks) w v none same = same
 event_keeper (Frees span) w v none same = same
 event_keeper Bumps w v none same = ap generation_raised same

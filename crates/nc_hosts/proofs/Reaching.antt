@@ -23,7 +23,7 @@ use Rattle.nc_handle.specs.Pending.{IsHandleCall, Changes, Begins, Ends}
 use Rattle.nc_calls.specs.Calls.{KnowsNoMore}
 use Rattle.nc_hosts.specs.Hosts.{Host, IsStep, Runs, Makes, Restarts, Calls, Asks, IsNoLook, HasFound, IsReached, First, Then}
 use Rattle.nc_calls.proofs.Offered.{Stays, same_region, goes_on, call_stays}
-use Rattle.nc_calls.proofs.Offered.{whole_settled, knows_as_much}
+use Rattle.nc_calls.proofs.Offered.{whole_serialized, knows_as_much}
 use Rattle.nc_hosts.proofs.Kept.{IsStore, rest_stores}
 use Rattle.nc_hosts.proofs.Interleaving.{IsWriters, all_front, one_writers, writers_thread, writers_own, threads_append, threads_none}
 use Rattle.nc_hosts.proofs.Interleaving.{log_writers, call_writers}
@@ -138,7 +138,7 @@ could_begin limit seats host c l begun = go l.phase
           others = ap (λ (b : Option Chunk). record host.handle { begun = b }) begun;
         }
 
--- while a deletion is under way, stores and settlings are pending
+-- while a deletion is under way, stores and serializations are pending
 pub deletion_stores : (limit seats : ℕ) (host : Host) (c : Chunk) → Led limit seats host → host.handle.begun ≡ Some c → All IsStore host.pending
 deletion_stores limit seats host c l begun = go l.phase
   where
@@ -365,7 +365,7 @@ led_first bundles seats host is world none =
       from = host.handle.region;
       stays = record {
         led = begins_unused (65536 + 32 * bundles) seats host.handle.region is.lawful is.marked is.chunks numbers;
-        whole = whole_settled (unused_text (65536 + 32 * bundles)).marks (unused_text (65536 + 32 * bundles)).bytes;
+        whole = whole_serialized (unused_text (65536 + 32 * bundles)).marks (unused_text (65536 + 32 * bundles)).bytes;
         region = subst (λ (m : MarkedText). IsRegion m host.handle.region.chunks) (sym is.marked)
             (subst (IsRegion (unused_text (65536 + 32 * bundles))) (sym is.chunks)
             (region_of_new (unused_text (65536 + 32 * bundles)) (65536 + 32 * bundles, is.lawful, refl)));

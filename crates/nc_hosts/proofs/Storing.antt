@@ -1,7 +1,7 @@
 -- What changes a host's memory.
 use Rattle.std.proofs.Common.{◌≡◌, ℕ, ◌-◌, ◌⊎◌, inl, inr, false, List, ◌∷◌, set, refl, ap}
 use Rattle.nc_region.specs.schedules.World.{World}
-use Rattle.nc_region.specs.schedules.Events.{Event, Steps, Enters, Exits, Takes, Sees, Stores, Leaves, Puts, Settles, Marks, Bumps, Retires, Frees}
+use Rattle.nc_region.specs.schedules.Events.{Event, Steps, Enters, Exits, Takes, Sees, Stores, Leaves, Puts, Serializes, Marks, Bumps, Retires, Frees}
 use Rattle.nc_region.specs.schedules.Events.{Looks, after}
 use Rattle.nc_calls.specs.Interleaving.{is_writers}
 use Rattle.nc_hosts.specs.Hosts.{Host, IsStep, Runs, Makes, Restarts, Calls, Asks}
@@ -27,7 +27,7 @@ due_changes w (Takes k) pending rest is = inl refl
 due_changes w (Sees k) pending rest is = inl refl
 due_changes w (Stores k) pending rest is = inl refl
 due_changes w (Leaves k) pending rest is = inl refl
-due_changes w Settles pending rest is = inl refl
+due_changes w Serializes pending rest is = inl refl
 due_changes w (Marks at marks) pending rest is = inl refl
 due_changes w Bumps pending rest is = inl refl
 due_changes w (Retires base len) pending rest is = inl refl

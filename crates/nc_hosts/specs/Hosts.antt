@@ -9,7 +9,7 @@ use Rattle.nc_handle.specs.RegionHandle.{RegionHandleState, IsFirst}
 use Rattle.nc_handle.specs.Pending.{IsHandleCall}
 
 -- The library's state for the host's handle; the world of the host's memory, whose text is the bytes stored there; and the
--- pending events, in their order. These are the stores and settlings that were reported to the host and haven't been made, or the
+-- pending events, in their order. These are the stores and serializations that were reported to the host and haven't been made, or the
 -- library's own steps.
 pub record Host : Type 0 where
   pub handle : RegionHandleState
@@ -17,7 +17,7 @@ pub record Host : Type 0 where
   pub pending : List Event
 
 -- A step of a host with this number of seats. `Runs`: a thread does what it may. `Makes`: the first pending event happens.
--- `Restarts`: while a deletion is under way, all of its stores and its settling become pending again. `Calls`: while nothing
+-- `Restarts`: while a deletion is under way, all of its stores and its serialization become pending again. `Calls`: while nothing
 -- is pending, the host makes a call that changes the region, after which events are pending. `Asks`: any other call, also
 -- one that is refused, which leaves the region as it is, except that pages may have been made.
 pub data IsStep (seats : ℕ) (old new : Host) : Type 0 where

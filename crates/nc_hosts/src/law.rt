@@ -17,7 +17,7 @@ ghost use Rattle.nc_hosts.specs.Hosts.{Host, IsStep, IsReached};
 ///
 /// - each thread inside is, in every view of the host's memory, where `law_of_histories` of `nc_calls` says;
 /// - if it is in the region, the instruction that it fetches, in any view, stood there, with all its bytes, in one of the memory's
-///   texts since the last settling;
+///   texts since the last serialization;
 /// - when a retired span is freed next, no thread is in it except possibly at a bundle start;
 /// - if nothing is pending and no deletion is under way, the memory stands for the handle's region: it has its bytes, and the world its
 ///   marks, its generation and its retired spans, and no bound that is lower than its keeper's;
@@ -27,18 +27,18 @@ ghost use Rattle.nc_hosts.specs.Hosts.{Host, IsStep, IsReached};
 /// - the text of the handle's region is confined.
 ///
 /// A host (`specs/Hosts`) makes the pending events one by one and in order, and makes no call that may change the region before it has
-/// made all of them. While a deletion is under way it may make all of the deletion's stores and its settling again. The pending events
+/// made all of them. While a deletion is under way it may make all of the deletion's stores and its serialization again. The pending events
 /// are those that it reads in the buffer that it lent (`ReportsPending` of `nc_handle`), or those that the library makes itself
 /// (`DoesItself`). There is a state after each single store, so `stand` and `whole` are about every moment. The function does nothing
 /// when called.
 ///
 /// Its assumptions are in `ThreadMay`, `IsStep`, `HasFound` and `IsReached`:
 ///
-/// - At first the memory is all stops, the host has settled since they were stored, and all threads are outside.
+/// - At first the memory is all stops, the host has serialized since they were stored, and all threads are outside.
 /// - A thread inside moves only as the machine does in some view, and by no masked jump or call to the limit or above.
 /// - A thread enters only at bundle starts and while its seat hasn't left. Its pass checks in and leaves only while it is outside.
 /// - The keeper has the world's generation and a bound for each of its seats, and finds no word to be greater than it is.
-/// - The host makes the pending events in order, each once, and its stores and settlings reach execution in that order. Only a
+/// - The host makes the pending events in order, each once, and its stores and serializations reach execution in that order. Only a
 ///   deletion's events may be made again, all of them and from the first one on.
 pub fn law_of_hosts()
     ensures stand { (bundles seats : ℕ) (host : Host) → IsReached bundles seats host → AllStand host.world }

@@ -1,9 +1,9 @@
 //! A host in C, and the bytes that processors fetch from its memory.
 //!
-//! [`law_of_hosts`] is about every state that a host can reach (`specs/Hosts`). The host's threads run its own memory. By a handle it
-//! makes calls one at a time, reads in a buffer which stores and settlings are pending, and makes these one by one. [`law_of_runs`] says
-//! that runs are read as the same stores, and [`law_of_reaching`] that a host goes on by pending events and by calls, accepted or
-//! refused. The contracts of `nc_host` say that accepted calls are such calls (`ReportsPending` and `DoesItself` of `nc_handle`).
+//! [`law_of_hosts`] is about every state that a host can reach (`specs/Hosts`). The host's threads run its own memory. By a handle it makes
+//! calls one at a time, reads in a buffer which stores and serializations are pending, and makes these one by one. [`law_of_runs`] says
+//! that runs are read as the same stores, and [`law_of_reaching`] that a host goes on by pending events and by calls, accepted or refused.
+//! The contracts of `nc_host` say that accepted calls are such calls (`ReportsPending` and `DoesItself` of `nc_handle`).
 //!
 //! ```text
 //! law_of_hosts();   // does nothing; what it promises is its contract

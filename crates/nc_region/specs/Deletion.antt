@@ -12,7 +12,7 @@ use Rattle.nc_acts.specs.declared.acts.Act.TheVariants.{UnmarkSpan, Look}
 use Rattle.nc_region.specs.declared.fault.DeleteFault.{DeleteFault}
 use Rattle.nc_region.specs.declared.fault.DeleteFault.TheVariants.{NoChunk, GensFull}
 use Rattle.nc_acts.specs.Acts.{acts_of_delete}
-use Rattle.nc_acts.specs.Log.{Logs, unsettled, log_of_delete}
+use Rattle.nc_acts.specs.Log.{Logs, unserialized, log_of_delete}
 use Rattle.nc_region.specs.Region.{Region, IsLive, told}
 
 -- some live chunk of the list has this base
@@ -60,7 +60,7 @@ unmarkings chunks = map (λ (c : Chunk). UnmarkSpan c.base c.length) chunks
 -- The region after a reclaim: the keeper has looked, and exactly the retired chunks with a stamp of at most its
 -- `least_number` have been removed from the list; `count` is their number. Their spans are unmarked except for bundle starts; no
 -- byte changed, and all else is as before. The acts are one look and then one unmarking for each freed chunk, in
--- ascending order, with no settling.
+-- ascending order, with no serialization.
 pub record IsReclaimed (old new : Region) (count : ℕ) : Type 0 where
   pub looked : HasLooked old.keeper new.keeper
   pub chunks : new.chunks ≡ kept (least_number new.keeper.numbers) old.chunks
@@ -69,4 +69,4 @@ pub record IsReclaimed (old new : Region) (count : ℕ) : Type 0 where
   pub bytes : new.marked.bytes ≡ old.marked.bytes
   pub others : new ≡ record old { marked = new.marked; chunks = new.chunks; keeper = new.keeper; logged = new.logged }
   pub acts : told new ≡ told old ++ Look ∷ unmarkings (freed (least_number new.keeper.numbers) old.chunks)
-  pub log : Logs old.logged new.logged (unsettled (Look ∷ unmarkings (freed (least_number new.keeper.numbers) old.chunks)))
+  pub log : Logs old.logged new.logged (unserialized (Look ∷ unmarkings (freed (least_number new.keeper.numbers) old.chunks)))

@@ -10,11 +10,11 @@ use Rattle.nc_list.specs.declared.chunk.Chunk.{Chunk}
 use Rattle.nc_acts.specs.declared.acts.Act.{Act}
 use Rattle.nc_acts.specs.declared.acts.Act.TheVariants.{Put}
 use Rattle.nc_acts.specs.declared.acts.Entry.{Entry}
-use Rattle.nc_acts.specs.declared.acts.Entry.TheVariants.{Did, Settled}
+use Rattle.nc_acts.specs.declared.acts.Entry.TheVariants.{Did, Serialized}
 use Rattle.nc_region.specs.declared.fault.ModifyFault.{ModifyFault}
 use Rattle.nc_region.specs.declared.fault.ModifyFault.TheVariants.{BadSpan, NotLive, NotPermitted, Boundaries, PairTouched, BadTarget}
 use Rattle.nc_acts.specs.Acts.{puts_where}
-use Rattle.nc_acts.specs.Log.{unsettled}
+use Rattle.nc_acts.specs.Log.{unserialized}
 use Rattle.nc_region.specs.Region.{Region, IsLive, IsInChunk, HoldsValid}
 
 -- there is at least one byte, and all bytes lie in one bundle
@@ -157,15 +157,15 @@ acts_of_modify text at [] = []
 acts_of_modify text at (p ∷ rest) =
     (if stands_there text at p.bytes then [] else acts_of_instruction at p.bytes) ++ acts_of_modify text (at + length p.bytes) rest
 
--- The log of replacing one instruction: its acts, and for an instruction of more than one byte two settlings, after F4 is
+-- The log of replacing one instruction: its acts, and for an instruction of more than one byte two serializations, after F4 is
 -- put at its first byte and after its further bytes are put.
 abbrev pub log_of_instruction : ℕ → List ℕ → List Entry
 log_of_instruction at [] = []
 log_of_instruction at (byte ∷ []) = Did (Put at byte) ∷ []
 log_of_instruction at (byte ∷ next ∷ rest) =
-    Did (Put at 0xF4) ∷ Settled ∷ (unsettled (puts_where any_place (at + 1) (next ∷ rest)) ++ (Settled ∷ Did (Put at byte) ∷ []))
+    Did (Put at 0xF4) ∷ Serialized ∷ (unserialized (puts_where any_place (at + 1) (next ∷ rest)) ++ (Serialized ∷ Did (Put at byte) ∷ []))
 
--- the log of a patch: its acts, and for each replaced instruction of more than one byte two settlings, after F4 is put
+-- the log of a patch: its acts, and for each replaced instruction of more than one byte two serializations, after F4 is put
 -- and before its first byte is put
 abbrev pub log_of_modify : List ℕ → ℕ → List Piece → List Entry
 log_of_modify text at [] = []

@@ -23,7 +23,7 @@ use Rattle.nc_acts.specs.Log.{acts_in}
 use Rattle.nc_region.specs.Each.{Each}
 
 -- A region as contracts see it: bytes and marks, which pages are made, the chunks by ascending base, the keeper, and the
--- entries logged so far, which are acts and settlings
+-- entries logged so far, which are acts and serializations
 pub record Region : Type 0 where
   pub marked : MarkedText
   pub made : List Bool
@@ -31,7 +31,7 @@ pub record Region : Type 0 where
   pub keeper : KeeperState
   pub logged : List Entry
 
--- the acts that a region has told so far: those of its log, without the settlings
+-- the acts that a region has told so far: those of its log, without the serializations
 abbrev pub told : Region → List Act
 told r = acts_in r.logged
 

@@ -137,7 +137,7 @@ fn put_listed<A: Acts>(acts: &mut A, base: u32, code: &[u8], vetted: &Vetted, ro
     ensures keeper { A.keeper acts.new ≡ A.keeper acts.old }
 {
     acts.put_where(base, code, false);
-    acts.settle();
+    acts.serialize();
     mark_listed(acts, base, vetted, room);
     acts.put_where(base, code, true);
 }

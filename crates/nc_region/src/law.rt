@@ -19,7 +19,7 @@ pub fn law_of_chunks()
     ensures { (v : MarkedChunk) → IsValid v → IsClosedChunk v.base v.limit v.code v.marks }
 {}
 
-/// The log of a creation, a deletion or a patch has the acts of that call in their order, with settlings among them. The
+/// The log of a creation, a deletion or a patch has the acts of that call in their order, with serializations among them. The
 /// function does nothing when called.
 pub fn law_of_logs()
     ensures create { (base : ℕ) (code : List ℕ) → acts_in (log_of_create base code) ≡ acts_of_create base code }
@@ -31,7 +31,7 @@ pub fn law_of_logs()
 /// happens, however threads and writer are interleaved. After every event each thread inside is in a state that is safe in every
 /// view. When a retired span is freed, no thread is in it except possibly at a bundle start. The function does nothing when called.
 ///
-/// A view is a text that a thread may read: each byte as it was at any moment since the last settling, in any mixture. A
+/// A view is a text that a thread may read: each byte as it was at any moment since the last serialization, in any mixture. A
 /// safe state is at a bundle start below 00010000, or at a permitted instruction wholly inside its bundle. If that instruction
 /// is an indirect transfer, its register has just been masked. There are at most as many threads as seats.
 ///
@@ -39,9 +39,9 @@ pub fn law_of_logs()
 /// span that stays retired, so it may be used again; a thread that is inside moves only as the machine does in some view,
 /// and enters only at a bundle start; and a byte changes only where one is put.
 ///
-/// The current text is always a view, and right after a settling the only one. A view remains one through every event but a
-/// settling, and each mixture of two views is a view. The law therefore covers a processor that fetches each instruction
-/// whole from the current bytes, and one that reads each byte as it was at any moment since the last settling.
+/// The current text is always a view, and right after a serialization the only one. A view remains one through every event but a
+/// serialization, and each mixture of two views is a view. The law therefore covers a processor that fetches each instruction
+/// whole from the current bytes, and one that reads each byte as it was at any moment since the last serialization.
 ///
 /// Not promised: that a span is ever freed, or anything about time.
 pub fn law_of_schedules()
@@ -61,8 +61,8 @@ pub fn law_of_schedules()
         → ChangesBytes (world_after (first_world limit seats) events).marked.bytes event
         (after (world_after (first_world limit seats) events) event).marked.bytes }
     ensures as_it_stands { (w : World) → IsViewOf w w.marked.bytes }
-    ensures settled { (w : World) (view : List ℕ) → IsViewOf (after w Event.Settles) view → view ≡ w.marked.bytes }
-    ensures lasts { (w : World) (event : Event) (view : List ℕ) → event ≢ Event.Settles → IsViewOf w view
+    ensures serialized { (w : World) (view : List ℕ) → IsViewOf (after w Event.Serializes) view → view ≡ w.marked.bytes }
+    ensures lasts { (w : World) (event : Event) (view : List ℕ) → event ≢ Event.Serializes → IsViewOf w view
         → IsViewOf (after w event) view }
     ensures mixed { (w : World) (one other view : List ℕ) → IsViewOf w one → IsViewOf w other
         → length view ≡ length w.marked.bytes

@@ -21,9 +21,9 @@
 //! The contract of a single call can't express that all this is safe while threads run: a thread may be anywhere between any
 //! two puts. `specs/schedules` defines a *world* (`World`) for this. It holds a text with its marks, the retired spans with
 //! their stamps, the keeper of the generations, and for each seat the state of its thread and the numbers of its pass. It
-//! also holds the bytes as they were before each put since the last settling, because a processor may still execute them. A
-//! thread reads a *view* (`Views`), which has at each place one of the bytes that were there since that settling, in any
-//! mixture. An *event* (`Events`) is one step of one thread, one byte put, one settling, or one atomic step on the table of
+//! also holds the bytes as they were before each put since the last serialization, because a processor may still execute them. A
+//! thread reads a *view* (`Views`), which has at each place one of the bytes that were there since that serialization, in any
+//! mixture. An *event* (`Events`) is one step of one thread, one byte put, one serialization, or one atomic step on the table of
 //! generations. `IsAllowed` says when an event may happen; `after` is the world that it leaves, by the same definitions that
 //! the contracts of `nc_text` and `nc_gens` cite for these changes. [`law_of_schedules`] says that no list of allowed events,
 //! however the threads and the writer are interleaved, brings a thread to a state that isn't safe. When a span is freed, no

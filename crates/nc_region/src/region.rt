@@ -202,14 +202,14 @@ impl<A: Acts + Drop> RegionOf<A> {
     }
 
     /// Creates a chunk while threads may be running: makes the pages of its span, puts its bytes that aren't at bundle starts,
-    /// settles, sets its marks, then puts its bytes at bundle starts. A refusal gives the chunk back and leaves the region as
+    /// serializes, sets its marks, then puts its bytes at bundle starts. A refusal gives the chunk back and leaves the region as
     /// it was, except that if memory ran out some of these pages may have been made.
     pub fn create(&mut self, vetted: Vetted) -> Result<(), (Vetted, CreateFault)>
         // The span holds the chunk's code and marks, and the chunk is in the list; all else is as before.
         ensures created { OnOk result (IsCreated self.old self.new vetted) }
         // Exactly the acts of a creation are told.
         ensures acts { OnOk result (told self.new ≡ told self.old ++ acts_of_create vetted.base vetted.code) }
-        // The region settled once, before the marks were set.
+        // The region serialized once, before the marks were set.
         ensures log { OnOk result (Logs self.old.logged self.new.logged (log_of_create vetted.base vetted.code)) }
         // The chunk was vetted for this region's limit, and no chunk was in its span.
         ensures free { OnOk result ((vetted.limit ≡ limit_of self.old.marked.bytes)
@@ -230,7 +230,7 @@ impl<A: Acts + Drop> RegionOf<A> {
 
     /// Replaces instructions of a live chunk with others of the same lengths while threads may be running, one after the other
     /// in ascending order. An instruction whose bytes stay the same gets no put, and one of a single byte gets one. For a
-    /// longer one a stop is put at its first byte, then its further bytes are put, then its first byte; the region settles
+    /// longer one a stop is put at its first byte, then its further bytes are put, then its first byte; the region serializes
     /// before and after the further bytes. A refusal changes nothing. No memory is allocated.
     ///
     /// The new bytes must be instructions in one bundle, each as long as the one it replaces, and their direct transfers must
@@ -242,7 +242,7 @@ impl<A: Acts + Drop> RegionOf<A> {
         // Exactly the acts of a patch are told.
         ensures acts { OnOk result ((news : List Piece) → AreBytesOf new.now news
             → told self.new ≡ told self.old ++ acts_of_modify self.old.marked.bytes at news) }
-        // The region settled twice for each instruction of more than one byte that was replaced.
+        // The region serialized twice for each instruction of more than one byte that was replaced.
         ensures log { OnOk result ((news : List Piece) → AreBytesOf new.now news
             → Logs self.old.logged self.new.logged (log_of_modify self.old.marked.bytes at news)) }
         // Only lawful patches are made.
@@ -269,7 +269,7 @@ impl<A: Acts + Drop> RegionOf<A> {
         Ok(())
     }
 
-    /// Deletes the live chunk with this base: puts stops at its marked places, settles, puts stops at its other places, each in
+    /// Deletes the live chunk with this base: puts stops at its marked places, serializes, puts stops at its other places, each in
     /// ascending order, then draws a stamp and returns it. The chunk stays in the list, retired with that stamp, and keeps its
     /// marks until `reclaim` frees it, which needs every seat to have checked in since or left. A refusal changes nothing. No
     /// memory is allocated.

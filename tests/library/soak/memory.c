@@ -1,17 +1,17 @@
 /*
- * A thread that fetches each byte by itself may read any byte that stood at its place since the last settling, beside any such byte of the
- * next place. So each place keeps these bytes, and after each act every mixture of them is read at the marked places: it has to begin with
+ * A thread that fetches each byte by itself may read any byte that stood at its place since the last serialization, beside any such byte of
+ * the next place. So each place keeps these bytes, and after each act every mixture of them is read at the marked places: it has to begin with
  * an instruction that lies in its bundle, is safe there, and leads only to marked places and trampolines.
  */
 #include "memory.h"
 
 #include <stdbool.h>
 
-#define SEEN 16 /* bytes of one place: between two settlings the writer puts at most ten different ones */
+#define SEEN 16 /* bytes of one place: between two serializations the writer puts at most ten different ones */
 
 typedef struct Place {
     uint8_t byte, mark;
-    uint8_t count;      /* of the bytes seen since the last settling */
+    uint8_t count;      /* of the bytes seen since the last serialization */
     uint8_t seen[SEEN]; /* these, each of them once */
 } Place;
 
@@ -113,12 +113,12 @@ static void put(uint32_t at, uint8_t byte) {
 }
 
 /* From now on only the present bytes are read. */
-static void settle(void) {
+static void serialize(void) {
     for (size_t i = 0; i < BUNDLES * NC_BUNDLE; i++) {
         places[i].count = 1;
         places[i].seen[0] = places[i].byte;
     }
-    readings.settlings++;
+    readings.serializations++;
 }
 
 static void mark(uint32_t base, uint32_t length, const uint8_t *marks) {
@@ -133,8 +133,8 @@ static void make(const NcAct *act, const uint8_t *marks) {
         put(act->at, (uint8_t)act->value);
     } else if (act->kind == NC_MARK && is_span(act->at, act->value)) {
         mark(act->at, act->value, marks);
-    } else if (act->kind == NC_SETTLE) {
-        settle();
+    } else if (act->kind == NC_SERIALIZE) {
+        serialize();
     } else if (act->kind != NC_BUMP) {
         readings.wrong++;
     }
@@ -156,6 +156,6 @@ void memory_begin(void) {
     for (size_t i = 0; i < BUNDLES * NC_BUNDLE; i++) {
         places[i].byte = NC_STOP;
     }
-    settle();
+    serialize();
     memory_unmark(NC_START, BUNDLES * NC_BUNDLE);
 }

@@ -10,7 +10,7 @@
 
 /* What was done so far, and what was wrong. */
 typedef struct Readings {
-    unsigned long acts, settlings, readings, wrong;
+    unsigned long acts, serializations, readings, wrong;
 } Readings;
 
 extern Readings readings;

@@ -119,7 +119,7 @@ static unsigned long report(void) {
     unsigned long wrong = done.wrong + readings.wrong;
     printf("writer: %lu created, %lu patched, %lu deleted, %lu freed by %lu reclaims, %lu rightly refused; %lu comparisons; %lu wrong\n",
            done.created, done.patched, done.deleted, done.freed, done.reclaimed, done.refused, done.compared, done.wrong);
-    printf("memory: %lu acts, %lu settlings, %lu readings; %lu wrong\n", readings.acts, readings.settlings, readings.readings,
+    printf("memory: %lu acts, %lu serializations, %lu readings; %lu wrong\n", readings.acts, readings.serializations, readings.readings,
            readings.wrong);
     for (int i = 0; i < WALKERS; i++) {
         const Walker *walker = &walkers[i];

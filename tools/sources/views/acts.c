@@ -1,4 +1,4 @@
-/* The library changes a chunk of one bundle. The acts that put a byte of the instruction, or settle, are kept. */
+/* The library changes a chunk of one bundle. The acts that put a byte of the instruction, or serialize, are kept. */
 #include "acts.h"
 
 #include "nc_host.h"
@@ -35,23 +35,23 @@ static void add(Acts *acts, int kind, unsigned number) {
     acts->all[acts->count++].number = number;
 }
 
-static unsigned settlings_in(const Acts *acts) {
+static unsigned serializations_in(const Acts *acts) {
     unsigned count = 0;
     size_t i;
     for (i = 0; i < acts->count; i++) {
-        count += acts->all[i].kind == SETTLE;
+        count += acts->all[i].kind == SERIALIZE;
     }
     return count;
 }
 
-/* Adds the settlings that a call wrote, and its puts to the instruction at this address. The instruction gets version 1. */
+/* Adds the serializations that a call wrote, and its puts to the instruction at this address. The instruction gets version 1. */
 static void keep(Acts *acts, NcChange change, const NcAct *written, uint32_t at) {
     size_t i;
     must(change.fault == NC_OK, "verdict");
     for (i = 0; i < change.count; i++) {
         uint32_t place = written[i].at - at;
-        if (written[i].kind == NC_SETTLE) {
-            add(acts, SETTLE, settlings_in(acts));
+        if (written[i].kind == NC_SERIALIZE) {
+            add(acts, SERIALIZE, serializations_in(acts));
         } else if (written[i].kind == NC_PUT && place < LENGTH) {
             int is_stop = written[i].value == NC_STOP;
             must(is_stop || written[i].value == version_byte(1, place), "byte");
@@ -71,11 +71,11 @@ static NcRegion new_region(uint8_t code[NC_BUNDLE], unsigned offset) {
     return region;
 }
 
-/* Adds the settling between two changes. */
+/* Adds the serialization between two changes. */
 static Acts ended(Acts acts, NcRegion *region) {
     nc_region_free(region);
-    must(settlings_in(&acts) == SETTLINGS - 1, "number of settlings");
-    add(&acts, SETTLE, SETTLINGS - 1);
+    must(serializations_in(&acts) == SERIALIZATIONS - 1, "number of serializations");
+    add(&acts, SERIALIZE, SERIALIZATIONS - 1);
     return acts;
 }
 

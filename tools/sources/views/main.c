@@ -13,12 +13,12 @@
 #define SKIPPED 77
 #define ALL_MADE 3u
 
-/* The settlings that each choice makes, and the name of those that it leaves out. The settling between two changes is made only where the
-   two others are left out. It bounds the views. */
+/* The serializations that each choice makes, and the name of those that it leaves out. The serialization between two changes is made only
+   where the two others are left out. It bounds the views. */
 static const struct {
     unsigned made;
     const char *name;
-} choices[] = {{ALL_MADE, "none"}, {2, "first"}, {1, "second"}, {1u << (SETTLINGS - 1), "both"}};
+} choices[] = {{ALL_MADE, "none"}, {2, "first"}, {1, "second"}, {1u << (SERIALIZATIONS - 1), "both"}};
 #define CHOICES (sizeof choices / sizeof *choices)
 
 /* How far the instruction is from its bundle's start. The bundle is the second one of a cache line. */
@@ -80,8 +80,8 @@ static void show(const Race *race, const Tally *t) {
 /* Changes what the writer does, or what is expected. Returns 0 where there is no such fault. */
 static int plant(Race *race, const char *fault) {
     Act *first = race->acts.all;              /* puts the stop */
-    Act *last = first + race->acts.count - 2; /* puts the first byte; the settling between two changes comes next */
-    Act *before = last - 2;                   /* puts the last byte; the change's last settling comes next */
+    Act *last = first + race->acts.count - 2; /* puts the first byte; the serialization between two changes comes next */
+    Act *before = last - 2;                   /* puts the last byte; the change's last serialization comes next */
     Act kept = *last;
     if (strcmp(fault, "no-stop-view") == 0) {
         race->views = without_stops(race->views);

@@ -131,7 +131,7 @@ static void make(const Act *act, uint64_t change, unsigned made) {
     case PUT_FOREIGN: slot_put(act->number, version_byte(change + FOREIGN, act->number), plain); break;
     default:
         if (made >> act->number & 1) {
-            slot_settle();
+            slot_serialize();
         }
     }
 }

@@ -11,7 +11,7 @@ typedef struct Tally {
     uint64_t changes, executions;
     uint64_t beside;                 /* executions during which an act began */
     uint64_t stops, whole;           /* as the text stood at some moment of the execution */
-    uint64_t late_stops, late_whole; /* as it stood before, since the last settling */
+    uint64_t late_stops, late_whole; /* as it stood before, since the last serialization */
     uint64_t mixed[PATTERNS];        /* in the views, but not a whole instruction */
     uint64_t outside;                /* not in the views */
 } Tally;
@@ -20,7 +20,7 @@ typedef struct Race {
     const char *name, *left_out;
     Acts acts;           /* what the writer does */
     Views views, text;   /* what is expected */
-    unsigned made;       /* a bit for each settling that is made */
+    unsigned made;       /* a bit for each serialization that is made */
     unsigned offset;     /* of the instruction in its bundle */
     unsigned readers;
     double seconds;

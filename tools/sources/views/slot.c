@@ -143,8 +143,8 @@ void slot_put(unsigned place, uint8_t byte, int plain) {
     }
 }
 
-/* Every processor that runs a thread of this process serializes. A call that fails is no settling. */
-void slot_settle(void) {
+/* Every processor that runs a thread of this process serializes. A call that fails is no serialization. */
+void slot_serialize(void) {
     if (syscall(SYS_membarrier, MEMBARRIER_CMD_PRIVATE_EXPEDITED_SYNC_CORE, 0, 0) != 0) {
         perror("membarrier");
         abort();
@@ -161,7 +161,7 @@ void slot_lay(unsigned offset) {
     }
     memcpy(writable + slot_at + LENGTH, jump_back, sizeof jump_back);
     __atomic_store_n(&slot_begun, 0, __ATOMIC_SEQ_CST);
-    slot_settle();
+    slot_serialize();
 }
 
 /* The version that has this byte at this place, or STOP_BYTE for a stop, or -2 where there is no such version. */

@@ -20,12 +20,12 @@ const char *slot_open(void);
 const char *slot_begin_thread(void);
 void slot_end_thread(void);
 
-/* Lays version 0 of the instruction at this offset in a bundle, after nops. Then it settles. */
+/* Lays version 0 of the instruction at this offset in a bundle, after nops. Then it serializes. */
 void slot_lay(unsigned offset);
 
 /* A sequentially consistent store, as a host's has to be, or a plain one. */
 void slot_put(unsigned place, uint8_t byte, int plain);
-void slot_settle(void);
+void slot_serialize(void);
 
 /* Executes the instruction, in a thread that has begun. It enters at the bundle's start or right at the instruction. Its
    first look at the acts is a fast or a slow one. */

@@ -12,19 +12,19 @@ static unsigned version_bit(unsigned version) {
     return 2u << version;
 }
 
-/* The byte at each place, and all bytes that were there since the last settling. */
+/* The byte at each place, and all bytes that were there since the last serialization. */
 typedef struct State {
     unsigned text[LENGTH], seen[LENGTH];
 } State;
 
-static void settle(State *state) {
+static void serialize(State *state) {
     memcpy(state->seen, state->text, sizeof state->seen);
 }
 
 static void act(State *state, const Act *act, unsigned change, unsigned made) {
-    if (act->kind == SETTLE) {
+    if (act->kind == SERIALIZE) {
         if (made >> act->number & 1) {
-            settle(state);
+            serialize(state);
         }
         return;
     }
@@ -40,7 +40,7 @@ static unsigned relative(unsigned set) {
     return (set & STOP_BIT) | (set & ~STOP_BIT) >> 1;
 }
 
-/* With `always`, each act is followed by a settling. */
+/* With `always`, each act is followed by a serialization. */
 static Views table(const Acts *acts, unsigned made, int always) {
     Views views = {.period = acts->count};
     State state;
@@ -49,7 +49,7 @@ static Views table(const Acts *acts, unsigned made, int always) {
     for (place = 0; place < LENGTH; place++) {
         state.text[place] = version_bit(0);
     }
-    settle(&state);
+    serialize(&state);
     for (change = 0; change < CHANGES; change++) {
         for (i = 0; i < acts->count; i++) {
             for (place = 0; place < LENGTH && change == CHANGES - 1; place++) {
@@ -57,7 +57,7 @@ static Views table(const Acts *acts, unsigned made, int always) {
             }
             act(&state, &acts->all[i], change, made);
             if (always) {
-                settle(&state);
+                serialize(&state);
             }
         }
     }

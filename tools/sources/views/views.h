@@ -18,10 +18,10 @@ typedef struct Views {
     unsigned sets[MOST_ACTS][LENGTH];
 } Views;
 
-/* The views while these acts are made again and again. Settlings without a bit in `made` are left out. */
+/* The views while these acts are made again and again. Serializations without a bit in `made` are left out. */
 Views views_of(const Acts *acts, unsigned made);
 
-/* The text as it stands, which the views would be if each act settled. */
+/* The text as it stands, which the views would be if each act serialized. */
 Views text_of(const Acts *acts);
 
 /* Removes the stop from the sets of the first place. A control does so. */

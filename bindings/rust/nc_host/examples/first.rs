@@ -28,7 +28,7 @@ impl Memory {
         for act in acts.written_out(START, &[]) {
             match act {
                 Act::Put { at, byte } => self.0[(at - START) as usize].store(byte, SeqCst),
-                Act::Settle => {} // here each processor that runs a thread of the host would serialize: membarrier, on Linux
+                Act::Serialize => {} // here each processor that runs a thread of the host would serialize: membarrier, on Linux
                 Act::Mark { .. } | Act::Bump => {}
                 Act::PutRun { .. } | Act::StopRun { .. } => unreachable!("no runs were asked for"),
             }

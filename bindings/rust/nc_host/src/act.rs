@@ -27,7 +27,7 @@ pub enum Act {
     /// Draw the stamp of a deletion, which [`Deletion::finish`](crate::Deletion::finish) does.
     Bump,
     /// Make every processor that runs a thread of the host serialize.
-    Settle,
+    Serialize,
     /// Put the chunk's byte at `at` + k for each bit k of `places`, in ascending order.
     PutRun {
         /// The address at which the bundle begins.
@@ -50,7 +50,7 @@ impl Act {
             ffi::NC_PUT => Act::Put { at, byte: value as u8 },
             ffi::NC_MARK => Act::Mark { at, length: value },
             ffi::NC_BUMP => Act::Bump,
-            ffi::NC_SETTLE => Act::Settle,
+            ffi::NC_SERIALIZE => Act::Serialize,
             ffi::NC_PUT_RUN => Act::PutRun { at, places: value },
             ffi::NC_STOP_RUN => Act::StopRun { at, places: value },
             other => panic!("the library wrote an act of the kind {other}, which nc_host.h doesn't have"),

@@ -33,7 +33,7 @@ pub const NC_MASKED: u32 = 16;
 pub const NC_PUT: u32 = 1;
 pub const NC_MARK: u32 = 2;
 pub const NC_BUMP: u32 = 3;
-pub const NC_SETTLE: u32 = 6;
+pub const NC_SERIALIZE: u32 = 6;
 pub const NC_PUT_RUN: u32 = 7;
 pub const NC_STOP_RUN: u32 = 8;
 

@@ -38,7 +38,7 @@ impl Memory {
             match act {
                 Act::Put { at, byte } => self.0[(at - START) as usize] = byte,
                 Act::PutRun { .. } | Act::StopRun { .. } => panic!("{act:?}"),
-                Act::Mark { .. } | Act::Bump | Act::Settle => {}
+                Act::Mark { .. } | Act::Bump | Act::Serialize => {}
             }
         }
     }
@@ -97,7 +97,7 @@ fn patch() -> Result<(), Fault> {
     let (mut region, mut memory, mut buffer) = (Region::new(BUNDLES, 1)?, Memory::new(), room());
     memory.make(region.create(START, &chunk_code(), &mut buffer)?);
     let acts = region.patch(START, &OTHER, &mut buffer)?;
-    assert_eq!(acts.iter().filter(|act| *act == Act::Settle).count(), 2);
+    assert_eq!(acts.iter().filter(|act| *act == Act::Serialize).count(), 2);
     assert_eq!(acts.iter().next(), Some(Act::Put { at: START, byte: STOP }));
     memory.make(acts);
     assert!(memory.follows(&region));

@@ -15,7 +15,7 @@ use Rattle.nc_gens.specs.Rule.{first_keeper_numbers}
 use Rattle.nc_gens.specs.Seen.{KeeperState}
 use Rattle.nc_list.specs.declared.chunk.Chunk.{Chunk}
 use Rattle.nc_region.specs.schedules.World.{World, first_seat, first_world, seat_at}
-use Rattle.nc_region.specs.schedules.Events.{Event, Enters, Puts, Settles, Marks, ThreadMay, after, world_after}
+use Rattle.nc_region.specs.schedules.Events.{Event, Enters, Puts, Serializes, Marks, ThreadMay, after, world_after}
 use Rattle.nc_acts.specs.declared.acts.Act.TheVariants.{Put}
 use Rattle.nc_acts.specs.Acts.{puts_where, is_inside, is_start}
 use Rattle.nc_region.specs.Region.{Region, IsCreated, live_chunk}
@@ -71,7 +71,7 @@ put_at_start d base (x ∷ rest) start some = go (start_or_not base)
 
 -- ---- the creation
 
--- the events of the creation's turn: the thread enters before the settling
+-- the events of the creation's turn: the thread enters before the serialization
 abbrev pub creation_events : MarkedChunk → List Event
 creation_events v = create_first v ++ Enters 0 v.base ∷ create_second v
 
@@ -193,7 +193,7 @@ creates_around v keeper created valid is =
       put_after = (
         behind.0,
         behind.1,
-        Contains-append_right (Settles ∷ Marks v.base v.marks ∷ [])
+        Contains-append_right (Serializes ∷ Marks v.base v.marks ∷ [])
             (events_of (record no_details { marks = v.marks }) (puts_where is_start v.base v.code)) (Puts behind.0 behind.1) behind.2,
       );
       inside = ap (λ (x : World). (seat_at x 0).inside) (stage_inside v).is;

@@ -7,7 +7,7 @@ use Rattle.nc_gens.specs.declared.view.KeeperNumbers.{KeeperNumbers}
 use Rattle.nc_gens.specs.Rule.{first_keeper_numbers}
 use Rattle.nc_region.specs.schedules.Spans.{RetiredSpan}
 use Rattle.nc_region.specs.schedules.World.{World, Seat, first_seat, first_world, seat_at}
-use Rattle.nc_region.specs.schedules.Events.{Event, Steps, Enters, Puts, Settles, Marks, after, world_after}
+use Rattle.nc_region.specs.schedules.Events.{Event, Steps, Enters, Puts, Serializes, Marks, after, world_after}
 use Rattle.nc_region.proofs.Offered.{as_it_stands}
 use Rattle.nc_calls.specs.Interleaving.{writers, ThreadsMay}
 use Rattle.nc_calls.specs.Example.{last_of}
@@ -44,13 +44,13 @@ stage_of_text limit keeper seat w (Puts at byte ∷ events) t s =
       is = ap (λ (x : World). after x (Puts at byte)) s.is;
       as_long = length-set s.marked.bytes (at - 65536) byte ∙ s.as_long;
     })
-stage_of_text limit keeper seat w (Settles ∷ events) t s =
-    stage_of_text limit keeper seat (after w Settles) events t
+stage_of_text limit keeper seat w (Serializes ∷ events) t s =
+    stage_of_text limit keeper seat (after w Serializes) events t
     (record {
       marked = s.marked;
       earlier = [];
       retired = s.retired;
-      is = ap (λ (x : World). after x Settles) s.is;
+      is = ap (λ (x : World). after x Serializes) s.is;
       as_long = s.as_long;
     })
 stage_of_text limit keeper seat w (Marks at marks ∷ events) t s =

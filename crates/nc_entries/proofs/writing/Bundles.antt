@@ -7,7 +7,7 @@ use Rattle.nc_acts.specs.declared.acts.Act.TheVariants.{Put}
 use Rattle.nc_acts.specs.declared.acts.Entry.{Entry}
 use Rattle.nc_acts.specs.declared.acts.Entry.TheVariants.{Did}
 use Rattle.nc_acts.specs.Acts.{puts_where, is_start, is_inside}
-use Rattle.nc_acts.specs.Log.{unsettled}
+use Rattle.nc_acts.specs.Log.{unserialized}
 use Rattle.nc_region.proofs.Offered.{is_start_false}
 use Rattle.nc_entries.specs.declared.act.NcAct.{NcAct}
 use Rattle.nc_entries.specs.Shown.{act_of}
@@ -111,10 +111,10 @@ part_next chosen inner base at n bytes others initial from acts now count m long
     let all = put_all inner at others acts count 32 now m (sym long) more in
     let first : List Act = puts_where chosen base (take (32 * n) bytes) in
     let last : List Act = puts_where inner at others in
-    let added : Adds initial from now m (unsettled first ++ unsettled last) =
-    adds_both initial acts now from count m (unsettled first) (unsettled last) h.written all.written in
-    let entries : unsettled (puts_where chosen base (take (32 * (n + 1)) bytes)) ≡ unsettled first ++ unsettled last =
-    ap (λ (z : List Act). unsettled z) both ∙ map-append Did first last in
+    let added : Adds initial from now m (unserialized first ++ unserialized last) =
+    adds_both initial acts now from count m (unserialized first) (unserialized last) h.written all.written in
+    let entries : unserialized (puts_where chosen base (take (32 * (n + 1)) bytes)) ≡ unserialized first ++ unserialized last =
+    ap (λ (z : List Act). unserialized z) both ∙ map-append Did first last in
     record {
       len = all.len ∙ h.len;
       counted = omega (arith, all.counted, h.counted, ap (λ (z : List Act). length z) both, length-append first last);

@@ -7,9 +7,9 @@ use Rattle.nc_vet.specs.Chunk.{Piece}
 use Rattle.nc_text.specs.Places.{byte_at}
 use Rattle.nc_acts.specs.declared.acts.Act.TheVariants.{Put}
 use Rattle.nc_acts.specs.declared.acts.Entry.{Entry}
-use Rattle.nc_acts.specs.declared.acts.Entry.TheVariants.{Did, Settled}
+use Rattle.nc_acts.specs.declared.acts.Entry.TheVariants.{Did, Serialized}
 use Rattle.nc_acts.specs.Acts.{puts_where}
-use Rattle.nc_acts.specs.Log.{unsettled}
+use Rattle.nc_acts.specs.Log.{unserialized}
 use Rattle.nc_region.specs.Patch.{any_place, stands_there, log_of_instruction, log_of_modify}
 use Rattle.nc_region.proofs.Offered.{Parted, slice_rest}
 use Rattle.nc_entries.specs.declared.act.NcAct.{NcAct}
@@ -30,8 +30,8 @@ of_one at (x ∷ y ∷ rest) e = absurd (omega (arith, e))
 
 -- the log of an instruction of several bytes: a stop, the bytes behind the first, the first
 pub of_more : (at : ℕ) (bytes : List ℕ) → 1 < length bytes
-    → log_of_instruction at bytes ≡ Did (Put at 244) ∷ Settled
-    ∷ (unsettled (puts_where any_place (at + 1) (drop 1 bytes)) ++ (Settled ∷ Did (Put at (get_or bytes 0 0)) ∷ []))
+    → log_of_instruction at bytes ≡ Did (Put at 244) ∷ Serialized
+    ∷ (unserialized (puts_where any_place (at + 1) (drop 1 bytes)) ++ (Serialized ∷ Did (Put at (get_or bytes 0 0)) ∷ []))
 of_more at [] lt = absurd (omega (arith, lt))
 of_more at (x ∷ []) lt = absurd (omega (arith, lt))
 of_more at (x ∷ y ∷ rest) lt = refl
@@ -42,22 +42,22 @@ rest_long bytes = ap (λ (z : List ℕ). length z) (slice_rest bytes 1) ∙ leng
 
 -- the log of an instruction of more than one byte
 pub longer_added : (at : ℕ) (bytes : List ℕ) (acts one two three four five : List NcAct) (from n m k l o : ℕ) → 1 < length bytes
-    → Adds acts from one n (Did (Put at 244) ∷ []) → Adds one n two m (Settled ∷ [])
+    → Adds acts from one n (Did (Put at 244) ∷ []) → Adds one n two m (Serialized ∷ [])
     → HasPutUpTo any_place (at + 1) (take (length bytes - 1) (drop 1 bytes)) two m (length (take (length bytes - 1) (drop 1 bytes))) three k
-    → Adds three k four l (Settled ∷ []) → Adds four l five o (Did (Put at (get_or bytes 0 0)) ∷ [])
+    → Adds three k four l (Serialized ∷ []) → Adds four l five o (Did (Put at (get_or bytes 0 0)) ∷ [])
     → Adds acts from five o (log_of_instruction at bytes)
-longer_added at bytes acts one two three four five from n m k l o lt first stopped middle settled last =
+longer_added at bytes acts one two three four five from n m k l o lt first stopped middle serialized last =
     let all = put_all any_place (at + 1) (take (length bytes - 1) (drop 1 bytes)) two m (length (take (length bytes - 1) (drop 1 bytes))) three k
     refl middle in
-    let puts : Adds two m three k (unsettled (puts_where any_place (at + 1) (drop 1 bytes))) =
-    subst (λ (z : List ℕ). Adds two m three k (unsettled (puts_where any_place (at + 1) z))) (slice_rest bytes 1) all.written in
-    let end : List Entry = Settled ∷ Did (Put at (get_or bytes 0 0)) ∷ [] in
-    let rest : List Entry = unsettled (puts_where any_place (at + 1) (drop 1 bytes)) ++ end in
+    let puts : Adds two m three k (unserialized (puts_where any_place (at + 1) (drop 1 bytes))) =
+    subst (λ (z : List ℕ). Adds two m three k (unserialized (puts_where any_place (at + 1) z))) (slice_rest bytes 1) all.written in
+    let end : List Entry = Serialized ∷ Did (Put at (get_or bytes 0 0)) ∷ [] in
+    let rest : List Entry = unserialized (puts_where any_place (at + 1) (drop 1 bytes)) ++ end in
     subst (λ (z : List Entry). Adds acts from five o z) (sym (of_more at bytes lt))
-    (adds_both acts one five from n o (Did (Put at 244) ∷ []) (Settled ∷ rest) first
-    (adds_both one two five n m o (Settled ∷ []) rest stopped
-    (adds_both two three five m k o (unsettled (puts_where any_place (at + 1) (drop 1 bytes))) end puts
-    (adds_both three four five k l o (Settled ∷ []) (Did (Put at (get_or bytes 0 0)) ∷ []) settled last))))
+    (adds_both acts one five from n o (Did (Put at 244) ∷ []) (Serialized ∷ rest) first
+    (adds_both one two five n m o (Serialized ∷ []) rest stopped
+    (adds_both two three five m k o (unserialized (puts_where any_place (at + 1) (drop 1 bytes))) end puts
+    (adds_both three four five k l o (Serialized ∷ []) (Did (Put at (get_or bytes 0 0)) ∷ []) serialized last))))
 
 -- the place after the first stop and the further bytes
 pub rest_counted : (at : ℕ) (bytes : List ℕ) (one two : List NcAct) (n m : ℕ)

@@ -7,9 +7,9 @@ use Rattle.nc_text.specs.Marks.{mark_at}
 use Rattle.nc_acts.specs.declared.acts.Act.{Act}
 use Rattle.nc_acts.specs.declared.acts.Act.TheVariants.{MarkSpan, Bump}
 use Rattle.nc_acts.specs.declared.acts.Entry.{Entry}
-use Rattle.nc_acts.specs.declared.acts.Entry.TheVariants.{Did, Settled}
+use Rattle.nc_acts.specs.declared.acts.Entry.TheVariants.{Did, Serialized}
 use Rattle.nc_acts.specs.Acts.{puts_where, is_start, is_inside, is_marked_at}
-use Rattle.nc_acts.specs.Log.{unsettled, log_of_create, log_of_delete}
+use Rattle.nc_acts.specs.Log.{unserialized, log_of_create, log_of_delete}
 use Rattle.nc_entries.specs.declared.act.NcAct.{NcAct}
 use Rattle.nc_entries.specs.Shown.{entry_of}
 use Rattle.nc_entries.specs.Standing.{AreMarksAt}
@@ -37,7 +37,7 @@ both_of_delete marks base len =
 pub record WroteFirst (chosen : ℕ → Bool) (base : ℕ) (bytes : List ℕ) (acts now : List NcAct) (count : ℕ) : Type 0 where
   pub len : length now ≡ length acts
   pub counted : count ≡ length (puts_where chosen base bytes)
-  pub written : Adds acts 0 now count (unsettled (puts_where chosen base bytes))
+  pub written : Adds acts 0 now count (unserialized (puts_where chosen base bytes))
 
 pub first_written : (chosen : ℕ → Bool) (base : ℕ) (bytes : List ℕ) (acts now : List NcAct) (n count : ℕ) → n ≡ length bytes
     → HasPutUpTo chosen base bytes acts 0 n now count → WroteFirst chosen base bytes acts now count
@@ -53,7 +53,7 @@ then_entry acts next last n m k a rest e f lt more =
 
 -- the log of a creation
 pub creation_written : (base : ℕ) (code : List ℕ) (acts acts1 acts2 acts3 acts4 : List NcAct) (n1 n2 n3 n4 : ℕ)
-    → HasPutUpTo is_inside base code acts 0 (length code) acts1 n1 → acts2 ≡ set acts1 n1 (entry_of Settled) → n2 ≡ n1 + 1
+    → HasPutUpTo is_inside base code acts 0 (length code) acts1 n1 → acts2 ≡ set acts1 n1 (entry_of Serialized) → n2 ≡ n1 + 1
     → acts3 ≡ set acts2 n2 (entry_of (Did (MarkSpan base (length code)))) → n3 ≡ n2 + 1
     → HasPutUpTo is_start base code acts3 n3 (length code) acts4 n4 → length code + 2 ≤ length acts
     → HasWritten acts acts4 (length code + 2) (log_of_create base code)
@@ -61,16 +61,16 @@ creation_written base code acts acts1 acts2 acts3 acts4 n1 n2 n3 n4 h1 e2 m2 e3 
     let both = both_of_create base code in
     let one = first_written is_inside base code acts acts1 (length code) n1 refl h1 in
     let rest = put_all is_start base code acts3 n3 (length code) acts4 n4 refl h4 in
-    let long2 = ap (λ (z : List NcAct). length z) e2 ∙ length-set acts1 n1 (entry_of Settled) in
+    let long2 = ap (λ (z : List NcAct). length z) e2 ∙ length-set acts1 n1 (entry_of Serialized) in
     let lt1 : n1 < length acts1 = omega (arith, one.len, one.counted, room, both) in
     let lt2 : n2 < length acts2 = omega (arith, one.len, one.counted, room, both, m2, long2) in
-    let starts : List Entry = unsettled (puts_where is_start base code) in
+    let starts : List Entry = unserialized (puts_where is_start base code) in
     let marked : Adds acts2 n2 acts4 n4 (Did (MarkSpan base (length code)) ∷ starts) =
     then_entry acts2 acts3 acts4 n2 n3 n4 (Did (MarkSpan base (length code))) starts e3 m3 lt2 rest.written in
-    let settled = then_entry acts1 acts2 acts4 n1 n2 n4 Settled (Did (MarkSpan base (length code)) ∷ starts) e2 m2 lt1 marked in
+    let serialized = then_entry acts1 acts2 acts4 n1 n2 n4 Serialized (Did (MarkSpan base (length code)) ∷ starts) e2 m2 lt1 marked in
     let all : HasWritten acts acts4 n4 (log_of_create base code) =
-    adds_both acts acts1 acts4 0 n1 n4 (unsettled (puts_where is_inside base code)) (Settled ∷ Did (MarkSpan base (length code)) ∷ starts)
-    one.written settled acts [] (none_written acts) in
+    adds_both acts acts1 acts4 0 n1 n4 (unserialized (puts_where is_inside base code)) (Serialized ∷ Did (MarkSpan base (length code)) ∷ starts)
+    one.written serialized acts [] (none_written acts) in
     subst (λ (n : ℕ). HasWritten acts acts4 n (log_of_create base code)) {x = n4} {y = length code + 2}
     (omega (arith, rest.counted, m2, m3, one.counted, both)) all
 
@@ -92,7 +92,7 @@ same_stops marked marks text base len h =
 -- the log of a deletion
 pub deletion_written : (marks : ℕ → Mark) (text : List Mark) (base len : ℕ) (acts acts1 acts2 acts3 acts4 : List NcAct) (n1 n2 n3 : ℕ)
     → HasPutUpTo (marks_if true marks base) base (replicate {A = ℕ} len 244) acts 0 len acts1 n1
-    → acts2 ≡ set acts1 n1 (entry_of Settled) → n2 ≡ n1 + 1
+    → acts2 ≡ set acts1 n1 (entry_of Serialized) → n2 ≡ n1 + 1
     → HasPutUpTo (marks_if false marks base) base (replicate {A = ℕ} len 244) acts2 n2 len acts3 n3
     → acts4 ≡ set acts3 n3 (entry_of (Did Bump)) → len + 2 ≤ length acts → AreMarksAt text base len marks
     → HasWritten acts acts4 (len + 2) (log_of_delete text base len)
@@ -104,19 +104,19 @@ deletion_written marks text base len acts acts1 acts2 acts3 acts4 n1 n2 n3 h1 e2
     let both = both_of_delete marks base len in
     let one = first_written (marks_if true marks base) base bytes acts acts1 len n1 end h1 in
     let rest = put_all (marks_if false marks base) base bytes acts2 n2 len acts3 n3 end h3 in
-    let long2 = ap (λ (z : List NcAct). length z) e2 ∙ length-set acts1 n1 (entry_of Settled) in
+    let long2 = ap (λ (z : List NcAct). length z) e2 ∙ length-set acts1 n1 (entry_of Serialized) in
     let many : n3 ≡ len + 1 = omega (arith, rest.counted, m2, one.counted, both) in
     let lt1 : n1 < length acts1 = omega (arith, one.len, one.counted, room, both) in
     let lt3 : n3 < length acts3 = omega (arith, many, rest.len, long2, one.len, room) in
     let last : Adds acts3 n3 acts4 (n3 + 1) (Did Bump ∷ []) = rw e4 (adds_one acts3 n3 (Did Bump) lt3) in
-    let stops = adds_both acts2 acts3 acts4 n2 n3 (n3 + 1) (unsettled others) (Did Bump ∷ []) rest.written last in
-    let settled = then_entry acts1 acts2 acts4 n1 n2 (n3 + 1) Settled (unsettled others ++ Did Bump ∷ []) e2 m2 lt1 stops in
-    let all : HasWritten acts acts4 (n3 + 1) (unsettled ones ++ (Settled ∷ (unsettled others ++ Did Bump ∷ []))) =
-    adds_both acts acts1 acts4 0 n1 (n3 + 1) (unsettled ones) (Settled ∷ (unsettled others ++ Did Bump ∷ [])) one.written settled acts []
+    let stops = adds_both acts2 acts3 acts4 n2 n3 (n3 + 1) (unserialized others) (Did Bump ∷ []) rest.written last in
+    let serialized = then_entry acts1 acts2 acts4 n1 n2 (n3 + 1) Serialized (unserialized others ++ Did Bump ∷ []) e2 m2 lt1 stops in
+    let all : HasWritten acts acts4 (n3 + 1) (unserialized ones ++ (Serialized ∷ (unserialized others ++ Did Bump ∷ []))) =
+    adds_both acts acts1 acts4 0 n1 (n3 + 1) (unserialized ones) (Serialized ∷ (unserialized others ++ Did Bump ∷ [])) one.written serialized acts []
     (none_written acts) in
-    let same : unsettled ones ++ (Settled ∷ (unsettled others ++ Did Bump ∷ [])) ≡ log_of_delete text base len =
-    ap (λ (z : List Act). unsettled z ++ (Settled ∷ (unsettled others ++ Did Bump ∷ []))) (same_stops true marks text base len stand)
-    ∙ ap (λ (z : List Act). unsettled (puts_where (is_marked_at text) base bytes) ++ (Settled ∷ (unsettled z ++ Did Bump ∷ [])))
+    let same : unserialized ones ++ (Serialized ∷ (unserialized others ++ Did Bump ∷ [])) ≡ log_of_delete text base len =
+    ap (λ (z : List Act). unserialized z ++ (Serialized ∷ (unserialized others ++ Did Bump ∷ []))) (same_stops true marks text base len stand)
+    ∙ ap (λ (z : List Act). unserialized (puts_where (is_marked_at text) base bytes) ++ (Serialized ∷ (unserialized z ++ Did Bump ∷ [])))
     (same_stops false marks text base len stand) in
     subst (λ (n : ℕ). HasWritten acts acts4 n (log_of_delete text base len)) {x = n3 + 1} {y = len + 2} (omega (arith, many))
     (subst (λ (z : List Entry). HasWritten acts acts4 (n3 + 1) z) same all)

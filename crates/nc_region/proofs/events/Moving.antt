@@ -7,7 +7,7 @@ use Rattle.nc_decode.specs.Bundles.{IsLawfulLimit}
 use Rattle.nc_text.specs.Places.{InRegion}
 use Rattle.nc_text.specs.Machine.{State}
 use Rattle.nc_region.specs.schedules.World.{World, Seat, first_seat, first_world, seat_at}
-use Rattle.nc_region.specs.schedules.Events.{Event, Steps, Enters, Exits, Takes, Sees, Stores, Leaves, Puts, Settles, Marks, Bumps, Retires, Frees}
+use Rattle.nc_region.specs.schedules.Events.{Event, Steps, Enters, Exits, Takes, Sees, Stores, Leaves, Puts, Serializes, Marks, Bumps, Retires, Frees}
 use Rattle.nc_region.specs.schedules.Events.{Looks}
 use Rattle.nc_region.specs.schedules.Events.{IsAllowed, after, world_after, AreAllowed, IsMove, AllMove, ChangesBytes}
 use Rattle.nc_region.proofs.events.Schedules.{allowed_back}
@@ -50,7 +50,7 @@ moves_event w (Sees k) allowed = set_moves w w.seats k _ (stays w (seat_at w k).
 moves_event w (Stores k) allowed = set_moves w w.seats k _ (stays w (seat_at w k).inside)
 moves_event w (Leaves k) allowed = set_moves w w.seats k _ (stays w (seat_at w k).inside)
 moves_event w (Puts at byte) allowed = λ j lt. stays w (seat_at w j).inside
-moves_event w Settles allowed = λ j lt. stays w (seat_at w j).inside
+moves_event w Serializes allowed = λ j lt. stays w (seat_at w j).inside
 moves_event w (Marks at marks) allowed = λ j lt. stays w (seat_at w j).inside
 moves_event w Bumps allowed = λ j lt. stays w (seat_at w j).inside
 moves_event w (Retires base len) allowed = λ j lt. stays w (seat_at w j).inside
@@ -75,7 +75,7 @@ bytes_event w (Sees k) allowed = refl
 bytes_event w (Stores k) allowed = refl
 bytes_event w (Leaves k) allowed = refl
 bytes_event w (Puts at byte) allowed = put_changes w.marked.bytes at byte allowed.0
-bytes_event w Settles allowed = refl
+bytes_event w Serializes allowed = refl
 bytes_event w (Marks at marks) allowed = refl
 bytes_event w Bumps allowed = refl
 bytes_event w (Retires base len) allowed = refl

@@ -11,13 +11,13 @@ use Rattle.nc_text.specs.MarkedText.{unused_text}
 use Rattle.nc_region.specs.schedules.Spans.{RetiredSpan, IsShut}
 use Rattle.nc_region.specs.schedules.World.{World, Seat, first_seat, first_world, seat_at, IsViewOf, IsWhole, AreApart, is_same_span}
 use Rattle.nc_region.specs.schedules.World.{IsUsable, AllStandSafe, NoneIsWithin}
-use Rattle.nc_region.specs.schedules.Events.{Event, Steps, Enters, Exits, Takes, Sees, Stores, Leaves, Puts, Settles, Marks, Bumps, Retires, Frees}
+use Rattle.nc_region.specs.schedules.Events.{Event, Steps, Enters, Exits, Takes, Sees, Stores, Leaves, Puts, Serializes, Marks, Bumps, Retires, Frees}
 use Rattle.nc_region.specs.schedules.Events.{Looks}
 use Rattle.nc_region.specs.schedules.Events.{IsAllowed, after, world_after, AreAllowed}
 use Rattle.nc_region.proofs.events.Invariant.{Keeps, SeatKeeps, if_map}
 use Rattle.nc_region.proofs.events.Seeing.{only_as_it_stands}
 use Rattle.nc_region.proofs.events.ThreadEvents.{keeps_steps, keeps_enters, keeps_exits, keeps_takes, keeps_sees, keeps_stores, keeps_leaves}
-use Rattle.nc_region.proofs.events.WriterEvents.{keeps_puts, keeps_settles, keeps_marks, keeps_bumps, keeps_retires, keeps_frees, keeps_looks}
+use Rattle.nc_region.proofs.events.WriterEvents.{keeps_puts, keeps_serializes, keeps_marks, keeps_bumps, keeps_retires, keeps_frees, keeps_looks}
 use Rattle.nc_region.proofs.events.WriterEvents.{none_is_within, freed_is_usable}
 
 -- the world's invariant (`Keeps`) stays at each allowed event
@@ -30,7 +30,7 @@ keeps_event w (Sees k) keeps allowed = keeps_sees w k keeps
 keeps_event w (Stores k) keeps allowed = keeps_stores w k keeps allowed
 keeps_event w (Leaves k) keeps allowed = keeps_leaves w k keeps allowed
 keeps_event w (Puts at byte) keeps allowed = keeps_puts w at byte keeps allowed
-keeps_event w Settles keeps allowed = keeps_settles w keeps
+keeps_event w Serializes keeps allowed = keeps_serializes w keeps
 keeps_event w (Marks at marks) keeps allowed = keeps_marks w at marks keeps allowed
 keeps_event w Bumps keeps allowed = keeps_bumps w keeps
 keeps_event w (Retires base len) keeps allowed = keeps_retires w base len keeps allowed

@@ -6,14 +6,14 @@ use Rattle.std.proofs.lemmas.Grind.{same_number_lists}
 use Rattle.nc_text.specs.Places.{InRegion, byte_at}
 use Rattle.nc_region.specs.schedules.Views.{WasSeen, IsView}
 use Rattle.nc_region.specs.schedules.World.{World, IsViewOf}
-use Rattle.nc_region.specs.schedules.Events.{Event, Steps, Enters, Exits, Takes, Sees, Stores, Leaves, Puts, Settles, Marks, Bumps, Retires, Frees}
+use Rattle.nc_region.specs.schedules.Events.{Event, Steps, Enters, Exits, Takes, Sees, Stores, Leaves, Puts, Serializes, Marks, Bumps, Retires, Frees}
 use Rattle.nc_region.specs.schedules.Events.{Looks, after}
 
 -- the text as it stands is a view
 pub as_it_stands : (text : List ℕ) (earlier : List (List ℕ)) → IsView text earlier text
 as_it_stands text earlier = record { as_long = refl; seen = λ at inside. inl refl }
 
--- where nothing was put since the last settling, the text as it stands is the only view
+-- where nothing was put since the last serialization, the text as it stands is the only view
 pub only_as_it_stands : (text view : List ℕ) → IsView text [] view → view ≡ text
 only_as_it_stands text view v =
     same_number_lists view text v.as_long (λ k lt.
@@ -107,8 +107,8 @@ views_after_put P text earlier at byte inside before put view v =
     ]
 
 -- what is a view where nothing is read any more that stood before was one while it might be
-pub settled_view : (text : List ℕ) (earlier : List (List ℕ)) (view : List ℕ) → IsView text [] view → IsView text earlier view
-settled_view text earlier view v =
+pub serialized_view : (text : List ℕ) (earlier : List (List ℕ)) (view : List ℕ) → IsView text [] view → IsView text earlier view
+serialized_view text earlier view v =
     record { as_long = v.as_long; seen = λ at inside. elim (v.seen at inside) [ inl here ↦ inl here | inr none ↦ absurd none ] }
 
 -- a byte that one of two views has at a place was seen there if those of both were
@@ -140,8 +140,8 @@ put_lasts text earlier at byte view v =
       seen = λ place inside. inr (v.seen place (inside.0, omega (arith, inside.1, long)));
     }
 
--- a view stays one through every event but a settling
-pub lasts : (w : World) (event : Event) (view : List ℕ) → event ≢ Settles → IsViewOf w view → IsViewOf (after w event) view
+-- a view stays one through every event but a serialization
+pub lasts : (w : World) (event : Event) (view : List ℕ) → event ≢ Serializes → IsViewOf w view → IsViewOf (after w event) view
 lasts w (Steps k next) view ne v = v
 lasts w (Enters k at) view ne v = v
 lasts w (Exits k) view ne v = v
@@ -150,7 +150,7 @@ lasts w (Sees k) view ne v = v
 lasts w (Stores k) view ne v = v
 lasts w (Leaves k) view ne v = v
 lasts w (Puts at byte) view ne v = put_lasts w.marked.bytes w.earlier at byte view v
-lasts w Settles view ne v = absurd (ne refl)
+lasts w Serializes view ne v = absurd (ne refl)
 lasts w (Marks at marks) view ne v = v
 lasts w Bumps view ne v = v
 lasts w (Retires base len) view ne v = v

@@ -14,10 +14,10 @@ use Rattle.nc_text.specs.MarkedText.{MarkedText, with_marks, with_span, StaysOrP
 use Rattle.nc_text.proofs.Offered.{IsKnown, length-with_span}
 use Rattle.nc_region.specs.schedules.Spans.{RetiredSpan, IsWithin, IsShut}
 use Rattle.nc_region.specs.schedules.World.{World, Seat, first_seat, seat_at, IsViewOf, IsWhole, AreApart, IsUsable, is_same_span, NoneIsWithin}
-use Rattle.nc_region.specs.schedules.Events.{Puts, Settles, Marks, Bumps, Retires, Frees, Looks, IsAllowed, after, new_span}
+use Rattle.nc_region.specs.schedules.Events.{Puts, Serializes, Marks, Bumps, Retires, Frees, Looks, IsAllowed, after, new_span}
 use Rattle.nc_region.proofs.events.Invariant.{Keeps, SeatKeeps, OthersApart, CameBefore, if_map, some_at, none_is_some}
 use Rattle.nc_region.proofs.events.Unmarking.{MayFree, freed_marks, freed_long, freed_stays, freed_closed, freed_shut}
-use Rattle.nc_region.proofs.events.Seeing.{as_it_stands, settled_view}
+use Rattle.nc_region.proofs.events.Seeing.{as_it_stands, serialized_view}
 
 -- the world's invariant stays when a byte is put
 pub keeps_puts : (w : World) (at byte : ℕ) → Keeps w → IsAllowed w (Puts at byte) → Keeps (after w (Puts at byte))
@@ -40,13 +40,13 @@ keeps_puts w at byte keeps allowed =
       seats = keeps.seats;
     }
 
--- the world's invariant stays at a settling: what was read before may not be read any more
-pub keeps_settles : (w : World) → Keeps w → Keeps (after w Settles)
-keeps_settles w keeps =
+-- the world's invariant stays at a serialization: what was read before may not be read any more
+pub keeps_serializes : (w : World) → Keeps w → Keeps (after w Serializes)
+keeps_serializes w keeps =
     record {
       as_long = keeps.as_long;
-      closed = λ view v. keeps.closed view (settled_view w.marked.bytes w.earlier view v);
-      shut = λ view v. keeps.shut view (settled_view w.marked.bytes w.earlier view v);
+      closed = λ view v. keeps.closed view (serialized_view w.marked.bytes w.earlier view v);
+      shut = λ view v. keeps.shut view (serialized_view w.marked.bytes w.earlier view v);
       whole = keeps.whole;
       apart = keeps.apart;
       bounds = keeps.bounds;

@@ -3,7 +3,7 @@ use Rattle.std.proofs.Common.{◌≡◌, ℕ, ◌+◌, Bool, true, false, cond, 
 use Rattle.nc_vet.specs.Chunk.{Piece}
 use Rattle.nc_acts.specs.declared.acts.Act.{Act}
 use Rattle.nc_acts.specs.declared.acts.Act.TheVariants.{Put}
-use Rattle.nc_acts.specs.declared.acts.Entry.TheVariants.{Did, Settled}
+use Rattle.nc_acts.specs.declared.acts.Entry.TheVariants.{Did, Serialized}
 use Rattle.nc_acts.specs.Acts.{puts_where}
 use Rattle.nc_acts.specs.Log.{acts_in}
 use Rattle.nc_region.specs.Patch.{stands_there, any_place, acts_of_instruction, acts_of_modify, log_of_instruction, log_of_modify}
@@ -15,7 +15,7 @@ instruction_acts at [] = refl
 instruction_acts at (byte ∷ []) = refl
 instruction_acts at (byte ∷ next ∷ rest) =
     ap (λ (z : List Act). Put at 244 ∷ z)
-    (acts_before (puts_where any_place (at + 1) (next ∷ rest)) (Settled ∷ Did (Put at byte) ∷ []))
+    (acts_before (puts_where any_place (at + 1) (next ∷ rest)) (Serialized ∷ Did (Put at byte) ∷ []))
 
 -- the acts in the log of an instruction that may stand already are its acts
 chosen_acts : (b : Bool) (at : ℕ) (bytes : List ℕ)

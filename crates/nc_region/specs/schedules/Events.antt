@@ -11,7 +11,7 @@ use Rattle.nc_region.specs.schedules.World.{Seat, World, seat_at, IsViewOf, IsSt
 
 -- Events of a thread, named by the number of its seat: it `Steps`, `Enters` at a bundle start, or `Exits`; its pass
 -- `Takes` the generation as its `since`, `Sees` it, `Stores` its `since` in its word, or `Leaves`. Events of the writer:
--- it `Puts` a byte, `Settles`, `Marks` a span, `Bumps` the generation, `Retires` a span with the next generation as its
+-- it `Puts` a byte, `Serializes`, `Marks` a span, `Bumps` the generation, `Retires` a span with the next generation as its
 -- stamp, `Frees` it, or `Looks` at a seat's word.
 pub data Event : Type 0 where
   Steps : (seat : ℕ) → (next : State) → Event
@@ -22,7 +22,7 @@ pub data Event : Type 0 where
   Stores : (seat : ℕ) → Event
   Leaves : (seat : ℕ) → Event
   Puts : (at : ℕ) → (byte : ℕ) → Event
-  Settles : Event
+  Serializes : Event
   Marks : (at : ℕ) → (marks : List Mark) → Event
   Bumps : Event
   Retires : (base : ℕ) → (len : ℕ) → Event
@@ -37,7 +37,7 @@ new_span w base len = record { base = base; length = len; stamp = w.keeper.gener
 abbrev pub with_seat : World → ℕ → Seat → World
 with_seat w k seat = record w { seats = slice_set w.seats k seat }
 
--- The world after an event. A put adds the bytes as they were before it to the earlier texts, and a settling drops all of
+-- The world after an event. A put adds the bytes as they were before it to the earlier texts, and a serialization drops all of
 -- these.
 abbrev pub after : World → Event → World
 after w (Steps k next) = with_seat w k (record (seat_at w k) { inside = Some next })
@@ -48,7 +48,7 @@ after w (Sees k) = with_seat w k (record (seat_at w k) { pass = generation_seen 
 after w (Stores k) = with_seat w k (record (seat_at w k) { pass = since_stored (seat_at w k).pass; has_left = false })
 after w (Leaves k) = with_seat w k (record (seat_at w k) { pass = left_stored (seat_at w k).pass; has_left = true })
 after w (Puts at byte) = record w { marked = with_byte w.marked at byte; earlier = w.marked.bytes ∷ w.earlier }
-after w Settles = record w { earlier = [] }
+after w Serializes = record w { earlier = [] }
 after w (Marks at marks) = record w { marked = with_marks w.marked at marks }
 after w Bumps = record w { keeper = generation_raised w.keeper }
 after w (Retires base len) = record w { keeper = generation_raised w.keeper; retired = new_span w base len ∷ w.retired }

@@ -8,7 +8,7 @@ abbrev pub WasSeen : List (List ℕ) → ℕ → ℕ → Type 0
 WasSeen [] at byte = ⊥
 WasSeen (text ∷ texts) at byte = (byte_at text at ≡ byte) ⊎ WasSeen texts at byte
 
--- A view of a text and of the earlier ones since the last settling: it has the same length, and each of its bytes is the
+-- A view of a text and of the earlier ones since the last serialization: it has the same length, and each of its bytes is the
 -- byte at that place in one of them. All mixtures are views, whether or not a processor could fetch one. That a processor
 -- fetches nothing but views is an empirical premise. The manual doesn't bound what it may fetch (Intel SDM volume 3,
 -- "Handling Self- and Cross-Modifying Code").

@@ -22,7 +22,7 @@ pub record Seat : Type 0 where
   pub has_left : Bool
   pub found_left : Bool
 
--- the text with its marks, its bytes as they were before each put since the last settling, the retired spans, the
+-- the text with its marks, its bytes as they were before each put since the last serialization, the retired spans, the
 -- keeper's numbers (the generation, and a bound for each seat), and the seats
 pub record World : Type 0 where
   pub marked : MarkedText

@@ -9,7 +9,7 @@ ghost use Rattle.nc_text.specs.Ready.{AreReady};
 ghost use Rattle.nc_text.specs.MarkedText.{IsText, with_span};
 ghost use Rattle.nc_list.specs.declared.chunk.Chunk.{Chunk};
 ghost use Rattle.nc_acts.specs.Acts.{puts_where};
-ghost use Rattle.nc_acts.specs.Log.{Logs, unsettled};
+ghost use Rattle.nc_acts.specs.Log.{Logs, unserialized};
 ghost use Rattle.nc_acts.specs.Puts.{HasPut};
 ghost use Rattle.nc_acts.specs.declared.acts.Act.{Act};
 ghost use Rattle.nc_acts.specs.declared.acts.Entry.{Entry};
@@ -91,15 +91,15 @@ fn put_longer<A: Acts>(acts: &mut A, at: u32, first: u8, rest: &[u8])
     ensures whole { IsText (A.marked acts.new) }
     ensures made { A.made acts.new ≡ A.made acts.old }
     ensures keeper { A.keeper acts.new ≡ A.keeper acts.old }
-    ensures log { Logs (A.logged acts.old) (A.logged acts.new) (Entry.Did (Act.Put at 0xF4) ∷ Entry.Settled
-        ∷ (unsettled (puts_where any_place (at + 1) rest.now) ++ (Entry.Settled ∷ Entry.Did (Act.Put at first) ∷ []))) }
+    ensures log { Logs (A.logged acts.old) (A.logged acts.new) (Entry.Did (Act.Put at 0xF4) ∷ Entry.Serialized
+        ∷ (unserialized (puts_where any_place (at + 1) rest.now) ++ (Entry.Serialized ∷ Entry.Did (Act.Put at first) ∷ []))) }
 {
     acts.put(at, STOP);
     put_rest(acts, at, rest);
     acts.put(at, first);
 }
 
-/// Puts all bytes but the first, in ascending order, while the first is a stop. It settles before and after them.
+/// Puts all bytes but the first, in ascending order, while the first is a stop. It serializes before and after them.
 fn put_rest<A: Acts>(acts: &mut A, at: u32, rest: &[u8])
     requires whole { IsText (A.marked acts.old) }
     requires low { 0x10000 ≤ at }
@@ -113,14 +113,14 @@ fn put_rest<A: Acts>(acts: &mut A, at: u32, rest: &[u8])
     ensures whole { IsText (A.marked acts.new) }
     ensures made { A.made acts.new ≡ A.made acts.old }
     ensures keeper { A.keeper acts.new ≡ A.keeper acts.old }
-    ensures log { Logs (A.logged acts.old) (A.logged acts.new) (Entry.Settled
-        ∷ (unsettled (puts_where any_place (at + 1) rest.now) ++ Entry.Settled ∷ [])) }
+    ensures log { Logs (A.logged acts.old) (A.logged acts.new) (Entry.Serialized
+        ∷ (unserialized (puts_where any_place (at + 1) rest.now) ++ Entry.Serialized ∷ [])) }
 {
-    acts.settle(); // Each thread that comes here stops.
+    acts.serialize(); // Each thread that comes here stops.
     for i in 0..rest.len() {
         acts.put(at + 1 + i as u32, rest[i]);
     }
-    acts.settle(); // Behind the first byte only new ones are read.
+    acts.serialize(); // Behind the first byte only new ones are read.
 }
 
 /// Replaces a single instruction, unless its bytes are there already.

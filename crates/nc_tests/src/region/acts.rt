@@ -1,4 +1,4 @@
-//! The acts that a region tells, their order, and the settlings among them.
+//! The acts that a region tells, their order, and the serializations among them.
 ghost use Rattle.std.specs.Prelude.{◌≡◌};
 ghost use Rattle.nc_region.specs.Region.{IsNew};
 
@@ -31,30 +31,30 @@ static UNMARKED: [u32; 5] = [0x10022, 0x10024, 0x10025, 0x10026, 0x10027];
 #[rattlefmt::skip]
 const PATCH: &[u8] = &[0x90, 0xEB, 0x1D, 0xB8, 2, 0, 0, 0, 0x90];
 
-/// The expected entries of the patch: a put; a stop, a settling, a further byte, a settling, the first byte; and the same
+/// The expected entries of the patch: a put; a stop, a serialization, a further byte, a serialization, the first byte; and the same
 /// with four further bytes.
 #[rattlefmt::skip]
 static PATCH_OWES: [Entry; 14] = [
     Entry::Did(Act::Put(0x10020, 0x90)),
     Entry::Did(Act::Put(0x10021, 0xF4)),
-    Entry::Settled,
+    Entry::Serialized,
     Entry::Did(Act::Put(0x10022, 0x1D)),
-    Entry::Settled,
+    Entry::Serialized,
     Entry::Did(Act::Put(0x10021, 0xEB)),
     Entry::Did(Act::Put(0x10023, 0xF4)),
-    Entry::Settled,
+    Entry::Serialized,
     Entry::Did(Act::Put(0x10024, 2)),
     Entry::Did(Act::Put(0x10025, 0)),
     Entry::Did(Act::Put(0x10026, 0)),
     Entry::Did(Act::Put(0x10027, 0)),
-    Entry::Settled,
+    Entry::Serialized,
     Entry::Did(Act::Put(0x10023, 0xB8)),
 ];
 
 /// The remaining expected entries of a deletion, a look that frees nothing, and one that frees the chunk.
 #[rattlefmt::skip]
 static THEN_OWES: [Entry; 9] = [
-    Entry::Settled,
+    Entry::Serialized,
     Entry::Did(Act::Put(0x10022, 0xF4)),
     Entry::Did(Act::Put(0x10024, 0xF4)),
     Entry::Did(Act::Put(0x10025, 0xF4)),
@@ -105,11 +105,11 @@ fn are_puts(log: &mut Iter<'_, Entry>, len: usize, at_starts: bool) -> bool {
     true
 }
 
-/// The next entries are those of the chunk's creation: the puts that aren't at bundle starts, a settling, the marks, the puts
+/// The next entries are those of the chunk's creation: the puts that aren't at bundle starts, a serialization, the marks, the puts
 /// at bundle starts.
 fn are_of_creation(log: &mut Iter<'_, Entry>, len: u32) -> bool {
     are_puts(log, len as usize, false)
-        && is_next(log, Entry::Settled)
+        && is_next(log, Entry::Serialized)
         && is_next(log, Entry::Did(Act::MarkSpan(BASE, len)))
         && are_puts(log, len as usize, true)
 }
@@ -124,7 +124,7 @@ fn are_stops(log: &mut Iter<'_, Entry>, len: u32) -> bool {
     true
 }
 
-/// The entries are those of the whole life of a chunk: creation, patch, deletion (stops at the marked places, a settling, stops
+/// The entries are those of the whole life of a chunk: creation, patch, deletion (stops at the marked places, a serialization, stops
 /// at the others, the stamp), and two reclaims.
 fn are_of_life(entries: &[Entry], len: u32) -> bool {
     let mut log = entries.iter();
@@ -212,7 +212,7 @@ impl Life {
     }
 }
 
-/// The life of a chunk of one bundle has 79 acts and 6 settlings.
+/// The life of a chunk of one bundle has 79 acts and 6 serializations.
 #[rattlefmt::skip]
 static LIVES: [Life; 6] = [
     Life { bundles: 1, len: 32, room: 300, is_told: true },

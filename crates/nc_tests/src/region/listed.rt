@@ -57,8 +57,8 @@ impl<A: Acts + Drop> Acts for Listing<A> {
         self.acts.put(at, byte);
     }
 
-    fn settle(&mut self) {
-        self.acts.settle();
+    fn serialize(&mut self) {
+        self.acts.serialize();
     }
 
     fn mark_span(&mut self, at: u32, marks: &[Mark]) {

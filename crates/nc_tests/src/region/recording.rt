@@ -10,7 +10,7 @@ use std::alloc::Global;
 /// Acts that report which of them were done. Tests are generic over them, since a proof over a region whose acts are a recorder
 /// takes several times as long.
 pub(crate) trait Recording {
-    /// The acts with the settlings among them, first to last, as long as there was room.
+    /// The acts with the serializations among them, first to last, as long as there was room.
     fn recorded(&self) -> Option<&[Entry]>;
 }
 

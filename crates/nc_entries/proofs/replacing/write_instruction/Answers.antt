@@ -1,7 +1,7 @@
 use Rattle.std.proofs.Common.{◌+◌, ◌≤◌, List, length, get_or, arith, sym, subst}
 use Rattle.nc_acts.specs.declared.acts.Act.TheVariants.{Put}
 use Rattle.nc_acts.specs.declared.acts.Entry.{Entry}
-use Rattle.nc_acts.specs.declared.acts.Entry.TheVariants.{Did, Settled}
+use Rattle.nc_acts.specs.declared.acts.Entry.TheVariants.{Did, Serialized}
 use Rattle.nc_entries.specs.Written.{Adds}
 use Rattle.nc_entries.proofs.writing.WriteSteps.{adds_put}
 use Rattle.nc_entries.proofs.writing.Replacements.{of_one, longer_added, rest_counted}
@@ -32,12 +32,12 @@ two_left c =
           c.write_all-count.result c.write_all-count.ensures,
     )
 
-pub write-settled-requires : goal.write-settled-requires
-write-settled-requires c = omega (arith, two_left (goal.at.write-settled-requires c).After-write_all-count)
+pub write-serialized-requires : goal.write-serialized-requires
+write-serialized-requires c = omega (arith, two_left (goal.at.write-serialized-requires c).After-write_all-count)
 
 pub write-requires-2 : goal.write-requires-2
 write-requires-2 c =
-    omega (arith, two_left (goal.at.write-requires-2 c).After-write_all-count, c.write-settled.auto.acts, c.write-settled.ensures.count)
+    omega (arith, two_left (goal.at.write-requires-2 c).After-write_all-count, c.write-serialized.auto.acts, c.write-serialized.ensures.count)
 
 pub returns-clause-within : goal.returns-clause-within
 returns-clause-within c =
@@ -47,7 +47,7 @@ returns-clause-within c =
       c.if-bytes-eq1.false,
       c.write-count.ensures.count,
       c.write-stopped.ensures.count,
-      c.write-settled.ensures.count,
+      c.write-serialized.ensures.count,
       c.write-2.ensures.count,
       rest_counted c.args.at c.args.bytes.now c.write-stopped.new.acts c.write_all-count.new.acts c.write-stopped.result
           c.write_all-count.result c.write_all-count.ensures,
@@ -57,17 +57,17 @@ pub returns-clause-written : goal.returns-clause-written
 returns-clause-written c =
     let left = two_left (goal.at.returns-clause-written c).After-write_all-count in
     longer_added c.args.at c.args.bytes.now c.args.acts.now c.write-count.new.acts c.write-stopped.new.acts c.write_all-count.new.acts
-    c.write-settled.new.acts c.write-2.new.acts c.args.from c.write-count.result c.write-stopped.result c.write_all-count.result
-    c.write-settled.result c.write-2.result (omega (arith, c.requires.some, c.if-bytes-eq1.false))
+    c.write-serialized.new.acts c.write-2.new.acts c.args.from c.write-count.result c.write-stopped.result c.write_all-count.result
+    c.write-serialized.result c.write-2.result (omega (arith, c.requires.some, c.if-bytes-eq1.false))
     (adds_put c.args.acts.now c.write-count.new.acts c.args.from c.write-count.result (Did (Put c.args.at 244)) c.put-2.result
     c.write-count.ensures.acts c.write-count.ensures.count c.put-2.ensures (omega (arith, c.requires.room, c.requires.some)))
-    (adds_put c.write-count.new.acts c.write-stopped.new.acts c.write-count.result c.write-stopped.result Settled c.settle.result
-    c.write-stopped.ensures.acts c.write-stopped.ensures.count c.settle.ensures
+    (adds_put c.write-count.new.acts c.write-stopped.new.acts c.write-count.result c.write-stopped.result Serialized c.serialize.result
+    c.write-stopped.ensures.acts c.write-stopped.ensures.count c.serialize.ensures
     (omega (arith, c.requires.room, c.requires.some, c.if-bytes-eq1.false, c.write-count.auto.acts, c.write-count.ensures.count)))
     c.write_all-count.ensures
-    (adds_put c.write_all-count.new.acts c.write-settled.new.acts c.write_all-count.result c.write-settled.result Settled c.settle-2.result
-    c.write-settled.ensures.acts c.write-settled.ensures.count c.settle-2.ensures
+    (adds_put c.write_all-count.new.acts c.write-serialized.new.acts c.write_all-count.result c.write-serialized.result Serialized c.serialize-2.result
+    c.write-serialized.ensures.acts c.write-serialized.ensures.count c.serialize-2.ensures
     (omega (arith, left)))
-    (adds_put c.write-settled.new.acts c.write-2.new.acts c.write-settled.result c.write-2.result
+    (adds_put c.write-serialized.new.acts c.write-2.new.acts c.write-serialized.result c.write-2.result
     (Did (Put c.args.at (get_or c.args.bytes.now 0 0))) c.put-3.result c.write-2.ensures.acts c.write-2.ensures.count c.put-3.ensures
-    (omega (arith, left, c.write-settled.auto.acts, c.write-settled.ensures.count)))
+    (omega (arith, left, c.write-serialized.auto.acts, c.write-serialized.ensures.count)))

@@ -5,7 +5,7 @@ use Rattle.nc_text.specs.Marks.{IsClosed}
 use Rattle.nc_text.specs.Places.{limit_of}
 use Rattle.nc_text.specs.MarkedText.{MarkedText, IsText, with_span, KeepsMarks}
 use Rattle.nc_acts.specs.declared.acts.Act.TheVariants.{MarkSpan}
-use Rattle.nc_acts.specs.declared.acts.Entry.TheVariants.{Did, Settled}
+use Rattle.nc_acts.specs.declared.acts.Entry.TheVariants.{Did, Serialized}
 use Rattle.nc_acts.specs.Chunks.{IsClosedChunk, IsUnused, with_chunk}
 use Rattle.nc_region.specs.machinery.Between.{IsFinalBut}
 use Rattle.nc_acts.proofs.Offered.{logs_more}
@@ -41,26 +41,26 @@ almost g c =
 -- the bytes and marks before the bundle starts are put
 bytes_then : (g : Over) (c : After-mark_listed g) → (g.A.Acts.marked c.mark_listed.new.acts).bytes ≡ (g.A.Acts.marked c.put_where.new.self).bytes
 bytes_then g c =
-    ap (λ (m : MarkedText). m.bytes) c.mark_listed.ensures.marked ∙ ap (λ (m : MarkedText). m.bytes) c.settle.ensures.marked
+    ap (λ (m : MarkedText). m.bytes) c.mark_listed.ensures.marked ∙ ap (λ (m : MarkedText). m.bytes) c.serialize.ensures.marked
 
 marks_then : (g : Over) (c : After-mark_listed g) → (g.A.Acts.marked c.mark_listed.new.acts).marks
     ≡ with_span (g.A.Acts.marked c.args.acts.now).marks (c.args.base - 65536) c.args.vetted.now.marks
 marks_then g c =
     ap (λ (m : MarkedText). m.marks) c.mark_listed.ensures.marked
     ∙ ap (λ (marks : List Mark). with_span marks (c.args.base - 65536) c.args.vetted.now.marks)
-    (ap (λ (m : MarkedText). m.marks) c.settle.ensures.marked ∙ c.put_where.ensures.marks)
+    (ap (λ (m : MarkedText). m.marks) c.serialize.ensures.marked ∙ c.put_where.ensures.marks)
 
 pub mark_listed-requires-clause-as_long : goal.mark_listed-requires-clause-as_long
 mark_listed-requires-clause-as_long g c = grind (arith, common_steps)
 
 pub mark_listed-requires-clause-ready : goal.mark_listed-requires-clause-ready
-mark_listed-requires-clause-ready g c = rw (c.settle.ensures.made, c.put_where.ensures.made, ← c.requires.code) c.requires.can.ready
+mark_listed-requires-clause-ready g c = rw (c.serialize.ensures.made, c.put_where.ensures.made, ← c.requires.code) c.requires.can.ready
 
 pub mark_listed-requires-clause-keeps : goal.mark_listed-requires-clause-keeps
 mark_listed-requires-clause-keeps g c =
     let old = g.A.Acts.marked c.args.acts.now in
     let j = joins old c.args.base c.args.code.now c.args.vetted.now.marks c.requires.can.whole c.requires.can.chunk c.requires.can.unused in
-    rw c.settle.ensures.marked (subst (λ (marks : List Mark). KeepsMarks marks (with_span marks (c.args.base - 65536) c.args.vetted.now.marks))
+    rw c.serialize.ensures.marked (subst (λ (marks : List Mark). KeepsMarks marks (with_span marks (c.args.base - 65536) c.args.vetted.now.marks))
     (sym c.put_where.ensures.marks) (chunk_keeps old c.args.base c.args.code.now c.args.vetted.now.marks j))
 
 pub mark_listed-requires-clause-closed : goal.mark_listed-requires-clause-closed
@@ -68,7 +68,7 @@ mark_listed-requires-clause-closed g c =
     let old = g.A.Acts.marked c.args.acts.now in
     let now = g.A.Acts.marked c.put_where.new.self in
     let j = joins old c.args.base c.args.code.now c.args.vetted.now.marks c.requires.can.whole c.requires.can.chunk c.requires.can.unused in
-    rw c.settle.ensures.marked (subst (λ (marks : List Mark). IsClosed now.bytes (with_span marks (c.args.base - 65536) c.args.vetted.now.marks))
+    rw c.serialize.ensures.marked (subst (λ (marks : List Mark). IsClosed now.bytes (with_span marks (c.args.base - 65536) c.args.vetted.now.marks))
     (sym c.put_where.ensures.marks)
     (final_but_closed (with_span old.bytes (c.args.base - 65536) c.args.code.now) now.bytes
     (with_span old.marks (c.args.base - 65536) c.args.vetted.now.marks) c.args.base (c.args.base + length c.args.code.now) (omega arith)
@@ -79,7 +79,7 @@ put_where-requires-2-clause-inside g c = grind (arith, common_steps)
 
 pub put_where-requires-2-clause-ready : goal.put_where-requires-2-clause-ready
 put_where-requires-2-clause-ready g c =
-    rw (c.mark_listed.ensures.made, c.settle.ensures.made, c.put_where.ensures.made) c.requires.can.ready
+    rw (c.mark_listed.ensures.made, c.serialize.ensures.made, c.put_where.ensures.made) c.requires.can.ready
 
 pub put_where-requires-2-clause-closed : goal.put_where-requires-2-clause-closed
 put_where-requires-2-clause-closed g c = λ count now few puts.
@@ -114,7 +114,7 @@ returns-clause-put g c =
           (c.put_where-2.ensures.marks ∙ marks_then g here.After-mark_listed);
       whole = c.put_where-2.ensures.whole;
       log =
-          logs_more _ _ _ _ _ c.put_where.ensures.logged (logs_more _ _ _ (Settled ∷ []) _ c.settle.ensures.logged
+          logs_more _ _ _ _ _ c.put_where.ensures.logged (logs_more _ _ _ (Serialized ∷ []) _ c.serialize.ensures.logged
           (logs_more _ _ _ (Did (MarkSpan base (length code)) ∷ []) _ (rw (← c.requires.code) at c.mark_listed.ensures.logged)
           c.put_where-2.ensures.logged));
     }

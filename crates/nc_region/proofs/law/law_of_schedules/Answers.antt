@@ -21,8 +21,8 @@ returns-clause-bytes c = bytes_at
 pub returns-clause-as_it_stands : goal.returns-clause-as_it_stands
 returns-clause-as_it_stands c = λ w. as_it_stands w.marked.bytes w.earlier
 
-pub returns-clause-settled : goal.returns-clause-settled
-returns-clause-settled c = λ w view v. only_as_it_stands w.marked.bytes view v
+pub returns-clause-serialized : goal.returns-clause-serialized
+returns-clause-serialized c = λ w view v. only_as_it_stands w.marked.bytes view v
 
 pub returns-clause-lasts : goal.returns-clause-lasts
 returns-clause-lasts c = lasts

@@ -2,7 +2,7 @@ use Rattle.std.proofs.Common.{◌+◌, ◌-◌, [], ◌∷◌, length, set, arit
 use Rattle.std.proofs.lemmas.List.{length-set}
 use Rattle.nc_text.specs.MarkedText.{MarkedText}
 use Rattle.nc_acts.specs.declared.acts.Act.TheVariants.{Put}
-use Rattle.nc_acts.specs.declared.acts.Entry.TheVariants.{Did, Settled}
+use Rattle.nc_acts.specs.declared.acts.Entry.TheVariants.{Did, Serialized}
 use Rattle.nc_region.proofs.chunks.ReadyPlaces.{ready_place}
 use Rattle.nc_acts.proofs.Offered.{logs_more, logs_after}
 use Rattle.nc_region.proofs.patching.Replacing.{patching_closed, patch_started, patching_over, patch_final}
@@ -58,7 +58,7 @@ returns-clause-bytes g c =
 pub returns-clause-log : goal.returns-clause-log
 returns-clause-log g c =
     logs_more _ _ _ (Did (Put c.args.at 244) ∷ []) _ c.put.ensures.logged
-    (logs_after _ _ _ (Settled ∷ _) (Did (Put c.args.at c.args.first) ∷ []) c.put_rest.ensures.log c.put-2.ensures.logged)
+    (logs_after _ _ _ (Serialized ∷ _) (Did (Put c.args.at c.args.first) ∷ []) c.put_rest.ensures.log c.put-2.ensures.logged)
 
 pub put-requires-clause-inside : goal.put-requires-clause-inside
 put-requires-clause-inside g c =

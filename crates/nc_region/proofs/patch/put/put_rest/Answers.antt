@@ -3,14 +3,14 @@ use Rattle.std.proofs.lemmas.List.{take_all}
 use Rattle.nc_decode.specs.declared.instruction.Mark.{Mark}
 use Rattle.nc_text.specs.Marks.{IsClosed}
 use Rattle.nc_text.specs.Ready.{IsReady}
-use Rattle.nc_acts.specs.declared.acts.Entry.TheVariants.{Settled}
+use Rattle.nc_acts.specs.declared.acts.Entry.TheVariants.{Serialized}
 use Rattle.nc_acts.specs.Acts.{puts_where}
-use Rattle.nc_acts.specs.Log.{Logs, unsettled}
+use Rattle.nc_acts.specs.Log.{Logs, unserialized}
 use Rattle.nc_region.specs.Patch.{any_place}
 use Rattle.nc_acts.specs.Puts.{HasPut}
 use Rattle.nc_acts.proofs.Offered.{put_more}
 use Rattle.nc_region.proofs.chunks.ReadyPlaces.{ready_place}
-use Rattle.nc_acts.proofs.Offered.{log_put, ends_settled}
+use Rattle.nc_acts.proofs.Offered.{log_put, ends_serialized}
 use Rattle.nc_region.proofs.patching.Replacing.{patching_from_put}
 use Rattle.nc_region.proofs.patch.put.put_rest.Goals as goal
 
@@ -58,31 +58,31 @@ loop-i-preserved g c =
       whole = c.put.ensures.whole;
       made = c.put.ensures.made ∙ c.loop-i.invariant.made;
       keeper = c.put.ensures.keeper ∙ c.loop-i.invariant.keeper;
-      log = log_put (Settled ∷ []) any_place (at + 1) c.args.rest.now i _ _ _ (omega arith) refl c.loop-i.invariant.log c.put.ensures.logged;
+      log = log_put (Serialized ∷ []) any_place (at + 1) c.args.rest.now i _ _ _ (omega arith) refl c.loop-i.invariant.log c.put.ensures.logged;
     }
 
--- names no step behind the loop, so that a settling left out there leaves the goal open
+-- names no step behind the loop, so that a serialization left out there leaves the goal open
 pub returns-clause-log : goal.returns-clause-log
 returns-clause-log g c =
     let log : Logs (g.A.Acts.logged c.args.acts.now) (g.A.Acts.logged c.loop-i.acts)
-    (Settled ∷ unsettled (puts_where any_place (c.args.at + 1) c.args.rest.now)) =
+    (Serialized ∷ unserialized (puts_where any_place (c.args.at + 1) c.args.rest.now)) =
     subst (λ (z : List ℕ). Logs (g.A.Acts.logged c.args.acts.now) (g.A.Acts.logged c.loop-i.acts)
-    (Settled ∷ unsettled (puts_where any_place (c.args.at + 1) z))) (take_all c.loop-i.i c.args.rest.now (omega arith))
+    (Serialized ∷ unserialized (puts_where any_place (c.args.at + 1) z))) (take_all c.loop-i.i c.args.rest.now (omega arith))
     c.loop-i.invariant.log in
-    search (ends_settled (g.A.Acts.logged c.args.acts.now) (g.A.Acts.logged c.loop-i.acts)
-    (Settled ∷ unsettled (puts_where any_place (c.args.at + 1) c.args.rest.now)) log)
+    search (ends_serialized (g.A.Acts.logged c.args.acts.now) (g.A.Acts.logged c.loop-i.acts)
+    (Serialized ∷ unserialized (puts_where any_place (c.args.at + 1) c.args.rest.now)) log)
 
 pub returns-clause-bytes : goal.returns-clause-bytes
 returns-clause-bytes g c =
     let end : c.loop-i.i ≡ length c.args.rest.now = omega arith in
-    rw c.settle-2.ensures.marked (subst (λ (n : ℕ). HasPut any_place (c.args.at + 1) c.args.rest.now n
+    rw c.serialize-2.ensures.marked (subst (λ (n : ℕ). HasPut any_place (c.args.at + 1) c.args.rest.now n
     (g.A.Acts.marked c.args.acts.now).bytes (g.A.Acts.marked c.loop-i.acts).bytes) end c.loop-i.invariant.bytes)
 
 pub returns-clause-marks : goal.returns-clause-marks
-returns-clause-marks g c = rw c.settle-2.ensures.marked c.loop-i.invariant.marks
+returns-clause-marks g c = rw c.serialize-2.ensures.marked c.loop-i.invariant.marks
 
 pub returns-clause-made : goal.returns-clause-made
-returns-clause-made g c = c.settle-2.ensures.made ∙ c.loop-i.invariant.made
+returns-clause-made g c = c.serialize-2.ensures.made ∙ c.loop-i.invariant.made
 
 pub returns-clause-keeper : goal.returns-clause-keeper
-returns-clause-keeper g c = c.settle-2.ensures.keeper ∙ c.loop-i.invariant.keeper
+returns-clause-keeper g c = c.serialize-2.ensures.keeper ∙ c.loop-i.invariant.keeper
