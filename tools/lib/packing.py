@@ -29,7 +29,7 @@ PAGES_AND_EXAMPLES = [
     "README.md", "SECURITY.md", "CHANGELOG.md", "CONTRIBUTING.md", "VERSION", "docs", "docs/charts",
     "examples/check", "examples/host", "examples/sandbox", "examples/jit", "examples/run", "examples/boxes", "examples/boxes/calculator",
     "examples/boxes/costs", "examples/boxes/document", "examples/boxes/picture", "examples/boxes/plugins", "examples/compile/sample.c",
-    "examples/first.script", "examples/vet.lines",
+    "examples/first.script", "examples/first.replies", "examples/vet.lines", "examples/vet.replies",
 ]
 
 # Files of the repository, and where they go. A folder's files go below the second path. Of two files for one place the later one goes there.
