@@ -110,7 +110,7 @@ def act(picture, x, entry):
         bottom = LANES["any"][0] + LANES["any"][1]
         picture.rect(x + 1, y, WIDE - 2, bottom - y + 4, FILLS[ORANGE], ORANGE, dashed=True, round_=4)
         picture.text(x + WIDE / 2, y + 25, "serialize", "middle", 15, ORANGE, bold=True)
-        picture.text(x + WIDE / 2, y + 47, "all serialize", "middle", 13, ORANGE)
+        picture.text(x + WIDE / 2, y + 47, "all processors", "middle", 13, ORANGE)
     elif entry:
         picture.rect(x + 4, y, WIDE - 8, high - 14, "#fff", INK, round_=4)
         picture.text(x + WIDE / 2, y + 25, f"put {entry[1]:02X}", "middle", 15, bold=True)
