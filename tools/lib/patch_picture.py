@@ -24,7 +24,7 @@ def log_of_instruction(at, code):
     if len(code) == 1:
         return [(at, code[0])]
     words = found(r"^log_of_instruction at \(byte ∷ next ∷ rest\) =\n(.*?)\n\n", DEFINITION)
-    token = re.compile(r"Did \(Put at (0x\w+|byte)\)|(Serialized)|unserialized \((puts_where any_place \(at \+ 1\) \(next ∷ rest\))\)")
+    token = re.compile(r"Did \(Put at (0x\w+|byte)\)|(Serialized)|only_acts \((puts_where any_place \(at \+ 1\) \(next ∷ rest\))\)")
     if re.sub(r"[\s()\[\]∷+]", "", token.sub("", words)):
         raise Unread(f"{DEFINITION}: log_of_instruction has other words than the drawing knows")
     log = []

@@ -11,7 +11,7 @@ use Rattle.nc_acts.specs.declared.acts.Act.TheVariants.{Put}
 use Rattle.nc_acts.specs.declared.acts.Entry.{Entry}
 use Rattle.nc_acts.specs.declared.acts.Entry.TheVariants.{Did}
 use Rattle.nc_acts.specs.Acts.{puts_where, starts_if, marked_if, is_mark, is_marked_at, is_start}
-use Rattle.nc_acts.specs.Log.{Logs, unserialized}
+use Rattle.nc_acts.specs.Log.{Logs, only_acts}
 use Rattle.nc_acts.specs.Puts.{HasPut}
 use Rattle.nc_acts.proofs.OneMoreByte.{put_none, put_more, put_passed}
 use Rattle.nc_acts.proofs.Logged.{logs_none, log_put, log_passed}
@@ -19,7 +19,7 @@ use Rattle.nc_acts.proofs.Logged.{logs_none, log_put, log_passed}
 -- the first bytes have been put at the chosen places, and logged
 pub record SoFar (chosen : ℕ → Bool) (base : ℕ) (bytes : List ℕ) (count : ℕ) (old now : List ℕ) (begun ended : List Entry) : Type 0 where
   pub put : HasPut chosen base bytes count old now
-  pub log : Logs begun ended (unserialized (puts_where chosen base (take count bytes)))
+  pub log : Logs begun ended (only_acts (puts_where chosen base (take count bytes)))
 
 -- at the beginning no byte has been put and logged
 pub none_yet : (chosen : ℕ → Bool) (base : ℕ) (bytes old : List ℕ) (logged : List Entry) → SoFar chosen base bytes 0 old old logged logged
@@ -49,9 +49,9 @@ one_passed chosen base bytes i old now a b so lt not = record {
 
 -- once all bytes are passed, the puts at the chosen places are logged
 pub all_logged : (chosen : ℕ → Bool) (base : ℕ) (bytes : List ℕ) (count : ℕ) (old now : List ℕ) (a b : List Entry)
-    → SoFar chosen base bytes count old now a b → length bytes ≤ count → Logs a b (unserialized (puts_where chosen base bytes))
+    → SoFar chosen base bytes count old now a b → length bytes ≤ count → Logs a b (only_acts (puts_where chosen base bytes))
 all_logged chosen base bytes count old now a b so all =
-    subst (λ (xs : List ℕ). Logs a b (unserialized (puts_where chosen base xs))) (take_all count bytes all) so.log
+    subst (λ (xs : List ℕ). Logs a b (only_acts (puts_where chosen base xs))) (take_all count bytes all) so.log
 
 -- ---- which places are chosen
 

@@ -12,28 +12,28 @@ abbrev pub Logs : List Entry → List Entry → List Entry → Type 0
 Logs before after entries = after ≡ before ++ entries
 
 -- the log entries of these acts, with no serialization among them
-abbrev pub unserialized : List Act → List Entry
-unserialized acts = map Did acts
+abbrev pub only_acts : List Act → List Entry
+only_acts acts = map Did acts
 
 -- the log of a creation: its acts, with one serialization after the bytes that aren't at bundle starts are put and before the
 -- chunk is marked
 abbrev pub log_of_create : ℕ → List ℕ → List Entry
 log_of_create base code =
-    unserialized (puts_where is_inside base code)
-    ++ (Serialized ∷ Did (MarkSpan base (length code)) ∷ unserialized (puts_where is_start base code))
+    only_acts (puts_where is_inside base code)
+    ++ (Serialized ∷ Did (MarkSpan base (length code)) ∷ only_acts (puts_where is_start base code))
 
 -- the log of the stops over a span: F4 is put at the marked places, then the region serializes, then F4 is put at the others
 abbrev pub log_of_stops : List Mark → ℕ → ℕ → List Entry
 log_of_stops marks base len =
-    unserialized (puts_where (is_marked_at marks) base (replicate len 0xF4))
-    ++ (Serialized ∷ unserialized (puts_where (is_unmarked_at marks) base (replicate len 0xF4)))
+    only_acts (puts_where (is_marked_at marks) base (replicate len 0xF4))
+    ++ (Serialized ∷ only_acts (puts_where (is_unmarked_at marks) base (replicate len 0xF4)))
 
 -- the log of a deletion: its acts, with one serialization after F4 is put at the marked places and before it is put at the
 -- others
 abbrev pub log_of_delete : List Mark → ℕ → ℕ → List Entry
 log_of_delete marks base len =
-    unserialized (puts_where (is_marked_at marks) base (replicate len 0xF4))
-    ++ (Serialized ∷ (unserialized (puts_where (is_unmarked_at marks) base (replicate len 0xF4)) ++ Did Bump ∷ []))
+    only_acts (puts_where (is_marked_at marks) base (replicate len 0xF4))
+    ++ (Serialized ∷ (only_acts (puts_where (is_unmarked_at marks) base (replicate len 0xF4)) ++ Did Bump ∷ []))
 
 -- the acts of a log, without its serializations
 abbrev pub acts_in : List Entry → List Act

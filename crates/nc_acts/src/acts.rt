@@ -18,7 +18,7 @@ ghost use Rattle.nc_acts.specs.declared.acts.Act.{Act};
 ghost use Rattle.nc_acts.specs.declared.acts.Entry.{Entry};
 ghost use Rattle.nc_acts.specs.Acts.{puts_where, starts_if, marked_if, is_marked_at};
 ghost use Rattle.nc_acts.specs.Chunks.{HasGoodSpan, IsClosedChunk, IsUnused};
-ghost use Rattle.nc_acts.specs.Log.{Logs, unserialized, log_of_create, log_of_stops};
+ghost use Rattle.nc_acts.specs.Log.{Logs, only_acts, log_of_create, log_of_stops};
 
 use nc_decode::{Bundle, Mark, STOP, mark_bit};
 use nc_gens::{GensFull, Pass};
@@ -114,7 +114,7 @@ pub trait Acts {
         ensures made { made self.new ≡ made self.old }
         ensures whole { IsText (marked self.new) }
         ensures keeper { keeper self.new ≡ keeper self.old }
-        ensures logged { Logs (logged self.old) (logged self.new) (unserialized (puts_where (starts_if at_starts) at code.now)) }
+        ensures logged { Logs (logged self.old) (logged self.new) (only_acts (puts_where (starts_if at_starts) at code.now)) }
     {
         // Called for its postconditions.
         let _facts = self.limit();
@@ -145,7 +145,7 @@ pub trait Acts {
         ensures whole { IsText (marked self.new) }
         ensures keeper { keeper self.new ≡ keeper self.old }
         ensures logged { Logs (logged self.old) (logged self.new)
-            (unserialized (puts_where (marked_if at_marked (marked self.old).marks) at (replicate len 0xF4))) }
+            (only_acts (puts_where (marked_if at_marked (marked self.old).marks) at (replicate len 0xF4))) }
     {
         // Called for its postconditions.
         let _facts = self.limit();

@@ -24,6 +24,7 @@ use Rattle.nc_acts.specs.declared.acts.Act.TheVariants.{MarkSpan}
 use Rattle.nc_acts.specs.Acts.{is_inside, is_start, puts_where}
 use Rattle.nc_acts.specs.Chunks.{HasGoodSpan, IsClosedChunk, IsUnused, with_chunk}
 use Rattle.nc_acts.specs.Puts.{HasPut}
+use Rattle.nc_acts.proofs.Offered.{byte_at_other}
 use Rattle.nc_region.specs.machinery.Between.{IsFinalBut}
 use Rattle.nc_region.specs.Region.{IsRegion, FitsAt, live_chunk}
 use Rattle.nc_region.proofs.Offered.{final_all, final_but_starts, each_map, each_append, unused_if_apart, region_with_chunk, some_same}
@@ -33,7 +34,7 @@ use Rattle.nc_calls.specs.Calls.{no_details, create_events}
 use Rattle.nc_calls.specs.Views.{ViewsKeep, IsFree}
 use Rattle.nc_calls.proofs.Entries.{events_of, create_is}
 use Rattle.nc_calls.proofs.Good.{text_of, Good, KeepsInstruction, good_by_places, stop_ends}
-use Rattle.nc_calls.proofs.OnePut.{good_put_unread, byte_beside, byte_there}
+use Rattle.nc_calls.proofs.OnePut.{good_put_unread, byte_there}
 use Rattle.nc_calls.proofs.PutsWhole.{put_in_both, whole_put_unread, whole_put_marked}
 use Rattle.nc_calls.proofs.StaysWhole.{PutsWhole, whole_serialized}
 use Rattle.nc_calls.proofs.Parting.{Kept, region_good, region_stopped}
@@ -97,7 +98,7 @@ may_lay_inside w base code placed unused =
             good = good_put_unread view w.marked.marks w.retired (base + count) (get_or code count 0) f.good inside.0
                 (filling_clear w base (length code) view (base + count) placed unused f (omega arith) (omega (arith, lt)) not);
             stops = λ at low high start.
-                byte_beside view (base + count) at (get_or code count 0) inside.0 (omega (arith, low, placed.low))
+                byte_at_other view (base + count) at (get_or code count 0) inside.0 (omega (arith, low, placed.low))
                 (λ same. not (ap (λ (n : ℕ). n % 32) (sym same) ∙ start))
                 ∙ f.stops at low high start;
           };
@@ -185,7 +186,7 @@ nearly_put final view at byte inside is n =
                 (subst (λ (p : ℕ). byte_at (set view (at - 65536) byte) p ≡ byte_at final p) (sym same.1)
                 (byte_there view at byte inside ∙ is))
             | inr other ↦
-                let beside = byte_beside view at place byte inside.0 low other.1 in
+                let beside = byte_at_other view at place byte inside.0 low other.1 in
                 elim (n.each place low) [
                   | inl there ↦ inl (beside ∙ there)
                   | inr stop ↦ inr (beside ∙ stop.0, stop.1)

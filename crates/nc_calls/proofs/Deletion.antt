@@ -23,6 +23,7 @@ use Rattle.nc_region.proofs.Offered.{Keeps, admits_is_mark, shut_if_quiet, as_it
 use Rattle.nc_acts.specs.Acts.{is_mark, is_marked_at, is_unmarked_at, puts_where}
 use Rattle.nc_acts.specs.Chunks.{HasGoodSpan}
 use Rattle.nc_acts.specs.Puts.{HasPut}
+use Rattle.nc_acts.proofs.Offered.{byte_at_other}
 use Rattle.nc_region.specs.Each.{Each}
 use Rattle.nc_region.specs.Region.{IsLive, IsAscending, IsRegion}
 use Rattle.nc_region.proofs.Offered.{region_deleted, all_stops, each_get, each_from, each_at_set, quiet_chunks, rises_get}
@@ -32,7 +33,7 @@ use Rattle.nc_calls.specs.Views.{ViewsKeep}
 use Rattle.nc_calls.proofs.Creation.{in_one_bundle}
 use Rattle.nc_calls.proofs.Entries.{events_of}
 use Rattle.nc_calls.proofs.Good.{text_of, Good, KeepsInstruction, step_back, stop_ends}
-use Rattle.nc_calls.proofs.OnePut.{good_put_marked, good_put_unread, byte_beside, byte_there}
+use Rattle.nc_calls.proofs.OnePut.{good_put_marked, good_put_unread, byte_there}
 use Rattle.nc_calls.proofs.Parting.{Kept, region_stopped}
 use Rattle.nc_calls.proofs.PutsWhole.{whole_put_unread, whole_put_stop}
 use Rattle.nc_calls.proofs.Putting.{with_text, serialized, Views, Leads, Reaches, leads_one, leads_more, serialization_leads, serialized_views, MayLay, lay_all}
@@ -170,11 +171,11 @@ may_lay_others w base len mid placed =
                       ap (λ (p : ℕ). byte_at (set view (base + count - 65536) (get_or (replicate len 244) count 0)) p) same.1
                       ∙ (byte_there view (base + count) (get_or (replicate len 244) count 0) inside ∙ stop)
                   | inr other ↦
-                      byte_beside view (base + count) now.place (get_or (replicate len 244) count 0) inside.0 m.0 other.1
+                      byte_at_other view (base + count) now.place (get_or (replicate len 244) count 0) inside.0 m.0 other.1
                       ∙ f.stops now m low high
                 ];
             outside = λ at low out.
-                byte_beside view (base + count) at (get_or (replicate len 244) count 0) inside.0 low
+                byte_at_other view (base + count) at (get_or (replicate len 244) count 0) inside.0 low
                 (λ same. elim out [ inl l ↦ omega (arith, l, same) | inr b ↦ omega (arith, b, same, lt, n) ])
                 ∙ f.outside at low out;
           };
@@ -324,7 +325,7 @@ same_stopped base len old now low fits a =
     get_or-with_span_above now (base - 65536) (replicate len 244) k 0 there past
     ∙ agrees_at base len old now k a (inr (omega (arith, past, n))))
 
--- the text once stops are at all marked places, and nothing else is to be serialized
+-- the text once stops are at all marked places, and nothing else was put since the last serialization
 pub record HasStopped (w : World) (c : Chunk) (now : List ℕ) (before : List (List ℕ)) : Type 0 where
   pub mid : List ℕ
   pub earlier : List (List ℕ)

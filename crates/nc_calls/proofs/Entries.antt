@@ -9,7 +9,7 @@ use Rattle.nc_acts.specs.declared.acts.Act.TheVariants.{MarkSpan, Bump}
 use Rattle.nc_acts.specs.declared.acts.Entry.{Entry}
 use Rattle.nc_acts.specs.declared.acts.Entry.TheVariants.{Did, Serialized}
 use Rattle.nc_acts.specs.Acts.{puts_where, is_inside, is_start, is_marked_at, is_unmarked_at}
-use Rattle.nc_acts.specs.Log.{unserialized}
+use Rattle.nc_acts.specs.Log.{only_acts}
 use Rattle.nc_region.specs.Patch.{any_place, stands_there, log_of_instruction, log_of_modify}
 use Rattle.nc_calls.specs.Calls.{Details, no_details, events_of_act, events_of_log, create_events, modify_events, delete_events}
 
@@ -18,9 +18,9 @@ abbrev pub events_of : Details → List Act → List Event
 events_of d acts = flat_map (events_of_act d) acts
 
 -- the events of a log with no serialization are those of its acts
-pub unserialized_events : (d : Details) (acts : List Act) → events_of_log d (unserialized acts) ≡ events_of d acts
-unserialized_events d [] = refl
-unserialized_events d (act ∷ acts) = ap (λ (z : List Event). events_of_act d act ++ z) (unserialized_events d acts)
+pub events_of_only_acts : (d : Details) (acts : List Act) → events_of_log d (only_acts acts) ≡ events_of d acts
+events_of_only_acts d [] = refl
+events_of_only_acts d (act ∷ acts) = ap (λ (z : List Event). events_of_act d act ++ z) (events_of_only_acts d acts)
 
 -- the events of two logs are those of the one and then those of the other
 pub log_append : (d : Details) (xs ys : List Entry) → events_of_log d (xs ++ ys) ≡ events_of_log d xs ++ events_of_log d ys
@@ -32,9 +32,9 @@ log_append d (Serialized ∷ xs) ys = ap (λ (z : List Event). Serializes ∷ z)
 
 -- the events of acts and then a log are those of the acts and then those of the log
 acts_then : (d : Details) (acts : List Act) (rest : List Entry)
-    → events_of_log d (unserialized acts ++ rest) ≡ events_of d acts ++ events_of_log d rest
+    → events_of_log d (only_acts acts ++ rest) ≡ events_of d acts ++ events_of_log d rest
 acts_then d acts rest =
-    log_append d (unserialized acts) rest ∙ ap (λ (z : List Event). z ++ events_of_log d rest) (unserialized_events d acts)
+    log_append d (only_acts acts) rest ∙ ap (λ (z : List Event). z ++ events_of_log d rest) (events_of_only_acts d acts)
 
 -- the events of a creation, part by part
 pub create_is : (v : MarkedChunk) → create_events v ≡ events_of (record no_details { marks = v.marks }) (puts_where is_inside v.base v.code)
@@ -43,10 +43,10 @@ create_is v =
     let d : Details = record no_details { marks = v.marks } in
     let first = events_of (record no_details { marks = v.marks }) (puts_where is_inside v.base v.code) in
     acts_then (record no_details { marks = v.marks }) (puts_where is_inside v.base v.code)
-    (Serialized ∷ Did (MarkSpan v.base (length v.code)) ∷ unserialized (puts_where is_start v.base v.code))
+    (Serialized ∷ Did (MarkSpan v.base (length v.code)) ∷ only_acts (puts_where is_start v.base v.code))
     ∙ ap (λ (z : List Event). events_of (record no_details { marks = v.marks }) (puts_where is_inside v.base v.code)
     ++ (Serializes ∷ (events_of_act (record no_details { marks = v.marks }) (MarkSpan v.base (length v.code)) ++ z)))
-    (unserialized_events (record no_details { marks = v.marks }) (puts_where is_start v.base v.code))
+    (events_of_only_acts (record no_details { marks = v.marks }) (puts_where is_start v.base v.code))
 
 -- the events of a deletion, part by part
 pub delete_is : (marks : List Mark) (base len : ℕ) → delete_events marks base len
@@ -55,7 +55,7 @@ pub delete_is : (marks : List Mark) (base len : ℕ) → delete_events marks bas
     ++ Retires base len ∷ []))
 delete_is marks base len =
     acts_then (record no_details { base = base; len = len }) (puts_where (is_marked_at marks) base (replicate len 244))
-    (Serialized ∷ (unserialized (puts_where (is_unmarked_at marks) base (replicate len 244)) ++ Did Bump ∷ []))
+    (Serialized ∷ (only_acts (puts_where (is_unmarked_at marks) base (replicate len 244)) ++ Did Bump ∷ []))
     ∙ ap (λ (z : List Event). events_of (record no_details { base = base; len = len })
     (puts_where (is_marked_at marks) base (replicate len 244)) ++ (Serializes ∷ z))
     (acts_then (record no_details { base = base; len = len }) (puts_where (is_unmarked_at marks) base (replicate len 244)) (Did Bump ∷ []))

@@ -1,7 +1,6 @@
 -- What a call of a region logs is a call of a history.
 use Rattle.std.proofs.Common.{◌≡◌, ℕ, List, [], ◌∷◌, refl, sym, ap, subst}
 use Rattle.std.specs.Prelude.{Result, Ok, Err, OnOk, OnErr, IfOk, IfErr, Contains, length}
-use Rattle.std.proofs.lemmas.List.{append-nil}
 use Rattle.std.proofs.lemmas.List.Elements.{All-nil, All-cons}
 use Rattle.nc_text.specs.Places.{limit_of}
 use Rattle.nc_gens.specs.Seen.{PassState, HasMet}
@@ -14,6 +13,7 @@ use Rattle.nc_region.specs.declared.fault.ModifyFault.{ModifyFault}
 use Rattle.nc_region.specs.declared.fault.DeleteFault.{DeleteFault}
 use Rattle.nc_region.specs.Region.{Region, IsCreated, IsRefused, MayRefuse, Meets}
 use Rattle.nc_acts.specs.Log.{Logs, log_of_create, log_of_delete}
+use Rattle.nc_acts.proofs.Offered.{logs_none}
 use Rattle.nc_region.specs.Deletion.{IsDeleted, MayRefuseDelete, IsReclaimed}
 use Rattle.nc_region.specs.Patch.{IsPatch, IsModified, MayRefusePatch, AreBytesOf, log_of_modify}
 use Rattle.nc_region.specs.Quiet.{retired_spans}
@@ -29,13 +29,9 @@ logs_call : (seats : ℕ) (details : Details) (old new : Region) (own : List Ent
     → IsCall seats old new (events_of_log details own) → LogsCall seats details old new
 logs_call seats details old new own logs call = (own, logs, call)
 
--- nothing came to a log that is as before
-nothing_logged : (log : List Entry) → Logs log log []
-nothing_logged log = sym (append-nil log)
-
 -- a region with the same log has logged nothing
 logs_nothing : (old new : Region) → new.logged ≡ old.logged → Logs old.logged new.logged []
-logs_nothing old new same = subst (λ (log : List Entry). Logs old.logged log []) (sym same) (nothing_logged old.logged)
+logs_nothing old new same = subst (λ (log : List Entry). Logs old.logged log []) (sym same) (logs_none old.logged)
 
 -- an equal region is left by a call that does nothing
 keeps_logged : (seats : ℕ) (old new : Region) → new ≡ old → LogsCall seats no_details old new

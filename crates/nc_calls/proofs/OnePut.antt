@@ -3,20 +3,15 @@ use Rattle.std.proofs.Common.{◌≡◌, ◌≢◌, ℕ, ◌+◌, ◌-◌, ◌<�
 use Rattle.std.proofs.Common.{⊎_elim}
 use Rattle.std.proofs.lemmas.Bool.{cases_lt}
 use Rattle.std.proofs.lemmas.Bool.Decides.{eqb_tells}
-use Rattle.std.proofs.lemmas.List.{length-set, get_or-set_same, get_or-set_other}
+use Rattle.std.proofs.lemmas.List.{length-set, get_or-set_same}
 use Rattle.nc_decode.specs.declared.instruction.Instr.{Instr}
 use Rattle.nc_decode.specs.declared.instruction.Mark.{Mark}
 use Rattle.nc_text.specs.Places.{InRegion, byte_at, instruction_at}
 use Rattle.nc_text.specs.Machine.{State}
 use Rattle.nc_text.specs.Marks.{IsMarked, Admits, mark_at}
+use Rattle.nc_acts.proofs.Offered.{byte_at_other}
 use Rattle.nc_region.specs.schedules.Spans.{RetiredSpan}
 use Rattle.nc_calls.proofs.Good.{Good, KeepsInstruction, Borrowed, good_by_places}
-
--- a byte stays where one is put elsewhere
-pub byte_beside : (text : List ℕ) (at place byte : ℕ) → 65536 ≤ at → 65536 ≤ place → place ≢ at
-    → byte_at (set text (at - 65536) byte) place ≡ byte_at text place
-byte_beside text at place byte low from other =
-    get_or-set_other text (at - 65536) (place - 65536) byte 0 (λ e. other (omega (arith, e, low, from)))
 
 -- a byte that is put stands at its place
 pub byte_there : (text : List ℕ) (at byte : ℕ) → InRegion text at → byte_at (set text (at - 65536) byte) at ≡ byte
@@ -27,7 +22,7 @@ keeps_beside : (text : List ℕ) (at byte : ℕ) (now : State) → 65536 ≤ at 
     → ((i : Instr) (k : ℕ) → instruction_at text now.place ≡ Some i → k < i.len → now.place + k ≢ at)
     → KeepsInstruction text (set text (at - 65536) byte) now.place
 keeps_beside text at byte now low from clear = λ i is fits k lt.
-    byte_beside text at (now.place + k) byte low (omega (arith, from)) (clear i k is lt)
+    byte_at_other text at (now.place + k) byte low (omega (arith, from)) (clear i k is lt)
 
 -- a marked place isn't unmarked
 pub not_unmarked : (marks : List Mark) (now : State) → IsMarked marks now → mark_at marks now.place ≢ Mark.Unmarked

@@ -22,6 +22,7 @@ use Rattle.nc_region.specs.schedules.World.{World}
 use Rattle.nc_region.specs.schedules.Events.{Event, Puts, Serializes}
 use Rattle.nc_region.proofs.Offered.{as_it_stands, only_as_it_stands}
 use Rattle.nc_acts.specs.Acts.{is_mark, puts_where}
+use Rattle.nc_acts.proofs.Offered.{byte_at_other}
 use Rattle.nc_region.specs.Patch.{AreBytesOf, IsHeldBy, IsPatch, any_place, stands_there}
 use Rattle.nc_region.specs.machinery.PatchSteps.{Begins, IsReplacing, CanPatch}
 use Rattle.nc_region.specs.Region.{Region, IsLive, IsInChunk, IsRegion}
@@ -33,7 +34,7 @@ use Rattle.nc_calls.specs.Views.{IsFree, AreStopped}
 use Rattle.nc_calls.proofs.Deletion.{marked_state}
 use Rattle.nc_calls.proofs.Entries.{events_of, instruction_events, patch_events}
 use Rattle.nc_calls.proofs.Good.{text_of, Good, marked_inside, stop_ends}
-use Rattle.nc_calls.proofs.OnePut.{good_put_marked, good_put_unread, byte_beside, byte_there, not_unmarked}
+use Rattle.nc_calls.proofs.OnePut.{good_put_marked, good_put_unread, byte_there, not_unmarked}
 use Rattle.nc_calls.proofs.Parting.{region_good, region_stopped}
 use Rattle.nc_calls.proofs.PutsWhole.{whole_put_unread, whole_put_marked, whole_put_single, whole_put_stop}
 use Rattle.nc_calls.proofs.StaysWhole.{PutsWhole}
@@ -80,7 +81,7 @@ still_stopped : (w : World) (chunks : List Chunk) (at : ℕ) (new view : List �
     → at ≤ here → here < at + length new → AreStopped view w.marked.marks chunks
     → AreStopped (set view (here - 65536) byte) w.marked.marks chunks
 still_stopped w chunks at new view here byte r low high stopped = λ now m free.
-    byte_beside view here now.place byte (omega (arith, low, r.replacing.low)) m.0
+    byte_at_other view here now.place byte (omega (arith, low, r.replacing.low)) m.0
     (λ same. r.held now.place free (omega (arith, same, low)) (omega (arith, same, high)))
     ∙ stopped now m free
 
@@ -206,7 +207,7 @@ may_lay_rest w chunks at first rest r =
           stopped = still_stopped w chunks at (first ∷ rest) view (at + 1 + count) (get_or rest count 0) r (omega arith)
               (omega (arith, lt)) o.sound.stopped;
         };
-        stop = byte_beside view (at + 1 + count) at (get_or rest count 0) inside.0 r.replacing.low (λ same. omega (arith, same)) ∙ o.stop;
+        stop = byte_at_other view (at + 1 + count) at (get_or rest count 0) inside.0 r.replacing.low (λ same. omega (arith, same)) ∙ o.stop;
       };
       whole = λ view text count lt chosen inside within o t.
           whole_put_unread w.marked.marks w.retired view text (at + 1 + count) (get_or rest count 0) o.sound.good inside.0

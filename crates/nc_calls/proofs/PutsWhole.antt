@@ -9,10 +9,11 @@ use Rattle.nc_text.specs.Places.{InRegion, byte_at, instruction_at}
 use Rattle.nc_text.specs.Machine.{State}
 use Rattle.nc_text.specs.Marks.{IsMarked}
 use Rattle.nc_text.proofs.Offered.{executes, KeepsBytes, same_instruction}
+use Rattle.nc_acts.proofs.Offered.{byte_at_other}
 use Rattle.nc_region.specs.schedules.Spans.{RetiredSpan}
 use Rattle.nc_region.proofs.Offered.{some_same}
 use Rattle.nc_calls.proofs.Good.{Good, stop_ends}
-use Rattle.nc_calls.proofs.OnePut.{byte_beside, byte_there, other_clear}
+use Rattle.nc_calls.proofs.OnePut.{byte_there, other_clear}
 use Rattle.nc_calls.proofs.StaysWhole.{PutsWhole}
 
 -- an instruction of a good text that doesn't have the place was there before the put
@@ -24,7 +25,7 @@ was_there : (marks : List Mark) (spans : List RetiredSpan) (view : List ℕ) (at
 was_there marks spans view at byte now i good low m clear is =
     let e = executes view now m.0 (good.closed.safe now m) in
     let kept : KeepsBytes view (set view (at - 65536) byte) now.place e.i.len =
-    λ k lt. byte_beside view at (now.place + k) byte low (omega (arith, m.0)) (clear e.i k e.is lt) in
+    λ k lt. byte_at_other view at (now.place + k) byte low (omega (arith, m.0)) (clear e.i k e.is lt) in
     let same : e.i ≡ i = some_same (instruction_at (set view (at - 65536) byte) now.place) e.i i
     (same_instruction view (set view (at - 65536) byte) now.place e.i (length-set view (at - 65536) byte) e.inside e.is kept) is in
     subst (λ (j : Instr). (instruction_at view now.place ≡ Some j) × KeepsBytes view (set view (at - 65536) byte) now.place j.len) same

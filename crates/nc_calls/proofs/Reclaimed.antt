@@ -17,7 +17,7 @@ use Rattle.nc_region.specs.Region.{Region, IsRegion}
 use Rattle.nc_calls.specs.Interleaving.{writers, IsKeepers, ThreadsMay}
 use Rattle.nc_calls.specs.Calls.{KnowsNoMore, HasLedTo, no_details, reclaim_events}
 use Rattle.nc_calls.specs.Views.{ViewsKeep}
-use Rattle.nc_calls.proofs.Entries.{unserialized_events}
+use Rattle.nc_calls.proofs.Entries.{events_of_only_acts}
 use Rattle.nc_calls.proofs.Freeing.{thins, views_thinned}
 use Rattle.nc_calls.proofs.OneMoreCall.{Grows, grown}
 use Rattle.nc_calls.proofs.Looking.{KeeperOnly, looks_are, keeper_interleaved, placed, part, threads_parted}
@@ -41,7 +41,7 @@ reclaimed limit seats before events old new count h region is own threads found 
     let p = part events (map Looks (range_with_len 0 seats))
     (frees (retired_spans old.chunks) (freed (least_number new.keeper.numbers) old.chunks))
     (own
-    ∙ (unserialized_events (record no_details { seats = seats; spans = retired_spans old.chunks })
+    ∙ (events_of_only_acts (record no_details { seats = seats; spans = retired_spans old.chunks })
     (Look ∷ unmarkings (freed (least_number new.keeper.numbers) old.chunks))
     ∙ ap (λ (z : List Event). map Looks (range_with_len 0 seats) ++ z)
     (frees_same seats (retired_spans old.chunks) (freed (least_number new.keeper.numbers) old.chunks)))) in

@@ -146,7 +146,7 @@ same_itself a =
 abbrev IsClear : ℕ → RetiredSpan → Type 0
 IsClear base span = base ≢ span.base
 
--- in a ascending list each retired chunk but a given one has another base
+-- in an ascending list each retired chunk but a given one has another base
 others_clear : (from : ℕ) (before after : List Chunk) (c : Chunk) (limit : ℕ) → IsAscending from (before ++ c ∷ after)
     → Each (λ (d : Chunk). HasGoodSpan d.base limit d.length) (before ++ c ∷ after)
     → Each (λ (d : Chunk). (stamp : ℕ) → d.state ≡ Retired stamp → IsClear c.base
@@ -225,7 +225,7 @@ found_first c s spans stamp is =
     ∙ ap (λ (b : Bool). cond b (record { base = c.base; length = c.length; stamp = stamp }) (span_from spans c.base))
     (eq-eqb c.base c.base refl)
 
--- each chunk of a ascending list finds its span
+-- each chunk of an ascending list finds its span
 pub finds_all : (from limit : ℕ) (chunks : List Chunk) → IsAscending from chunks
     → Each (λ (d : Chunk). HasGoodSpan d.base limit d.length) chunks
     → Each (Finds (retired_spans chunks)) chunks

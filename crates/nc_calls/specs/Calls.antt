@@ -14,7 +14,7 @@ use Rattle.nc_acts.specs.declared.acts.Act.{Act}
 use Rattle.nc_acts.specs.declared.acts.Act.TheVariants.{Put, MarkSpan, UnmarkSpan, Bump, Look}
 use Rattle.nc_acts.specs.declared.acts.Entry.{Entry}
 use Rattle.nc_acts.specs.declared.acts.Entry.TheVariants.{Did, Serialized}
-use Rattle.nc_acts.specs.Log.{unserialized, log_of_create, log_of_delete}
+use Rattle.nc_acts.specs.Log.{only_acts, log_of_create, log_of_delete}
 use Rattle.nc_region.specs.Patch.{log_of_modify}
 use Rattle.nc_region.specs.Deletion.{freed, unmarkings}
 use Rattle.nc_region.specs.Quiet.{retired_spans}
@@ -98,4 +98,4 @@ delete_events marks base len = events_of_log (record no_details { base = base; l
 abbrev pub reclaim_events : ℕ → ℕ → List Chunk → List Event
 reclaim_events seats least chunks =
     events_of_log (record no_details { seats = seats; spans = retired_spans chunks })
-    (unserialized (Look ∷ unmarkings (freed least chunks)))
+    (only_acts (Look ∷ unmarkings (freed least chunks)))

@@ -7,7 +7,7 @@ use Rattle.nc_acts.specs.declared.acts.Act.TheVariants.{Put, MarkSpan, Bump}
 use Rattle.nc_acts.specs.declared.acts.Entry.{Entry}
 use Rattle.nc_acts.specs.declared.acts.Entry.TheVariants.{Did, Serialized}
 use Rattle.nc_acts.specs.Acts.{is_start, is_inside, is_marked_at, is_unmarked_at}
-use Rattle.nc_acts.specs.Log.{unserialized}
+use Rattle.nc_acts.specs.Log.{only_acts}
 use Rattle.nc_entries.specs.declared.act.NcAct.{NcAct}
 use Rattle.nc_entries.specs.Shown.{entry_of, over}
 
@@ -34,8 +34,8 @@ puts_by_bits at bits (byte ∷ rest) =
 -- the entries that a run stands for, for a chunk of this code at this base
 abbrev pub entries_of : ℕ → List ℕ → Run → List Entry
 entries_of base code (Single entry) = entry ∷ []
-entries_of base code (PutRun at bits) = unserialized (puts_by_bits at bits (take 32 (drop (at - base) code)))
-entries_of base code (StopRun at bits) = unserialized (puts_by_bits at bits (replicate 32 0xF4))
+entries_of base code (PutRun at bits) = only_acts (puts_by_bits at bits (take 32 (drop (at - base) code)))
+entries_of base code (StopRun at bits) = only_acts (puts_by_bits at bits (replicate 32 0xF4))
 
 -- the entries that these runs stand for, concatenated
 abbrev pub entries_in : ℕ → List ℕ → List Run → List Entry

@@ -3,7 +3,7 @@
 ghost use Rattle.std.specs.Prelude.{◌≡◌, ◌+◌, ◌*◌, ◌/◌, ◌%◌, ◌<◌, ◌≤◌, ◌^◌, ℕ, List, length};
 ghost use Rattle.nc_decode.specs.declared.instruction.Mark.{Mark};
 ghost use Rattle.nc_acts.specs.Acts.{puts_where};
-ghost use Rattle.nc_acts.specs.Log.{log_of_create, log_of_delete, unserialized};
+ghost use Rattle.nc_acts.specs.Log.{log_of_create, log_of_delete, only_acts};
 ghost use Rattle.nc_entries.specs.Runs.{HasRuns, run_of, runs_where, runs_of_create, runs_of_delete};
 ghost use Rattle.nc_entries.specs.Standing.{AreMarksAt};
 ghost use Rattle.nc_entries.specs.machinery.Running.{AddsRuns, HasBits, bytes_for, picks, run_at};
@@ -70,7 +70,7 @@ fn write_runs<C: ReadChunk>(
     ensures count { result ≡ from + length (C.code chunk.now) / 32 }
     ensures added { AddsRuns base (C.code chunk.now) acts.old from acts.new result
         (runs_where (run_at places) (picks places (C.marks chunk.now) base) base (length (C.code chunk.now) / 32))
-        (unserialized (puts_where (picks places (C.marks chunk.now) base) base (bytes_for places (C.code chunk.now)))) }
+        (only_acts (puts_where (picks places (C.marks chunk.now) base) base (bytes_for places (C.code chunk.now)))) }
 {
     let mut count = from;
     for i in 0..chunk.len() / 32 {

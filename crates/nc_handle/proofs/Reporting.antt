@@ -13,7 +13,7 @@ use Rattle.nc_acts.specs.declared.acts.Act.TheVariants.{Put, MarkSpan, Bump}
 use Rattle.nc_acts.specs.declared.acts.Entry.{Entry}
 use Rattle.nc_acts.specs.declared.acts.Entry.TheVariants.{Did, Serialized}
 use Rattle.nc_acts.specs.Acts.{puts_where, is_inside, is_start, is_marked_at, is_unmarked_at}
-use Rattle.nc_acts.specs.Log.{unserialized, log_of_create, log_of_delete}
+use Rattle.nc_acts.specs.Log.{only_acts, log_of_create, log_of_delete}
 use Rattle.nc_region.specs.Patch.{IsPatch, IsModified, AreBytesOf, any_place, stands_there, log_of_instruction, log_of_modify}
 use Rattle.nc_gens.specs.Seen.{PassState, least_number}
 use Rattle.nc_region.specs.Quiet.{retired_spans}
@@ -49,25 +49,25 @@ due_log v d (entry ∷ log) all =
 
 -- each entry of some puts is read as its events
 puts_all : (v : MarkedChunk) (d : Details) (chosen : ℕ → Bool) (at : ℕ) (bytes : List ℕ)
-    → All (IsRead v d) (unserialized (puts_where chosen at bytes))
+    → All (IsRead v d) (only_acts (puts_where chosen at bytes))
 puts_all v d chosen at [] = All-nil (IsRead v d)
 puts_all v d chosen at (byte ∷ bytes) = go (chosen at) (puts_all v d chosen (at + 1) bytes)
   where
-    go : (b : Bool) → All (IsRead v d) (unserialized (puts_where chosen (at + 1) bytes))
-        → All (IsRead v d) (unserialized (cond b (Put at byte ∷ puts_where chosen (at + 1) bytes) (puts_where chosen (at + 1) bytes)))
-    go true all = All-cons (IsRead v d) (Did (Put at byte)) (unserialized (puts_where chosen (at + 1) bytes)) refl all
+    go : (b : Bool) → All (IsRead v d) (only_acts (puts_where chosen (at + 1) bytes))
+        → All (IsRead v d) (only_acts (cond b (Put at byte ∷ puts_where chosen (at + 1) bytes) (puts_where chosen (at + 1) bytes)))
+    go true all = All-cons (IsRead v d) (Did (Put at byte)) (only_acts (puts_where chosen (at + 1) bytes)) refl all
     go false all = all
 
 -- each entry of a creation is read as its events
 create_all : (v : MarkedChunk) → All (IsRead v (record no_details { marks = v.marks })) (log_of_create v.base v.code)
 create_all v =
-    All-append (IsRead v (record no_details { marks = v.marks })) (unserialized (puts_where is_inside v.base v.code))
-    (Serialized ∷ Did (MarkSpan v.base (length v.code)) ∷ unserialized (puts_where is_start v.base v.code))
+    All-append (IsRead v (record no_details { marks = v.marks })) (only_acts (puts_where is_inside v.base v.code))
+    (Serialized ∷ Did (MarkSpan v.base (length v.code)) ∷ only_acts (puts_where is_start v.base v.code))
     (puts_all v (record no_details { marks = v.marks }) is_inside v.base v.code)
     (All-cons (IsRead v (record no_details { marks = v.marks })) Serialized
-    (Did (MarkSpan v.base (length v.code)) ∷ unserialized (puts_where is_start v.base v.code)) refl
+    (Did (MarkSpan v.base (length v.code)) ∷ only_acts (puts_where is_start v.base v.code)) refl
     (All-cons (IsRead v (record no_details { marks = v.marks })) (Did (MarkSpan v.base (length v.code)))
-    (unserialized (puts_where is_start v.base v.code)) refl
+    (only_acts (puts_where is_start v.base v.code)) refl
     (puts_all v (record no_details { marks = v.marks }) is_start v.base v.code)))
 
 -- an instruction of a patch
@@ -76,9 +76,9 @@ instruction_all v d at [] = All-nil (IsRead v d)
 instruction_all v d at (byte ∷ []) = All-cons (IsRead v d) (Did (Put at byte)) [] refl (All-nil (IsRead v d))
 instruction_all v d at (byte ∷ next ∷ rest) =
     All-cons (IsRead v d) (Did (Put at 244))
-    (Serialized ∷ (unserialized (puts_where any_place (at + 1) (next ∷ rest)) ++ (Serialized ∷ Did (Put at byte) ∷ []))) refl
-    (All-cons (IsRead v d) Serialized (unserialized (puts_where any_place (at + 1) (next ∷ rest)) ++ (Serialized ∷ Did (Put at byte) ∷ [])) refl
-    (All-append (IsRead v d) (unserialized (puts_where any_place (at + 1) (next ∷ rest))) (Serialized ∷ Did (Put at byte) ∷ [])
+    (Serialized ∷ (only_acts (puts_where any_place (at + 1) (next ∷ rest)) ++ (Serialized ∷ Did (Put at byte) ∷ []))) refl
+    (All-cons (IsRead v d) Serialized (only_acts (puts_where any_place (at + 1) (next ∷ rest)) ++ (Serialized ∷ Did (Put at byte) ∷ [])) refl
+    (All-append (IsRead v d) (only_acts (puts_where any_place (at + 1) (next ∷ rest))) (Serialized ∷ Did (Put at byte) ∷ [])
     (puts_all v d any_place (at + 1) (next ∷ rest))
     (All-cons (IsRead v d) Serialized (Did (Put at byte) ∷ []) refl
     (All-cons (IsRead v d) (Did (Put at byte)) [] refl (All-nil (IsRead v d))))))
@@ -97,20 +97,20 @@ patch_all v d text at (p ∷ rest) =
 -- a deletion up to its stamp
 abbrev stops_of : List Mark → ℕ → ℕ → List Entry
 stops_of marks base len =
-    unserialized (puts_where (is_marked_at marks) base (replicate len 244))
-    ++ (Serialized ∷ unserialized (puts_where (is_unmarked_at marks) base (replicate len 244)))
+    only_acts (puts_where (is_marked_at marks) base (replicate len 244))
+    ++ (Serialized ∷ only_acts (puts_where (is_unmarked_at marks) base (replicate len 244)))
 
 stops_then : (marks : List Mark) (base len : ℕ) → log_of_delete marks base len ≡ stops_of marks base len ++ Did Bump ∷ []
 stops_then marks base len =
-    sym (append_assoc (unserialized (puts_where (is_marked_at marks) base (replicate len 244)))
-    (Serialized ∷ unserialized (puts_where (is_unmarked_at marks) base (replicate len 244))) (Did Bump ∷ []))
+    sym (append_assoc (only_acts (puts_where (is_marked_at marks) base (replicate len 244)))
+    (Serialized ∷ only_acts (puts_where (is_unmarked_at marks) base (replicate len 244))) (Did Bump ∷ []))
 
 stops_all : (v : MarkedChunk) (d : Details) (marks : List Mark) (base len : ℕ) → All (IsRead v d) (stops_of marks base len)
 stops_all v d marks base len =
-    All-append (IsRead v d) (unserialized (puts_where (is_marked_at marks) base (replicate len 244)))
-    (Serialized ∷ unserialized (puts_where (is_unmarked_at marks) base (replicate len 244)))
+    All-append (IsRead v d) (only_acts (puts_where (is_marked_at marks) base (replicate len 244)))
+    (Serialized ∷ only_acts (puts_where (is_unmarked_at marks) base (replicate len 244)))
     (puts_all v d (is_marked_at marks) base (replicate len 244))
-    (All-cons (IsRead v d) Serialized (unserialized (puts_where (is_unmarked_at marks) base (replicate len 244))) refl
+    (All-cons (IsRead v d) Serialized (only_acts (puts_where (is_unmarked_at marks) base (replicate len 244))) refl
     (puts_all v d (is_unmarked_at marks) base (replicate len 244)))
 
 -- the log of a deletion is read as its events, but for the stamp
@@ -209,7 +209,7 @@ looks_librarys from zero = All-nil IsLibrarys
 looks_librarys from (suc n) = All-cons IsLibrarys (Looks from) (map Looks (range_with_len (from + 1) n)) tt (looks_librarys (from + 1) n)
 
 -- all unmarkings are the library's
-frees_librarys : (d : Details) (chunks : List Chunk) → All IsLibrarys (events_of_log d (unserialized (unmarkings chunks)))
+frees_librarys : (d : Details) (chunks : List Chunk) → All IsLibrarys (events_of_log d (only_acts (unmarkings chunks)))
 frees_librarys d [] = All-nil IsLibrarys
 frees_librarys d (c ∷ chunks) = All-cons IsLibrarys (Frees (span_from d.spans c.base)) _ tt (frees_librarys d chunks)
 
@@ -223,7 +223,7 @@ reclaims seats old new count is = (
     own = reclaim_events seats (least_number new.region.keeper.numbers) is.met.chunks;
     librarys = All-append IsLibrarys (map Looks (range_with_len 0 seats))
         (events_of_log (record no_details { seats = seats; spans = retired_spans is.met.chunks })
-        (unserialized (unmarkings (freed (least_number new.region.keeper.numbers) is.met.chunks))))
+        (only_acts (unmarkings (freed (least_number new.region.keeper.numbers) is.met.chunks))))
         (looks_librarys 0 seats)
         (frees_librarys (record no_details { seats = seats; spans = retired_spans is.met.chunks })
         (freed (least_number new.region.keeper.numbers) is.met.chunks));

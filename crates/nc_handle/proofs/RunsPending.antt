@@ -11,7 +11,7 @@ use Rattle.nc_acts.specs.declared.acts.Act.TheVariants.{Put, MarkSpan, Bump}
 use Rattle.nc_acts.specs.declared.acts.Entry.{Entry}
 use Rattle.nc_acts.specs.declared.acts.Entry.TheVariants.{Did, Serialized}
 use Rattle.nc_acts.specs.Acts.{is_inside, is_start, is_marked_at, is_unmarked_at}
-use Rattle.nc_acts.specs.Log.{unserialized, log_of_create, log_of_delete}
+use Rattle.nc_acts.specs.Log.{only_acts, log_of_create, log_of_delete}
 use Rattle.nc_calls.specs.Calls.{Details, no_details, events_of_log, create_events, delete_events}
 use Rattle.nc_calls.proofs.Offered.{log_append}
 use Rattle.nc_entries.specs.declared.act.NcAct.{NcAct}
@@ -22,13 +22,13 @@ use Rattle.nc_handle.specs.Pending.{puts_pending, events_pending_by, events_pend
 use Rattle.nc_handle.proofs.Reporting.{due_append}
 
 -- the puts of a run
-bits_read : (d : Details) (bytes : List ℕ) (at bits : ℕ) → puts_pending at bits bytes ≡ events_of_log d (unserialized (puts_by_bits at bits bytes))
+bits_read : (d : Details) (bytes : List ℕ) (at bits : ℕ) → puts_pending at bits bytes ≡ events_of_log d (only_acts (puts_by_bits at bits bytes))
 bits_read d [] at bits = refl
 bits_read d (byte ∷ rest) at bits = go (bits % 2 == 1) (bits_read d rest (at + 1) (bits / 2))
   where
-    go : (b : Bool) → puts_pending (at + 1) (bits / 2) rest ≡ events_of_log d (unserialized (puts_by_bits (at + 1) (bits / 2) rest))
+    go : (b : Bool) → puts_pending (at + 1) (bits / 2) rest ≡ events_of_log d (only_acts (puts_by_bits (at + 1) (bits / 2) rest))
         → cond b (Puts at byte ∷ puts_pending (at + 1) (bits / 2) rest) (puts_pending (at + 1) (bits / 2) rest)
-        ≡ events_of_log d (unserialized (cond b (Put at byte ∷ puts_by_bits (at + 1) (bits / 2) rest) (puts_by_bits (at + 1) (bits / 2) rest)))
+        ≡ events_of_log d (only_acts (cond b (Put at byte ∷ puts_by_bits (at + 1) (bits / 2) rest) (puts_by_bits (at + 1) (bits / 2) rest)))
     go true same = ap (λ (z : List Event). Puts at byte ∷ z) same
     go false same = same
 

@@ -15,7 +15,7 @@ use Rattle.nc_region.specs.schedules.World.{World, first_world, NoneIsWithin}
 use Rattle.nc_region.specs.schedules.Events.{Event, Retires, Frees, world_after, AreAllowed}
 use Rattle.nc_region.proofs.Offered.{after_append, allowed_append, safe_after, none_is_within_freed}
 use Rattle.nc_region.proofs.Offered.{allowed_front}
-use Rattle.nc_acts.specs.Log.{unserialized}
+use Rattle.nc_acts.specs.Log.{only_acts}
 use Rattle.nc_region.specs.Deletion.{IsReclaimed, freed, unmarkings}
 use Rattle.nc_region.specs.Quiet.{retired_spans}
 use Rattle.nc_region.specs.Region.{Region, IsRegion}
@@ -90,7 +90,7 @@ reclaim_goes limit seats before since pending from region count stays threads al
           let looks : All IsKeepers (writers since) =
           only_looks (writers since) pending (range_with_len 0 seats)
           (events_of_log (record no_details { seats = seats; spans = retired_spans from.chunks })
-          (unserialized (unmarkings (freed (least_number region.keeper.numbers) from.chunks)))) events
+          (only_acts (unmarkings (freed (least_number region.keeper.numbers) from.chunks)))) events
           (frees_no_look (record no_details { seats = seats; spans = retired_spans from.chunks })
           (freed (least_number region.keeper.numbers) from.chunks)) some in
           Looking (keepers_allowed limit seats before since from stays.led looks threads)
@@ -98,7 +98,7 @@ reclaim_goes limit seats before since pending from region count stays threads al
           (λ span later at. some (subst (All IsNoLook) (sym at)
           (frees_last (writers since) later span (range_with_len 0 seats)
           (events_of_log (record no_details { seats = seats; spans = retired_spans from.chunks })
-          (unserialized (unmarkings (freed (least_number region.keeper.numbers) from.chunks))))
+          (only_acts (unmarkings (freed (least_number region.keeper.numbers) from.chunks))))
           (ap (λ (z : List Event). writers since ++ z) (sym at) ∙ events)
           (frees_no_look (record no_details { seats = seats; spans = retired_spans from.chunks })
           (freed (least_number region.keeper.numbers) from.chunks)))))

@@ -13,7 +13,7 @@ use Rattle.nc_acts.specs.declared.acts.Entry.{Entry}
 use Rattle.nc_acts.specs.declared.acts.Entry.TheVariants.{Did, Serialized}
 use Rattle.nc_gens.specs.Seen.{least_number}
 use Rattle.nc_region.specs.Region.{Region}
-use Rattle.nc_acts.specs.Log.{unserialized, log_of_create, log_of_delete}
+use Rattle.nc_acts.specs.Log.{only_acts, log_of_create, log_of_delete}
 use Rattle.nc_region.specs.Patch.{log_of_modify}
 use Rattle.nc_region.specs.Deletion.{freed, unmarkings}
 use Rattle.nc_region.specs.Quiet.{retired_spans}
@@ -142,7 +142,7 @@ call_writers seats old new own (Deletes base stamp is made begun same) =
 call_writers seats old new own (Reclaims count is same) =
     subst (All IsWriters) (sym same)
     (log_writers (record no_details { seats = seats; spans = retired_spans old.chunks })
-    (unserialized (Look ∷ unmarkings (freed (least_number new.keeper.numbers) old.chunks))))
+    (only_acts (Look ∷ unmarkings (freed (least_number new.keeper.numbers) old.chunks))))
 call_writers seats old new own (UsesKeeper marked chunks all range) = All-weaker IsKeepers IsWriters keepers_writers own all
 call_writers seats old new own (Refuses is) = subst (All IsWriters) (sym (refusal_silent old new own is)) (All-nil IsWriters)
 call_writers seats old new own (Keeps is same) = subst (All IsWriters) (sym same) (All-nil IsWriters)

@@ -5,7 +5,7 @@ use Rattle.std.proofs.lemmas.List.Elements.{All-nil, All-cons, All-head, All-tai
 use Rattle.nc_list.specs.declared.chunk.Chunk.{Chunk}
 use Rattle.nc_region.specs.schedules.Spans.{RetiredSpan}
 use Rattle.nc_region.specs.schedules.Events.{Event, Frees, Looks}
-use Rattle.nc_acts.specs.Log.{unserialized}
+use Rattle.nc_acts.specs.Log.{only_acts}
 use Rattle.nc_region.specs.Deletion.{unmarkings}
 use Rattle.nc_calls.specs.Interleaving.{IsKeepers}
 use Rattle.nc_calls.specs.Calls.{Details, events_of_log, span_from}
@@ -35,7 +35,7 @@ all_back P [] ys all = all
 all_back P (x ∷ xs) ys all = all_back P xs ys (All-tail P x (xs ++ ys) all)
 
 -- the unmarkings of a reclaim
-pub frees_no_look : (d : Details) (chunks : List Chunk) → All IsNoLook (events_of_log d (unserialized (unmarkings chunks)))
+pub frees_no_look : (d : Details) (chunks : List Chunk) → All IsNoLook (events_of_log d (only_acts (unmarkings chunks)))
 frees_no_look d [] = All-nil IsNoLook
 frees_no_look d (c ∷ chunks) = All-cons IsNoLook (Frees (span_from d.spans c.base)) _ tt (frees_no_look d chunks)
 

@@ -23,7 +23,7 @@ bad_here : (limit : ℕ) (lines : List (List ℕ)) (chunk : Option (ℕ × List 
     (λ placed. (after : List Bool) × (verdict : Result MarkedChunk (Vec ℕ × VetFault))
     × (later : List (Result MarkedChunk (Vec ℕ × VetFault)))
     × (false ∷ rest ≡ true ∷ after) × (verdicts ≡ verdict ∷ later) × IsFound limit placed verdict × AreFound limit lines after later)
-    → MatchOption chunk (bad_line ≡ bad_line) (λ placed. SaysVerdict limit placed.0 placed.1 bad_line) × AreFound limit lines rest verdicts
+    → MatchOption chunk (bad_line ≡ bad_line) (λ placed. SaysVerdict placed.0 limit placed.1 bad_line) × AreFound limit lines rest verdicts
 bad_here limit lines None rest verdicts h =
     let same : h.0 ≡ rest = cc in
     (refl, subst (λ (bs : List Bool). AreFound limit lines bs verdicts) same h.2)
@@ -41,13 +41,13 @@ bad_next limit line lines is_named rest verdicts e h =
 named_here : (limit : ℕ) (lines : List (List ℕ)) (chunk : Option (ℕ × List ℕ)) (rest : List Bool)
     (verdict : Result MarkedChunk (Vec ℕ × VetFault)) (later : List (Result MarkedChunk (Vec ℕ × VetFault))) (Reply : List ℕ → Type 0)
     → ((limit base : ℕ) (bytes : List ℕ) → IsFound limit (base, bytes) verdict → (reply : List ℕ) × Reply reply
-    × SaysVerdict limit base bytes reply)
+    × SaysVerdict base limit bytes reply)
     → MatchOption chunk
     ((after : List Bool) × (true ∷ rest ≡ false ∷ after) × AreFound limit lines after (verdict ∷ later))
     (λ placed. (after : List Bool) × (first : Result MarkedChunk (Vec ℕ × VetFault))
     × (others : List (Result MarkedChunk (Vec ℕ × VetFault)))
     × (true ∷ rest ≡ true ∷ after) × (verdict ∷ later ≡ first ∷ others) × IsFound limit placed first × AreFound limit lines after others)
-    → (reply : List ℕ) × Reply reply × MatchOption chunk (reply ≡ bad_line) (λ placed. SaysVerdict limit placed.0 placed.1 reply)
+    → (reply : List ℕ) × Reply reply × MatchOption chunk (reply ≡ bad_line) (λ placed. SaysVerdict placed.0 limit placed.1 reply)
     × AreFound limit lines rest later
 named_here limit lines None rest verdict later Reply says h = let e = h.1 in absurd (cc)
 named_here limit lines (Some placed) rest verdict later Reply says h =
@@ -69,7 +69,7 @@ pub named_next : (limit : ℕ) (line : List ℕ) (lines : List (List ℕ)) (is_n
     (Reply : List ℕ → Type 0)
     → is_named ≡ true → verdicts ≡ verdict ∷ later
     → ((limit base : ℕ) (bytes : List ℕ) → IsFound limit (base, bytes) verdict → (reply : List ℕ) × Reply reply
-    × SaysVerdict limit base bytes reply)
+    × SaysVerdict base limit bytes reply)
     → AreFound limit (line ∷ lines) (is_named ∷ rest) verdicts
     → (reply : List ℕ) × Reply reply × VetsLine limit line reply × AreFound limit lines rest later
 named_next limit line lines is_named rest verdicts later verdict Reply e f says h =

@@ -12,14 +12,14 @@ use Rattle.nc_output.specs.Verdicts.{IsValidAt, with_line_end, refused_words, fa
 -- the reply to a chunk that is only vetted: `ok` if it is valid for this limit, else `refused` with its fault; lack of
 -- memory is not a verdict
 abbrev pub SaysVerdict : ℕ → ℕ → List ℕ → List ℕ → Type 0
-SaysVerdict limit base bytes reply =
+SaysVerdict base limit bytes reply =
     (IsValidAt base limit bytes × (reply ≡ with_line_end (codes "ok")))
     ⊎ ((fault : VetFault) × HasFault base limit bytes fault × (fault ≢ OutOfMemory)
     × (reply ≡ with_line_end (refused_words (fault_words fault))))
 
 -- the reply to a line: the verdict on the chunk that it names, or `bad line` if it names none
 abbrev pub VetsLine : ℕ → List ℕ → List ℕ → Type 0
-VetsLine limit line reply = MatchOption (chunk_in line) (reply ≡ bad_line) (λ placed. SaysVerdict limit placed.0 placed.1 reply)
+VetsLine limit line reply = MatchOption (chunk_in line) (reply ≡ bad_line) (λ placed. SaysVerdict placed.0 limit placed.1 reply)
 
 -- the replies to these lines, concatenated in order
 abbrev pub VetsLines : ℕ → List (List ℕ) → List ℕ → Type 0

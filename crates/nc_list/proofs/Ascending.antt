@@ -19,18 +19,18 @@ rises_above from (c ∷ rest) ascending = (
       (rises_above (c.base + c.length) rest ascending.1),
 )
 
--- the first part of a ascending list rises
+-- the first part of an ascending list is ascending
 pub rises_first : (from : ℕ) (xs ys : List Chunk) → IsAscending from (xs ++ ys) → IsAscending from xs
 rises_first from [] ys ascending = tt
 rises_first from (c ∷ xs) ys ascending = (ascending.0, rises_first (c.base + c.length) xs ys ascending.1)
 
--- the rest of a ascending list rises
+-- the rest of an ascending list is ascending
 pub rises_rest : (from : ℕ) (xs ys : List Chunk) → IsAscending from (xs ++ ys) → IsAscending from ys
 rises_rest from [] ys ascending = ascending
 rises_rest from (c ∷ xs) ys ascending =
     rises_lower from (c.base + c.length) ys (omega (arith, ascending.0)) (rises_rest (c.base + c.length) xs ys ascending.1)
 
--- in a ascending list the chunks before one end at or below its base
+-- in an ascending list the chunks before one end at or below its base
 pub rises_before : (from : ℕ) (xs : List Chunk) (c : Chunk) (ys : List Chunk) → IsAscending from (xs ++ c ∷ ys) → IsAboveAll c.base xs
 rises_before from [] c ys ascending = tt
 rises_before from (d ∷ xs) c ys ascending = (
@@ -38,7 +38,7 @@ rises_before from (d ∷ xs) c ys ascending = (
   rises_before (d.base + d.length) xs c ys ascending.1,
 )
 
--- in a ascending list the chunks from one on begin at or above its base
+-- in an ascending list the chunks from one on begin at or above its base
 pub rises_behind : (from : ℕ) (xs : List Chunk) (c : Chunk) (ys : List Chunk) → IsAscending from (xs ++ c ∷ ys)
     → IsBelowAll c.base (c ∷ ys)
 rises_behind from xs c ys ascending =
@@ -58,7 +58,7 @@ rises_apart from (c ∷ rest) zero (suc j) d ascending before lt =
 rises_apart from (c ∷ rest) (suc i) (suc j) d ascending before lt =
     rises_apart (c.base + c.length) rest i j d ascending.1 (omega (arith, before)) (omega (arith, lt))
 
--- in a ascending list a chunk begins at or below each one from it on
+-- in an ascending list a chunk begins at or below each one from it on
 pub rises_at : (from : ℕ) (chunks : List Chunk) (i j : ℕ) (d : Chunk) → IsAscending from chunks → i ≤ j → j < length chunks
     → (get_or chunks i d).base ≤ (get_or chunks j d).base
 rises_at from chunks i j d ascending le lt =

@@ -9,7 +9,7 @@ use Rattle.nc_decode.specs.Automaton.{next_state, masked_at, LeadsToEnd, Ends}
 use Rattle.nc_decode.specs.Spelling.{IsAtFront}
 use Rattle.nc_decode.specs.Transfers.{is_indirect}
 use Rattle.nc_decode.proofs.Offered.{spells_some, reads_by_states, none_is_paired, next_small, cond_is_true, cond_is_false}
-use Rattle.nc_vet.specs.States.{states_after, bundle_at, AreStates}
+use Rattle.nc_vet.specs.States.{states_after, bundle_bytes, AreBundleStates}
 use Rattle.nc_vet.proofs.Offered.{front_cut, length-states_after, bundle_size}
 use Rattle.nc_reading.specs.declared.class.Class.{Class}
 use Rattle.nc_reading.specs.declared.class.Class.TheVariants.{Inside, Entry, Second}
@@ -219,10 +219,10 @@ reads (suc fuel) code at m masked done bs rest few some here whole low small las
 
 -- a bundle is read by the automaton to its end
 pub bundle_read : (code : List ℕ) (at : ℕ) (masked : Option ℕ) (done : List Class) → at % 32 ≡ 0 → at + 32 ≤ length code
-    → ((k : ℕ) → get_or code k 0 < 256) → END ≤ last_state END (bundle_at code at) → HasSeenTo code at masked done
+    → ((k : ℕ) → get_or code k 0 < 256) → END ≤ last_state END (bundle_bytes code at) → HasSeenTo code at masked done
     → HasSeenTo code (at + 32) None (done ++ bundle_classes code at)
 bundle_read code at masked done start room fits last seen =
-    let bs = bundle_at code at in
+    let bs = bundle_bytes code at in
     let long : length bs ≡ 32 = bundle_size code at room in
     subst (λ (k : ℕ). HasSeenTo code k None (done ++ bundle_classes code at)) {x = at + length bs} (omega (arith, long))
     (reads 32 code at END masked done bs (drop 32 (drop at code)) (omega (arith, long)) (omega (arith, long)) (sym (take-append-drop 32 (drop at code)))
@@ -232,13 +232,13 @@ bundle_read code at masked done start room fits last seen =
 
 -- the classes of a bundle that is read to its end are written
 pub bundle_filled : (code : List ℕ) (at : ℕ) (masked : Option ℕ) (classes new : List Class) → at % 32 ≡ 0 → at + 32 ≤ length code
-    → ((k : ℕ) → get_or code k 0 < 256) → END ≤ get_or (states_after END (bundle_at code at)) 31 0
+    → ((k : ℕ) → get_or code k 0 < 256) → END ≤ get_or (states_after END (bundle_bytes code at)) 31 0
     → ((front after : List Class) → length front ≡ at → classes ≡ front ++ (replicate 32 Inside ++ after)
     → new ≡ front ++ (bundle_classes code at ++ after))
     → HasFilled code at masked classes → HasFilled code (at + 32) None new
 bundle_filled code at masked classes new start room fits last put h =
     let more = length code - (at + 32) in
-    let bs = bundle_at code at in
+    let bs = bundle_bytes code at in
     let ended : END ≤ last_state END bs
     = subst (λ (s : ℕ). END ≤ s) (last_of END bs 31 (omega (arith, bundle_size code at room))) last in
     record {
@@ -260,7 +260,7 @@ length-classes_by s (t ∷ states) = ap (λ (n : ℕ). suc n) (length-classes_by
 -- there are as many classes as bytes
 pub length-classes : (code : List ℕ) (at : ℕ) → at + 32 ≤ length code → length (bundle_classes code at) ≡ 32
 length-classes code at room =
-    length-classes_by END (states_after END (bundle_at code at)) ∙ length-states_after END (bundle_at code at) ∙ bundle_size code at room
+    length-classes_by END (states_after END (bundle_bytes code at)) ∙ length-states_after END (bundle_bytes code at) ∙ bundle_size code at room
 
 -- a list with a 0 after it
 before_zero : (xs : List ℕ) (k : ℕ) → get_or (xs ++ 0 ∷ []) k 0 ≡ get_or xs k 0
@@ -270,9 +270,9 @@ before_zero (x ∷ xs) zero = refl
 before_zero (x ∷ xs) (suc k) = before_zero xs k
 
 -- the states of a bundle, without the 0 after them
-pub state_at : (code : List ℕ) (at : ℕ) (states : List ℕ) (k : ℕ) → AreStates code at states
-    → get_or states k 0 ≡ get_or (END ∷ states_after END (bundle_at code at)) k 0
-state_at code at states k h = ap (λ (z : List ℕ). get_or z k 0) h ∙ before_zero (END ∷ states_after END (bundle_at code at)) k
+pub state_at : (code : List ℕ) (at : ℕ) (states : List ℕ) (k : ℕ) → AreBundleStates code at states
+    → get_or states k 0 ≡ get_or (END ∷ states_after END (bundle_bytes code at)) k 0
+state_at code at states k h = ap (λ (z : List ℕ). get_or z k 0) h ∙ before_zero (END ∷ states_after END (bundle_bytes code at)) k
 
 -- the class of a byte, by what stands beside it
 class_at : (s : ℕ) (states : List ℕ) (k : ℕ) → k < length states
@@ -284,16 +284,16 @@ class_at s (t ∷ states) (suc k) lt =
     ∙ ap (λ (n : ℕ). class_by (get_or (t ∷ states) k 0) (get_or (s ∷ t ∷ states) n 0)) {x = suc (k + 2)} {y = suc k + 2} (omega arith)
 
 -- one class more
-pub class_more : (code : List ℕ) (at : ℕ) (states : List ℕ) (k before next : ℕ) → at + 32 ≤ length code → AreStates code at states → k < 32
+pub class_more : (code : List ℕ) (at : ℕ) (states : List ℕ) (k before next : ℕ) → at + 32 ≤ length code → AreBundleStates code at states → k < 32
     → before ≡ get_or states k 0 → next ≡ get_or states (k + 2) 0
     → take k (bundle_classes code at) ++ class_by before next ∷ [] ≡ take (k + 1) (bundle_classes code at)
 class_more code at states k before next room h lt b n =
     let all = bundle_classes code at in
-    let after = states_after END (bundle_at code at) in
+    let after = states_after END (bundle_bytes code at) in
     ap (λ (p : ℕ). take k all ++ class_by p next ∷ []) (b ∙ state_at code at states k h)
     ∙ ap (λ (q : ℕ). take k all ++ class_by (get_or (END ∷ after) k 0) q ∷ []) (n ∙ state_at code at states (k + 2) h)
     ∙ ap (λ (v : Class). take k all ++ v ∷ [])
-    (sym (class_at END after k (omega (arith, lt, length-states_after END (bundle_at code at), bundle_size code at room))))
+    (sym (class_at END after k (omega (arith, lt, length-states_after END (bundle_bytes code at), bundle_size code at room))))
     ∙ sym (take_more all k Inside (omega (arith, lt, length-classes code at room)))
 
 -- what is masked at the place where the reading begins, and after it

@@ -1,7 +1,7 @@
 //! The fast path: bundles of a refused chunk, read by the automaton.
 
 ghost use Rattle.std.specs.Prelude.{◌≡◌, ◌≤◌, ◌<◌, ◌+◌, ◌%◌, ◌++◌, ◌==◌, ℕ, List, Option, None, length, replicate, slice_index, if◌then◌else◌};
-ghost use Rattle.nc_vet.specs.States.{AreStates};
+ghost use Rattle.nc_vet.specs.States.{AreBundleStates};
 ghost use Rattle.nc_reading.specs.declared.class.Class.{Class};
 ghost use Rattle.nc_reading.specs.machinery.FastPath.{class_by, bundle_classes, ReadsOn};
 ghost use Rattle.nc_reading.specs.machinery.Seen.{HasFilled};
@@ -32,7 +32,7 @@ fn class_by(before: u8, next: u8) -> Class
 #[inline(always)]
 fn put_bundle(classes: &mut [Class], at: usize, states: &States)
     requires within { at + 32 ≤ length classes.old }
-    ensures put { (code : List ℕ) (front after : List Class) → at + 32 ≤ length code → AreStates code at states.now
+    ensures put { (code : List ℕ) (front after : List Class) → at + 32 ≤ length code → AreBundleStates code at states.now
         → length front ≡ at → classes.old ≡ front ++ (replicate 32 Class.Inside ++ after)
         → classes.new ≡ front ++ (bundle_classes code at ++ after) }
     ensures long { length classes.new ≡ length classes.old }
@@ -51,7 +51,7 @@ fn put(classes: &mut [Class], at: usize, end: usize, states: &States) -> usize
     requires within { at + 32 ≤ length classes.old }
     requires before { end ≤ at }
     ensures read { (code : List ℕ) (masked : Option ℕ) (from : ℕ) → at + 32 ≤ length code → from ≤ at
-        → ((k : ℕ) → slice_index code k < 256) → AreStates code at states.now
+        → ((k : ℕ) → slice_index code k < 256) → AreBundleStates code at states.now
         → HasFilled code end (if end == from then masked else None) classes.old
         → HasFilled code result (if result == from then masked else None) classes.new }
     ensures low { end ≤ result }

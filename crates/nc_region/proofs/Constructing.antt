@@ -17,7 +17,7 @@ use Rattle.nc_list.specs.declared.chunk.ChunkState.TheVariants.{Live, Retired}
 use Rattle.nc_list.specs.Chunks.{IsAscending, FitsAt, Meets}
 use Rattle.nc_list.proofs.Offered.{each_map, rises_above}
 use Rattle.nc_acts.specs.declared.acts.Act.TheVariants.{Look}
-use Rattle.nc_acts.specs.Log.{unserialized, log_of_create, log_of_delete}
+use Rattle.nc_acts.specs.Log.{only_acts, log_of_create, log_of_delete}
 use Rattle.nc_region.specs.Region.{Region, IsLive, IsCreated, live_chunk}
 use Rattle.nc_region.specs.Patch.{IsModified, log_of_modify}
 use Rattle.nc_region.specs.Deletion.{HasLive, IsDeleted, IsReclaimed, freed, kept, unmarked, unmarkings}
@@ -206,7 +206,7 @@ reclaimed_region old keeper =
       marked = unmarked old.marked (freed least old.chunks);
       chunks = kept least old.chunks;
       keeper = keeper;
-      logged = old.logged ++ unserialized (Look ∷ unmarkings (freed least old.chunks));
+      logged = old.logged ++ only_acts (Look ∷ unmarkings (freed least old.chunks));
     }
 
 -- unmarking changes no byte
@@ -226,6 +226,6 @@ reclaimed_exists old keeper looked =
       marked = refl;
       bytes = unmarked_bytes old.marked (freed (least_number keeper.numbers) old.chunks);
       others = refl;
-      acts = told_logged old.logged (old.logged ++ unserialized acts) (unserialized acts) acts (acts_back acts) refl;
+      acts = told_logged old.logged (old.logged ++ only_acts acts) (only_acts acts) acts (acts_back acts) refl;
       log = refl;
     }

@@ -12,7 +12,7 @@ use Rattle.nc_acts.specs.declared.acts.Act.TheVariants.{UnmarkSpan, Look}
 use Rattle.nc_region.specs.declared.fault.DeleteFault.{DeleteFault}
 use Rattle.nc_region.specs.declared.fault.DeleteFault.TheVariants.{NoChunk, GensFull}
 use Rattle.nc_acts.specs.Acts.{acts_of_delete}
-use Rattle.nc_acts.specs.Log.{Logs, unserialized, log_of_delete}
+use Rattle.nc_acts.specs.Log.{Logs, only_acts, log_of_delete}
 use Rattle.nc_region.specs.Region.{Region, IsLive, told}
 
 -- some live chunk of the list has this base
@@ -69,4 +69,4 @@ pub record IsReclaimed (old new : Region) (count : ℕ) : Type 0 where
   pub bytes : new.marked.bytes ≡ old.marked.bytes
   pub others : new ≡ record old { marked = new.marked; chunks = new.chunks; keeper = new.keeper; logged = new.logged }
   pub acts : told new ≡ told old ++ Look ∷ unmarkings (freed (least_number new.keeper.numbers) old.chunks)
-  pub log : Logs old.logged new.logged (unserialized (Look ∷ unmarkings (freed (least_number new.keeper.numbers) old.chunks)))
+  pub log : Logs old.logged new.logged (only_acts (Look ∷ unmarkings (freed (least_number new.keeper.numbers) old.chunks)))

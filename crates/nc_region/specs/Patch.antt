@@ -14,7 +14,7 @@ use Rattle.nc_acts.specs.declared.acts.Entry.TheVariants.{Did, Serialized}
 use Rattle.nc_region.specs.declared.fault.ModifyFault.{ModifyFault}
 use Rattle.nc_region.specs.declared.fault.ModifyFault.TheVariants.{BadSpan, NotLive, NotPermitted, Boundaries, PairTouched, BadTarget}
 use Rattle.nc_acts.specs.Acts.{puts_where}
-use Rattle.nc_acts.specs.Log.{unserialized}
+use Rattle.nc_acts.specs.Log.{only_acts}
 use Rattle.nc_region.specs.Region.{Region, IsLive, IsInChunk, HoldsValid}
 
 -- there is at least one byte, and all bytes lie in one bundle
@@ -163,7 +163,7 @@ abbrev pub log_of_instruction : ℕ → List ℕ → List Entry
 log_of_instruction at [] = []
 log_of_instruction at (byte ∷ []) = Did (Put at byte) ∷ []
 log_of_instruction at (byte ∷ next ∷ rest) =
-    Did (Put at 0xF4) ∷ Serialized ∷ (unserialized (puts_where any_place (at + 1) (next ∷ rest)) ++ (Serialized ∷ Did (Put at byte) ∷ []))
+    Did (Put at 0xF4) ∷ Serialized ∷ (only_acts (puts_where any_place (at + 1) (next ∷ rest)) ++ (Serialized ∷ Did (Put at byte) ∷ []))
 
 -- the log of a patch: its acts, and for each replaced instruction of more than one byte two serializations, after F4 is put
 -- and before its first byte is put

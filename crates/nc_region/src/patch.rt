@@ -8,7 +8,7 @@ ghost use Rattle.nc_text.specs.Places.{InRegion};
 ghost use Rattle.nc_text.specs.Ready.{AreReady};
 ghost use Rattle.nc_text.specs.MarkedText.{IsText};
 ghost use Rattle.nc_region.specs.Patch.{IsRun};
-ghost use Rattle.nc_region.specs.machinery.PatchSteps.{CanPatch, HasPatched, LiesInValid, MayRefuseIn};
+ghost use Rattle.nc_region.specs.machinery.PatchSteps.{CanPatch, HasPutPatch, LiesInValid, MayRefuseIn};
 
 mod judge;
 mod put;
@@ -46,7 +46,7 @@ pub(crate) fn patch<A: Acts>(
     requires ready { AreReady (A.made acts.old) at (length new.now) }
     ensures can { OnOk result (CanPatch (A.marked acts.old) chunk at new.now) }
     ensures patched { OnOk result
-        (HasPatched (A.marked acts.old) (A.marked acts.new) (A.logged acts.old) (A.logged acts.new) chunk at new.now) }
+        (HasPutPatch (A.marked acts.old) (A.marked acts.new) (A.logged acts.old) (A.logged acts.new) chunk at new.now) }
     ensures marks { (A.marked acts.new).marks ≡ (A.marked acts.old).marks }
     ensures whole { IsText (A.marked acts.new) }
     ensures made { A.made acts.new ≡ A.made acts.old }

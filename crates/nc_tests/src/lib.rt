@@ -2,7 +2,7 @@
 //! `tests/scripts` and `tests/reports`, which `tools/try/scripts` and `tools/try/check` run, and Python in `tests/library`,
 //! which `tools/try/library` runs.
 //!
-//! A crate with tests is proved once more for them, and its must-fail edits wait for that proof. These tests are therefore in
+//! A crate with tests is proved once more for them, and its mutants wait for that proof. These tests are therefore in
 //! a crate above the others, and use only the names that those export.
 #![tactic(auto)]
 

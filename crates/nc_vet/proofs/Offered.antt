@@ -9,4 +9,4 @@ pub use Rattle.nc_vet.proofs.Pieces.{front_cut}
 pub use Rattle.nc_vet.proofs.MarkedPlaces.{Begins, marked, mark_at, first_plain, plain_entry, entry_plain}
 pub use Rattle.nc_vet.proofs.MarkedPlaces.{target_inside, plain_inside, target_outside, starts_outside}
 pub use Rattle.nc_vet.proofs.LaneBits.{compared, equal_small, equal_bit, loaded}
-pub use Rattle.nc_vet.proofs.BundleStates.{length-states_after, bundle_size}
+pub use Rattle.nc_vet.proofs.BundleStates.{length-states_after, bundle_size, bundle_byte}

@@ -9,9 +9,9 @@ states_after s [] = []
 states_after s (b ∷ bs) = next_state s b ∷ states_after (next_state s b) bs
 
 -- the bytes of the bundle that begins at a place of the code
-abbrev pub bundle_at : List ℕ → ℕ → List ℕ
-bundle_at code at = take 32 (drop at code)
+abbrev pub bundle_bytes : List ℕ → ℕ → List ℕ
+bundle_bytes code at = take 32 (drop at code)
 
 -- the state before the first byte of the bundle that begins at a place of the code, the state after each of its bytes, and 0
-abbrev pub AreStates : List ℕ → ℕ → List ℕ → Type 0
-AreStates code at states = states ≡ END ∷ (states_after END (bundle_at code at) ++ 0 ∷ [])
+abbrev pub AreBundleStates : List ℕ → ℕ → List ℕ → Type 0
+AreBundleStates code at states = states ≡ END ∷ (states_after END (bundle_bytes code at) ++ 0 ∷ [])

@@ -3,8 +3,8 @@
 ghost use Rattle.std.specs.Prelude.{◌≡◌, ◌<◌, ◌≤◌, ◌+◌, ◌%◌, ℕ, List, ◌==◌, length, get_or, nat_le, slice_index, slice_set};
 ghost use Rattle.std.specs.Int.{bit_at};
 ghost use Rattle.nc_decode.specs.Automaton.{next_state};
-ghost use Rattle.nc_vet.specs.States.{bundle_at, AreStates};
-ghost use Rattle.nc_vet.specs.machinery.Running.{TellsStates, TellsBundle, HasRead};
+ghost use Rattle.nc_vet.specs.States.{bundle_bytes, AreBundleStates};
+ghost use Rattle.nc_vet.specs.machinery.Running.{TellsStates, TellsBundle, LaneHasRead};
 
 use nc_decode::{AFTER_NEAR, AFTER_PAIR, AFTER_SHORT, Bundle, END, Row};
 use std::simd::prelude::*;
@@ -28,7 +28,7 @@ impl Lane {
     /// A lane before its first byte.
     #[inline(always)]
     fn new() -> Lane
-        ensures { (bytes : List ℕ) → HasRead bytes 0 result.state result.states }
+        ensures { (bytes : List ℕ) → LaneHasRead bytes 0 result.state result.states }
     {
         let mut states = [0; 34];
         states[0] = END;
@@ -42,8 +42,8 @@ impl Lane {
     #[inline(always)]
     fn read(&mut self, i: usize, byte: u8)
         requires place { i < 32 }
-        ensures { (bytes : List ℕ) → length bytes ≡ 32 → byte ≡ get_or bytes i 0 → HasRead bytes i self.old.state self.old.states
-            → HasRead bytes (i + 1) self.new.state self.new.states }
+        ensures { (bytes : List ℕ) → length bytes ≡ 32 → byte ≡ get_or bytes i 0 → LaneHasRead bytes i self.old.state self.old.states
+            → LaneHasRead bytes (i + 1) self.new.state self.new.states }
     {
         self.state = self.state.next(byte);
         self.states[i + 1] = self.state.state();
@@ -54,8 +54,8 @@ impl Lane {
     fn step(&mut self, code: &[u8], at: usize, i: usize)
         requires place { i < 32 }
         requires room { at + 32 ≤ length code.now }
-        ensures { HasRead (bundle_at code.now at) i self.old.state self.old.states
-            → HasRead (bundle_at code.now at) (i + 1) self.new.state self.new.states }
+        ensures { LaneHasRead (bundle_bytes code.now at) i self.old.state self.old.states
+            → LaneHasRead (bundle_bytes code.now at) (i + 1) self.new.state self.new.states }
     {
         self.read(i, code[at + i]);
     }
@@ -65,7 +65,7 @@ impl Lane {
 #[inline(always)]
 pub fn run_one(code: &[u8], at: usize) -> States
     requires room { at + 32 ≤ length code.now }
-    ensures { AreStates code.now at result }
+    ensures { AreBundleStates code.now at result }
 {
     let mut lane = Lane::new();
     for i in 0..32 {
@@ -78,8 +78,8 @@ pub fn run_one(code: &[u8], at: usize) -> States
 #[inline(always)]
 pub(crate) fn run_two(code: &[u8], at: usize) -> (States, States)
     requires room { at + 64 ≤ length code.now }
-    ensures first { AreStates code.now at result.0 }
-    ensures second { AreStates code.now (at + 32) result.1 }
+    ensures first { AreBundleStates code.now at result.0 }
+    ensures second { AreBundleStates code.now (at + 32) result.1 }
 {
     let mut a = Lane::new();
     let mut b = Lane::new();
@@ -97,10 +97,10 @@ pub(crate) fn run_two(code: &[u8], at: usize) -> (States, States)
 #[inline(always)]
 pub fn run_four(code: &[u8], at: [usize; 4]) -> (States, States, States, States)
     requires room { (n : ℕ) → n < 4 → get_or at n 0 + 32 ≤ length code.now }
-    ensures first { AreStates code.now (get_or at 0 0) result.0 }
-    ensures second { AreStates code.now (get_or at 1 0) result.1 }
-    ensures third { AreStates code.now (get_or at 2 0) result.2 }
-    ensures fourth { AreStates code.now (get_or at 3 0) result.3 }
+    ensures first { AreBundleStates code.now (get_or at 0 0) result.0 }
+    ensures second { AreBundleStates code.now (get_or at 1 0) result.1 }
+    ensures third { AreBundleStates code.now (get_or at 2 0) result.2 }
+    ensures fourth { AreBundleStates code.now (get_or at 3 0) result.3 }
 {
     let mut a = Lane::new();
     let mut b = Lane::new();
@@ -155,7 +155,7 @@ fn ended(states: u8x32) -> u32
 /// The bits of a bundle, by its states.
 #[inline(always)]
 pub(crate) fn bundle_bits(states: &States) -> Bundle
-    ensures { (code : List ℕ) (at : ℕ) → at % 32 ≡ 0 → at + 32 ≤ length code → AreStates code at states.now → TellsBundle code at result }
+    ensures { (code : List ℕ) (at : ℕ) → at % 32 ≡ 0 → at + 32 ≤ length code → AreBundleStates code at states.now → TellsBundle code at result }
 {
     bits_of_states(&states[1..])
 }

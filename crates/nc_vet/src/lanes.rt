@@ -1,4 +1,4 @@
-//! Reads bundles: the automaton runs over several of them in lock step.
+//! Reads the first bundles of a chunk, eight of them in lock step as long as there are as many.
 
 ghost use Rattle.std.specs.Prelude.{◌≡◌, ◌≢◌, ◌<◌, ◌≤◌, ◌+◌, ◌-◌, ◌*◌, ◌%◌, ◌^◌, ℕ, length, vec_len, vec_capacity, get_or, slice_index, IfNone, IfSome};
 ghost use Rattle.std.specs.Int.{bit_at};

@@ -1,13 +1,14 @@
 -- Puts of one bundle, and after those of others.
 use Rattle.std.proofs.Common.{◌≡◌, ℕ, zero, suc, ◌+◌, ◌*◌, ◌%◌, ◌==◌, ◌<◌, ◌≤◌, Bool, true, false, not, List, ◌++◌, length, get_or, set, take, drop}
 use Rattle.std.proofs.Common.{ap, arith, sym, subst, ◌∙◌}
-use Rattle.std.proofs.lemmas.List.{length-append, length-drop, length-take-le, map-append, get_or-take, get_or-drop, ext_get_or}
+use Rattle.std.proofs.lemmas.List.{length-append, map-append, ext_get_or}
+use Rattle.nc_vet.proofs.Offered.{bundle_size, bundle_byte}
 use Rattle.nc_acts.specs.declared.acts.Act.{Act}
 use Rattle.nc_acts.specs.declared.acts.Act.TheVariants.{Put}
 use Rattle.nc_acts.specs.declared.acts.Entry.{Entry}
 use Rattle.nc_acts.specs.declared.acts.Entry.TheVariants.{Did}
 use Rattle.nc_acts.specs.Acts.{puts_where, is_start, is_inside}
-use Rattle.nc_acts.specs.Log.{unserialized}
+use Rattle.nc_acts.specs.Log.{only_acts}
 use Rattle.nc_region.proofs.Offered.{is_start_false}
 use Rattle.nc_entries.specs.declared.act.NcAct.{NcAct}
 use Rattle.nc_entries.specs.Shown.{act_of}
@@ -29,14 +30,6 @@ passed_all chosen at bytes initial from n (suc j) acts count fits none h =
     (omega (arith, fits)) (none j (omega arith)))
 
 -- ---- the bytes of a bundle
-
--- a bundle of the code has 32 bytes
-pub bundle_size : (code : List ℕ) (i : ℕ) → i + 32 ≤ length code → length (take 32 (drop i code)) ≡ 32
-bundle_size code i fits = length-take-le 32 (drop i code) (omega (arith, fits, length-drop i code))
-
--- a byte of a bundle is that of the code at its place
-pub bundle_byte : (code : List ℕ) (i k : ℕ) → k < 32 → get_or (take 32 (drop i code)) k 0 ≡ get_or code (i + k) 0
-bundle_byte code i k lt = get_or-take 32 (drop i code) k 0 lt ∙ get_or-drop i code k 0
 
 -- 32 bytes that are those of the code from a place on are its bundle there
 pub bundle_is : (code bytes : List ℕ) (i : ℕ) → i + 32 ≤ length code → length bytes ≡ 32
@@ -111,10 +104,10 @@ part_next chosen inner base at n bytes others initial from acts now count m long
     let all = put_all inner at others acts count 32 now m (sym long) more in
     let first : List Act = puts_where chosen base (take (32 * n) bytes) in
     let last : List Act = puts_where inner at others in
-    let added : Adds initial from now m (unserialized first ++ unserialized last) =
-    adds_both initial acts now from count m (unserialized first) (unserialized last) h.written all.written in
-    let entries : unserialized (puts_where chosen base (take (32 * (n + 1)) bytes)) ≡ unserialized first ++ unserialized last =
-    ap (λ (z : List Act). unserialized z) both ∙ map-append Did first last in
+    let added : Adds initial from now m (only_acts first ++ only_acts last) =
+    adds_both initial acts now from count m (only_acts first) (only_acts last) h.written all.written in
+    let entries : only_acts (puts_where chosen base (take (32 * (n + 1)) bytes)) ≡ only_acts first ++ only_acts last =
+    ap (λ (z : List Act). only_acts z) both ∙ map-append Did first last in
     record {
       len = all.len ∙ h.len;
       counted = omega (arith, all.counted, h.counted, ap (λ (z : List Act). length z) both, length-append first last);

@@ -9,7 +9,7 @@ use Rattle.nc_acts.specs.declared.acts.Act.TheVariants.{Put}
 use Rattle.nc_acts.specs.declared.acts.Entry.{Entry}
 use Rattle.nc_acts.specs.declared.acts.Entry.TheVariants.{Did, Serialized}
 use Rattle.nc_acts.specs.Acts.{puts_where}
-use Rattle.nc_acts.specs.Log.{unserialized}
+use Rattle.nc_acts.specs.Log.{only_acts}
 use Rattle.nc_region.specs.Patch.{any_place, stands_there, log_of_instruction, log_of_modify}
 use Rattle.nc_region.proofs.Offered.{Parted, slice_rest}
 use Rattle.nc_entries.specs.declared.act.NcAct.{NcAct}
@@ -31,7 +31,7 @@ of_one at (x ∷ y ∷ rest) e = absurd (omega (arith, e))
 -- the log of an instruction of several bytes: a stop, the bytes behind the first, the first
 pub of_more : (at : ℕ) (bytes : List ℕ) → 1 < length bytes
     → log_of_instruction at bytes ≡ Did (Put at 244) ∷ Serialized
-    ∷ (unserialized (puts_where any_place (at + 1) (drop 1 bytes)) ++ (Serialized ∷ Did (Put at (get_or bytes 0 0)) ∷ []))
+    ∷ (only_acts (puts_where any_place (at + 1) (drop 1 bytes)) ++ (Serialized ∷ Did (Put at (get_or bytes 0 0)) ∷ []))
 of_more at [] lt = absurd (omega (arith, lt))
 of_more at (x ∷ []) lt = absurd (omega (arith, lt))
 of_more at (x ∷ y ∷ rest) lt = refl
@@ -49,14 +49,14 @@ pub longer_added : (at : ℕ) (bytes : List ℕ) (acts one two three four five :
 longer_added at bytes acts one two three four five from n m k l o lt first stopped middle serialized last =
     let all = put_all any_place (at + 1) (take (length bytes - 1) (drop 1 bytes)) two m (length (take (length bytes - 1) (drop 1 bytes))) three k
     refl middle in
-    let puts : Adds two m three k (unserialized (puts_where any_place (at + 1) (drop 1 bytes))) =
-    subst (λ (z : List ℕ). Adds two m three k (unserialized (puts_where any_place (at + 1) z))) (slice_rest bytes 1) all.written in
+    let puts : Adds two m three k (only_acts (puts_where any_place (at + 1) (drop 1 bytes))) =
+    subst (λ (z : List ℕ). Adds two m three k (only_acts (puts_where any_place (at + 1) z))) (slice_rest bytes 1) all.written in
     let end : List Entry = Serialized ∷ Did (Put at (get_or bytes 0 0)) ∷ [] in
-    let rest : List Entry = unserialized (puts_where any_place (at + 1) (drop 1 bytes)) ++ end in
+    let rest : List Entry = only_acts (puts_where any_place (at + 1) (drop 1 bytes)) ++ end in
     subst (λ (z : List Entry). Adds acts from five o z) (sym (of_more at bytes lt))
     (adds_both acts one five from n o (Did (Put at 244) ∷ []) (Serialized ∷ rest) first
     (adds_both one two five n m o (Serialized ∷ []) rest stopped
-    (adds_both two three five m k o (unserialized (puts_where any_place (at + 1) (drop 1 bytes))) end puts
+    (adds_both two three five m k o (only_acts (puts_where any_place (at + 1) (drop 1 bytes))) end puts
     (adds_both three four five k l o (Serialized ∷ []) (Did (Put at (get_or bytes 0 0)) ∷ []) serialized last))))
 
 -- the place after the first stop and the further bytes

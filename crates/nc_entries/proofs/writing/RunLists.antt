@@ -13,7 +13,7 @@ use Rattle.nc_acts.specs.declared.acts.Act.{Act}
 use Rattle.nc_acts.specs.declared.acts.Act.TheVariants.{Put}
 use Rattle.nc_acts.specs.declared.acts.Entry.{Entry}
 use Rattle.nc_acts.specs.Acts.{puts_where}
-use Rattle.nc_acts.specs.Log.{unserialized}
+use Rattle.nc_acts.specs.Log.{only_acts}
 use Rattle.nc_entries.specs.declared.runs.Places.{Places}
 use Rattle.nc_entries.specs.declared.runs.Places.TheVariants.{Inside, Starts, Marked, Unmarked}
 use Rattle.nc_entries.specs.Runs.{Run, PutRun, StopRun, puts_by_bits, entries_of, entries_in, bits_where, bits_at, runs_where}
@@ -51,11 +51,11 @@ bundle_long i bytes le =
 -- the entries of a run of the chunk's bytes are puts at the places that pass
 put_entries : (chosen : ℕ → Bool) (base : ℕ) (code : List ℕ) (i bits : ℕ) → 32 * i + 32 ≤ length code
     → AreBits chosen (base + 32 * i) 32 bits
-    → entries_of base code (PutRun (base + 32 * i) bits) ≡ unserialized (puts_where chosen (base + 32 * i) (take 32 (drop (32 * i) code)))
+    → entries_of base code (PutRun (base + 32 * i) bits) ≡ only_acts (puts_where chosen (base + 32 * i) (take 32 (drop (32 * i) code)))
 put_entries chosen base code i bits le h =
     let here : base + 32 * i - base ≡ 32 * i = omega arith in
-    ap (λ (k : ℕ). unserialized (puts_by_bits (base + 32 * i) bits (take 32 (drop k code)))) here
-    ∙ ap (λ (z : List Act). unserialized z)
+    ap (λ (k : ℕ). only_acts (puts_by_bits (base + 32 * i) bits (take 32 (drop k code)))) here
+    ∙ ap (λ (z : List Act). only_acts z)
     (by_bits chosen (base + 32 * i) 32 bits (take 32 (drop (32 * i) code)) h (bundle_long i code le))
 
 -- a bundle of a chunk's stops is 32 stops
@@ -67,17 +67,17 @@ stops_there n i le =
 stop_entries : (chosen : ℕ → Bool) (base : ℕ) (code : List ℕ) (i bits : ℕ) → 32 * i + 32 ≤ length code
     → AreBits chosen (base + 32 * i) 32 bits
     → entries_of base code (StopRun (base + 32 * i) bits)
-    ≡ unserialized (puts_where chosen (base + 32 * i) (take 32 (drop (32 * i) (replicate {A = ℕ} (length code) 244))))
+    ≡ only_acts (puts_where chosen (base + 32 * i) (take 32 (drop (32 * i) (replicate {A = ℕ} (length code) 244))))
 stop_entries chosen base code i bits le h =
-    ap (λ (z : List Act). unserialized z)
+    ap (λ (z : List Act). only_acts z)
     (by_bits chosen (base + 32 * i) 32 bits (replicate {A = ℕ} 32 244) h (omega (arith, length-replicate {A = ℕ} 32 244)))
-    ∙ ap (λ (z : List ℕ). unserialized (puts_where chosen (base + 32 * i) z)) (sym (stops_there (length code) i le))
+    ∙ ap (λ (z : List ℕ). only_acts (puts_where chosen (base + 32 * i) z)) (sym (stops_there (length code) i le))
 
 -- the entries of a run are puts at the places that it picks
 pub run_entries : (places : Places) (marks : ℕ → Mark) (base : ℕ) (code : List ℕ) (i bits : ℕ) → 32 * i + 32 ≤ length code
     → HasBits (picks places marks base) (base + 32 * i) 32 bits
     → entries_of base code (run_at places (base + 32 * i) bits)
-    ≡ unserialized (puts_where (picks places marks base) (base + 32 * i) (take 32 (drop (32 * i) (bytes_for places code))))
+    ≡ only_acts (puts_where (picks places marks base) (base + 32 * i) (take 32 (drop (32 * i) (bytes_for places code))))
 run_entries Inside marks base code i bits le h = put_entries (picks Inside marks base) base code i bits le h.are
 run_entries Starts marks base code i bits le h = put_entries (picks Starts marks base) base code i bits le h.are
 run_entries Marked marks base code i bits le h = stop_entries (picks Marked marks base) base code i bits le h.are

@@ -9,7 +9,7 @@ use Rattle.nc_acts.specs.declared.acts.Act.{Act}
 use Rattle.nc_acts.specs.declared.acts.Entry.{Entry}
 use Rattle.nc_acts.specs.declared.acts.Entry.TheVariants.{Did}
 use Rattle.nc_acts.specs.Acts.{puts_where}
-use Rattle.nc_acts.specs.Log.{unserialized}
+use Rattle.nc_acts.specs.Log.{only_acts}
 use Rattle.nc_entries.specs.declared.act.NcAct.{NcAct}
 use Rattle.nc_entries.specs.declared.runs.Places.{Places}
 use Rattle.nc_entries.specs.Runs.{Run, run_of, entries_of, bits_at, runs_where, HasRuns}
@@ -63,7 +63,7 @@ one_bundle : (places : Places) (marks : ℕ → Mark) (base : ℕ) (code : List 
     → 32 * n + 32 ≤ length code → HasBits (picks places marks base) (base + 32 * n) 32 bits → count < length acts
     → AddsRuns base code acts count (set acts count (run_of (run_at places (base + 32 * n) bits))) (count + 1)
     (run_at places (base + 32 * n) (bits_at (picks places marks base) (base + 32 * n)) ∷ [])
-    (unserialized (puts_where (picks places marks base) (base + 32 * n) (take 32 (drop (32 * n) (bytes_for places code)))))
+    (only_acts (puts_where (picks places marks base) (base + 32 * n) (take 32 (drop (32 * n) (bytes_for places code)))))
 one_bundle places marks base code n acts count bits le are lt =
     let now : List NcAct = set acts count (run_of (run_at places (base + 32 * n) bits)) in
     subst (λ (z : List Entry). AddsRuns base code acts count now (count + 1)
@@ -86,18 +86,18 @@ run_next places marks base code initial from n acts count bits h le are lt =
     let here : List Act = puts_where chosen (base + 32 * n) (take 32 (drop (32 * n) bytes)) in
     let first : List Run = runs_where (run_at places) chosen base n in
     let last : List Run = run_at places (base + 32 * n) (bits_at chosen (base + 32 * n)) ∷ [] in
-    let both : unserialized (puts_where chosen base (take (32 * (n + 1)) bytes)) ≡ unserialized before ++ unserialized here =
-    ap (λ (z : List Act). unserialized z) (bundle_more chosen base n bytes (omega (arith, le, bytes_long places code)))
+    let both : only_acts (puts_where chosen base (take (32 * (n + 1)) bytes)) ≡ only_acts before ++ only_acts here =
+    ap (λ (z : List Act). only_acts z) (bundle_more chosen base n bytes (omega (arith, le, bytes_long places code)))
     ∙ map-append Did before here in
     let all : runs_where (run_at places) chosen base (n + 1) ≡ first ++ last =
     ap (λ (m : ℕ). runs_where (run_at places) chosen base m) {x = n + 1} {y = suc n} (omega arith) ∙ runs_more (run_at places) chosen base n in
     record {
       len = length-set acts count (run_of (run_at places (base + 32 * n) bits)) ∙ h.len;
       counted = omega (arith, h.counted);
-      written = subst (λ (z : List Run). AddsRuns base code initial from now (count + 1) z (unserialized (puts_where chosen base (take (32 * (n + 1)) bytes))))
+      written = subst (λ (z : List Run). AddsRuns base code initial from now (count + 1) z (only_acts (puts_where chosen base (take (32 * (n + 1)) bytes))))
           (sym all)
           (subst (λ (z : List Entry). AddsRuns base code initial from now (count + 1) (first ++ last) z) (sym both)
-          (adds_both_runs base code initial acts now from count (count + 1) first last (unserialized before) (unserialized here) h.written
+          (adds_both_runs base code initial acts now from count (count + 1) first last (only_acts before) (only_acts here) h.written
           (one_bundle places marks base code n acts count bits le are lt)));
     }
 
@@ -105,11 +105,11 @@ run_next places marks base code initial from n acts count bits h le are lt =
 pub run_all : (places : Places) (marks : ℕ → Mark) (base : ℕ) (code : List ℕ) (initial : List NcAct) (from n : ℕ) (acts : List NcAct)
     (count : ℕ) → 32 * n ≡ length code → HasRunUpTo places marks base code initial from n acts count
     → AddsRuns base code initial from acts count (runs_where (run_at places) (picks places marks base) base (length code / 32))
-    (unserialized (puts_where (picks places marks base) base (bytes_for places code)))
+    (only_acts (puts_where (picks places marks base) base (bytes_for places code)))
 run_all places marks base code initial from n acts count e h =
     let bytes : List ℕ = bytes_for places code in
     let all : take (32 * n) bytes ≡ bytes = ap (λ (k : ℕ). take k bytes) (e ∙ sym (bytes_long places code)) ∙ take-length bytes in
     subst (λ (k : ℕ). AddsRuns base code initial from acts count (runs_where (run_at places) (picks places marks base) base k)
-    (unserialized (puts_where (picks places marks base) base bytes))) {x = n} {y = length code / 32} (omega (arith, e))
+    (only_acts (puts_where (picks places marks base) base bytes))) {x = n} {y = length code / 32} (omega (arith, e))
     (subst (λ (z : List ℕ). AddsRuns base code initial from acts count (runs_where (run_at places) (picks places marks base) base n)
-    (unserialized (puts_where (picks places marks base) base z))) all h.written)
+    (only_acts (puts_where (picks places marks base) base z))) all h.written)

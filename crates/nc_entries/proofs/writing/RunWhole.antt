@@ -9,7 +9,7 @@ use Rattle.nc_acts.specs.declared.acts.Act.TheVariants.{MarkSpan, Bump}
 use Rattle.nc_acts.specs.declared.acts.Entry.{Entry}
 use Rattle.nc_acts.specs.declared.acts.Entry.TheVariants.{Did, Serialized}
 use Rattle.nc_acts.specs.Acts.{puts_where, is_start, is_inside, is_marked_at}
-use Rattle.nc_acts.specs.Log.{unserialized, log_of_create, log_of_delete}
+use Rattle.nc_acts.specs.Log.{only_acts, log_of_create, log_of_delete}
 use Rattle.nc_entries.specs.declared.act.NcAct.{NcAct}
 use Rattle.nc_entries.specs.Shown.{entry_of}
 use Rattle.nc_entries.specs.Standing.{AreMarksAt}
@@ -33,17 +33,17 @@ then_single base code acts next last n m k a runs rest e f lt more =
 
 -- the runs of a creation
 pub creation_runs : (base : ℕ) (code : List ℕ) (acts acts1 acts2 acts3 acts4 : List NcAct) (n1 n2 n3 n4 : ℕ)
-    → AddsRuns base code acts 0 acts1 n1 (runs_where PutRun is_inside base (length code / 32)) (unserialized (puts_where is_inside base code))
+    → AddsRuns base code acts 0 acts1 n1 (runs_where PutRun is_inside base (length code / 32)) (only_acts (puts_where is_inside base code))
     → length acts1 ≡ length acts → n1 ≡ 0 + length code / 32 → acts2 ≡ set acts1 n1 (entry_of Serialized) → n2 ≡ n1 + 1
     → acts3 ≡ set acts2 n2 (entry_of (Did (MarkSpan base (length code)))) → n3 ≡ n2 + 1
-    → AddsRuns base code acts3 n3 acts4 n4 (runs_where PutRun is_start base (length code / 32)) (unserialized (puts_where is_start base code))
+    → AddsRuns base code acts3 n3 acts4 n4 (runs_where PutRun is_start base (length code / 32)) (only_acts (puts_where is_start base code))
     → n4 ≡ n3 + length code / 32 → 2 * (length code / 32) + 2 ≤ length acts
     → HasRuns acts acts4 (2 * (length code / 32) + 2) base code (runs_of_create base code) (log_of_create base code)
 creation_runs base code acts acts1 acts2 acts3 acts4 n1 n2 n3 n4 one long m1 e2 m2 e3 m3 rest m4 room =
     let bundles : ℕ = length code / 32 in
     let long2 = ap (λ (z : List NcAct). length z) e2 ∙ length-set acts1 n1 (entry_of Serialized) in
     let marks : Entry = Did (MarkSpan base (length code)) in
-    let starts : List Entry = unserialized (puts_where is_start base code) in
+    let starts : List Entry = only_acts (puts_where is_start base code) in
     let last : List Run = runs_where PutRun is_start base bundles in
     let marked : AddsRuns base code acts2 n2 acts4 n4 (Single marks ∷ last) (marks ∷ starts) =
     then_single base code acts2 acts3 acts4 n2 n3 n4 marks last starts e3 m3 (omega (arith, long, long2, m1, m2, room)) rest in
@@ -51,7 +51,7 @@ creation_runs base code acts acts1 acts2 acts3 acts4 n1 n2 n3 n4 one long m1 e2 
     (omega (arith, long, m1, room)) marked in
     let all : HasRuns acts acts4 n4 base code (runs_of_create base code) (log_of_create base code) =
     adds_both_runs base code acts acts1 acts4 0 n1 n4 (runs_where PutRun is_inside base bundles) (Single Serialized ∷ Single marks ∷ last)
-    (unserialized (puts_where is_inside base code)) (Serialized ∷ marks ∷ starts) one serialized acts [] [] (no_runs acts base code) in
+    (only_acts (puts_where is_inside base code)) (Serialized ∷ marks ∷ starts) one serialized acts [] [] (no_runs acts base code) in
     subst (λ (n : ℕ). HasRuns acts acts4 n base code (runs_of_create base code) (log_of_create base code))
     {x = n4} {y = 2 * (length code / 32) + 2} (omega (arith, m1, m2, m3, m4)) all
 
@@ -69,16 +69,16 @@ by_text : (marks : ℕ → Mark) (text : List Mark) (base : ℕ) (code : List �
     → HasRuns acts acts4 n base code
     (runs_where StopRun (marks_if true marks base) base (length code / 32)
     ++ (Single Serialized ∷ (runs_where StopRun (marks_if false marks base) base (length code / 32) ++ Single (Did Bump) ∷ [])))
-    (unserialized (puts_where (marks_if true marks base) base (replicate {A = ℕ} (length code) 244))
-    ++ (Serialized ∷ (unserialized (puts_where (marks_if false marks base) base (replicate {A = ℕ} (length code) 244)) ++ Did Bump ∷ [])))
+    (only_acts (puts_where (marks_if true marks base) base (replicate {A = ℕ} (length code) 244))
+    ++ (Serialized ∷ (only_acts (puts_where (marks_if false marks base) base (replicate {A = ℕ} (length code) 244)) ++ Did Bump ∷ [])))
     → HasRuns acts acts4 n base code (runs_of_delete text base (length code)) (log_of_delete text base (length code))
 by_text marks text base code acts acts4 n stand h =
     let bytes : List ℕ = replicate {A = ℕ} (length code) 244 in
     let others : List Act = puts_where (marks_if false marks base) base bytes in
     let last : List Run = runs_where StopRun (marks_if false marks base) base (length code / 32) in
     let log : _ ≡ log_of_delete text base (length code) =
-    ap (λ (z : List Act). unserialized z ++ (Serialized ∷ (unserialized others ++ Did Bump ∷ []))) (same_stops true marks text base (length code) stand)
-    ∙ ap (λ (z : List Act). unserialized (puts_where (is_marked_at text) base bytes) ++ (Serialized ∷ (unserialized z ++ Did Bump ∷ [])))
+    ap (λ (z : List Act). only_acts z ++ (Serialized ∷ (only_acts others ++ Did Bump ∷ []))) (same_stops true marks text base (length code) stand)
+    ∙ ap (λ (z : List Act). only_acts (puts_where (is_marked_at text) base bytes) ++ (Serialized ∷ (only_acts z ++ Did Bump ∷ [])))
     (same_stops false marks text base (length code) stand) in
     let runs : _ ≡ runs_of_delete text base (length code) =
     ap (λ (z : List Run). z ++ (Single Serialized ∷ (last ++ Single (Did Bump) ∷ []))) (same_runs true marks text base (length code) stand)
@@ -86,22 +86,22 @@ by_text marks text base code acts acts4 n stand h =
     ++ (Single Serialized ∷ (z ++ Single (Did Bump) ∷ []))) (same_runs false marks text base (length code) stand) in
     subst (λ (z : List Entry). HasRuns acts acts4 n base code (runs_of_delete text base (length code)) z) log
     (subst (λ (z : List Run). HasRuns acts acts4 n base code z
-    (unserialized (puts_where (marks_if true marks base) base bytes) ++ (Serialized ∷ (unserialized others ++ Did Bump ∷ [])))) runs h)
+    (only_acts (puts_where (marks_if true marks base) base bytes) ++ (Serialized ∷ (only_acts others ++ Did Bump ∷ [])))) runs h)
 
 -- the runs of a deletion
 pub deletion_runs : (marks : ℕ → Mark) (text : List Mark) (base : ℕ) (code : List ℕ) (acts acts1 acts2 acts3 acts4 : List NcAct) (n1 n2 n3 : ℕ)
     → AddsRuns base code acts 0 acts1 n1 (runs_where StopRun (marks_if true marks base) base (length code / 32))
-    (unserialized (puts_where (marks_if true marks base) base (replicate {A = ℕ} (length code) 244)))
+    (only_acts (puts_where (marks_if true marks base) base (replicate {A = ℕ} (length code) 244)))
     → length acts1 ≡ length acts → n1 ≡ 0 + length code / 32 → acts2 ≡ set acts1 n1 (entry_of Serialized) → n2 ≡ n1 + 1
     → AddsRuns base code acts2 n2 acts3 n3 (runs_where StopRun (marks_if false marks base) base (length code / 32))
-    (unserialized (puts_where (marks_if false marks base) base (replicate {A = ℕ} (length code) 244)))
+    (only_acts (puts_where (marks_if false marks base) base (replicate {A = ℕ} (length code) 244)))
     → length acts3 ≡ length acts2 → n3 ≡ n2 + length code / 32 → acts4 ≡ set acts3 n3 (entry_of (Did Bump))
     → 2 * (length code / 32) + 2 ≤ length acts → AreMarksAt text base (length code) marks
     → HasRuns acts acts4 (2 * (length code / 32) + 2) base code (runs_of_delete text base (length code)) (log_of_delete text base (length code))
 deletion_runs marks text base code acts acts1 acts2 acts3 acts4 n1 n2 n3 one long m1 e2 m2 rest long3 m3 e4 room stand =
     let bytes : List ℕ = replicate {A = ℕ} (length code) 244 in
-    let ones : List Entry = unserialized (puts_where (marks_if true marks base) base bytes) in
-    let others : List Entry = unserialized (puts_where (marks_if false marks base) base bytes) in
+    let ones : List Entry = only_acts (puts_where (marks_if true marks base) base bytes) in
+    let others : List Entry = only_acts (puts_where (marks_if false marks base) base bytes) in
     let first_runs : List Run = runs_where StopRun (marks_if true marks base) base (length code / 32) in
     let other_runs : List Run = runs_where StopRun (marks_if false marks base) base (length code / 32) in
     let end_runs : List Run = Single (Did Bump) ∷ [] in

@@ -9,7 +9,7 @@ use Rattle.nc_acts.specs.declared.acts.Act.TheVariants.{MarkSpan, Bump}
 use Rattle.nc_acts.specs.declared.acts.Entry.{Entry}
 use Rattle.nc_acts.specs.declared.acts.Entry.TheVariants.{Did, Serialized}
 use Rattle.nc_acts.specs.Acts.{puts_where, is_start, is_inside, is_marked_at}
-use Rattle.nc_acts.specs.Log.{unserialized, log_of_create, log_of_delete}
+use Rattle.nc_acts.specs.Log.{only_acts, log_of_create, log_of_delete}
 use Rattle.nc_entries.specs.declared.act.NcAct.{NcAct}
 use Rattle.nc_entries.specs.Shown.{entry_of}
 use Rattle.nc_entries.specs.Standing.{AreMarksAt}
@@ -37,7 +37,7 @@ both_of_delete marks base len =
 pub record WroteFirst (chosen : ℕ → Bool) (base : ℕ) (bytes : List ℕ) (acts now : List NcAct) (count : ℕ) : Type 0 where
   pub len : length now ≡ length acts
   pub counted : count ≡ length (puts_where chosen base bytes)
-  pub written : Adds acts 0 now count (unserialized (puts_where chosen base bytes))
+  pub written : Adds acts 0 now count (only_acts (puts_where chosen base bytes))
 
 pub first_written : (chosen : ℕ → Bool) (base : ℕ) (bytes : List ℕ) (acts now : List NcAct) (n count : ℕ) → n ≡ length bytes
     → HasPutUpTo chosen base bytes acts 0 n now count → WroteFirst chosen base bytes acts now count
@@ -64,12 +64,12 @@ creation_written base code acts acts1 acts2 acts3 acts4 n1 n2 n3 n4 h1 e2 m2 e3 
     let long2 = ap (λ (z : List NcAct). length z) e2 ∙ length-set acts1 n1 (entry_of Serialized) in
     let lt1 : n1 < length acts1 = omega (arith, one.len, one.counted, room, both) in
     let lt2 : n2 < length acts2 = omega (arith, one.len, one.counted, room, both, m2, long2) in
-    let starts : List Entry = unserialized (puts_where is_start base code) in
+    let starts : List Entry = only_acts (puts_where is_start base code) in
     let marked : Adds acts2 n2 acts4 n4 (Did (MarkSpan base (length code)) ∷ starts) =
     then_entry acts2 acts3 acts4 n2 n3 n4 (Did (MarkSpan base (length code))) starts e3 m3 lt2 rest.written in
     let serialized = then_entry acts1 acts2 acts4 n1 n2 n4 Serialized (Did (MarkSpan base (length code)) ∷ starts) e2 m2 lt1 marked in
     let all : HasWritten acts acts4 n4 (log_of_create base code) =
-    adds_both acts acts1 acts4 0 n1 n4 (unserialized (puts_where is_inside base code)) (Serialized ∷ Did (MarkSpan base (length code)) ∷ starts)
+    adds_both acts acts1 acts4 0 n1 n4 (only_acts (puts_where is_inside base code)) (Serialized ∷ Did (MarkSpan base (length code)) ∷ starts)
     one.written serialized acts [] (none_written acts) in
     subst (λ (n : ℕ). HasWritten acts acts4 n (log_of_create base code)) {x = n4} {y = length code + 2}
     (omega (arith, rest.counted, m2, m3, one.counted, both)) all
@@ -109,14 +109,14 @@ deletion_written marks text base len acts acts1 acts2 acts3 acts4 n1 n2 n3 h1 e2
     let lt1 : n1 < length acts1 = omega (arith, one.len, one.counted, room, both) in
     let lt3 : n3 < length acts3 = omega (arith, many, rest.len, long2, one.len, room) in
     let last : Adds acts3 n3 acts4 (n3 + 1) (Did Bump ∷ []) = rw e4 (adds_one acts3 n3 (Did Bump) lt3) in
-    let stops = adds_both acts2 acts3 acts4 n2 n3 (n3 + 1) (unserialized others) (Did Bump ∷ []) rest.written last in
-    let serialized = then_entry acts1 acts2 acts4 n1 n2 (n3 + 1) Serialized (unserialized others ++ Did Bump ∷ []) e2 m2 lt1 stops in
-    let all : HasWritten acts acts4 (n3 + 1) (unserialized ones ++ (Serialized ∷ (unserialized others ++ Did Bump ∷ []))) =
-    adds_both acts acts1 acts4 0 n1 (n3 + 1) (unserialized ones) (Serialized ∷ (unserialized others ++ Did Bump ∷ [])) one.written serialized acts []
+    let stops = adds_both acts2 acts3 acts4 n2 n3 (n3 + 1) (only_acts others) (Did Bump ∷ []) rest.written last in
+    let serialized = then_entry acts1 acts2 acts4 n1 n2 (n3 + 1) Serialized (only_acts others ++ Did Bump ∷ []) e2 m2 lt1 stops in
+    let all : HasWritten acts acts4 (n3 + 1) (only_acts ones ++ (Serialized ∷ (only_acts others ++ Did Bump ∷ []))) =
+    adds_both acts acts1 acts4 0 n1 (n3 + 1) (only_acts ones) (Serialized ∷ (only_acts others ++ Did Bump ∷ [])) one.written serialized acts []
     (none_written acts) in
-    let same : unserialized ones ++ (Serialized ∷ (unserialized others ++ Did Bump ∷ [])) ≡ log_of_delete text base len =
-    ap (λ (z : List Act). unserialized z ++ (Serialized ∷ (unserialized others ++ Did Bump ∷ []))) (same_stops true marks text base len stand)
-    ∙ ap (λ (z : List Act). unserialized (puts_where (is_marked_at text) base bytes) ++ (Serialized ∷ (unserialized z ++ Did Bump ∷ [])))
+    let same : only_acts ones ++ (Serialized ∷ (only_acts others ++ Did Bump ∷ [])) ≡ log_of_delete text base len =
+    ap (λ (z : List Act). only_acts z ++ (Serialized ∷ (only_acts others ++ Did Bump ∷ []))) (same_stops true marks text base len stand)
+    ∙ ap (λ (z : List Act). only_acts (puts_where (is_marked_at text) base bytes) ++ (Serialized ∷ (only_acts z ++ Did Bump ∷ [])))
     (same_stops false marks text base len stand) in
     subst (λ (n : ℕ). HasWritten acts acts4 n (log_of_delete text base len)) {x = n3 + 1} {y = len + 2} (omega (arith, many))
     (subst (λ (z : List Entry). HasWritten acts acts4 (n3 + 1) z) same all)

@@ -8,7 +8,7 @@ use Rattle.nc_acts.specs.declared.acts.Act.TheVariants.{Put}
 use Rattle.nc_acts.specs.declared.acts.Entry.{Entry}
 use Rattle.nc_acts.specs.declared.acts.Entry.TheVariants.{Did}
 use Rattle.nc_acts.specs.Acts.{puts_where}
-use Rattle.nc_acts.specs.Log.{unserialized}
+use Rattle.nc_acts.specs.Log.{only_acts}
 use Rattle.nc_entries.specs.declared.act.NcAct.{NcAct}
 use Rattle.nc_entries.specs.Shown.{act_of, entry_of}
 use Rattle.nc_entries.specs.Written.{HasWritten, Adds}
@@ -39,9 +39,9 @@ pub put_next : (chosen : ℕ → Bool) (at : ℕ) (bytes : List ℕ) (initial : 
 put_next chosen at bytes initial from n acts count h lt is fits =
     let more : puts_where chosen at (take (n + 1) bytes) ≡ puts_where chosen at (take n bytes) ++ Put (at + n) (get_or bytes n 0) ∷ [] =
     put_in chosen at bytes n lt is in
-    let entries : unserialized (puts_where chosen at (take (n + 1) bytes))
-    ≡ unserialized (puts_where chosen at (take n bytes)) ++ Did (Put (at + n) (get_or bytes n 0)) ∷ [] =
-    ap (λ (z : List Act). unserialized z) more ∙ map-append Did (puts_where chosen at (take n bytes)) (Put (at + n) (get_or bytes n 0) ∷ []) in
+    let entries : only_acts (puts_where chosen at (take (n + 1) bytes))
+    ≡ only_acts (puts_where chosen at (take n bytes)) ++ Did (Put (at + n) (get_or bytes n 0)) ∷ [] =
+    ap (λ (z : List Act). only_acts z) more ∙ map-append Did (puts_where chosen at (take n bytes)) (Put (at + n) (get_or bytes n 0) ∷ []) in
     record {
       len = length-set acts count (act_of (Put (at + n) (get_or bytes n 0))) ∙ h.len;
       counted = omega (
@@ -52,9 +52,9 @@ put_next chosen at bytes initial from n acts count h lt is fits =
       );
       written = λ start log w.
           subst (λ (z : List Entry). HasWritten start (set acts count (act_of (Put (at + n) (get_or bytes n 0)))) (count + 1) z)
-          (append_assoc log (unserialized (puts_where chosen at (take n bytes))) (Did (Put (at + n) (get_or bytes n 0)) ∷ [])
+          (append_assoc log (only_acts (puts_where chosen at (take n bytes))) (Did (Put (at + n) (get_or bytes n 0)) ∷ [])
           ∙ ap (λ (z : List Entry). log ++ z) (sym entries))
-          (write_one start acts count (log ++ unserialized (puts_where chosen at (take n bytes))) (Did (Put (at + n) (get_or bytes n 0)))
+          (write_one start acts count (log ++ only_acts (puts_where chosen at (take n bytes))) (Did (Put (at + n) (get_or bytes n 0)))
           (h.written start log w) fits);
     }
 
@@ -68,7 +68,7 @@ pass_next chosen at bytes initial from n acts count h lt is =
       len = h.len;
       counted = omega (arith, h.counted, ap (λ (z : List Act). length z) same);
       written = λ start log w.
-          subst (λ (z : List Act). HasWritten start acts count (log ++ unserialized z)) (sym same) (h.written start log w);
+          subst (λ (z : List Act). HasWritten start acts count (log ++ only_acts z)) (sym same) (h.written start log w);
     }
 
 -- all bytes have been looked at
@@ -76,7 +76,7 @@ pub record HasPutAll (chosen : ℕ → Bool) (at : ℕ) (bytes : List ℕ) (init
   pub len : length acts ≡ length initial
   pub counted : count ≡ from + length (puts_where chosen at bytes)
   pub written : (start : List NcAct) (log : List Entry) → HasWritten start initial from log
-      → HasWritten start acts count (log ++ unserialized (puts_where chosen at bytes))
+      → HasWritten start acts count (log ++ only_acts (puts_where chosen at bytes))
 
 pub put_all : (chosen : ℕ → Bool) (at : ℕ) (bytes : List ℕ) (initial : List NcAct) (from n : ℕ) (acts : List NcAct) (count : ℕ)
     → n ≡ length bytes → HasPutUpTo chosen at bytes initial from n acts count → HasPutAll chosen at bytes initial from acts count
@@ -86,7 +86,7 @@ put_all chosen at bytes initial from n acts count e h =
       len = h.len;
       counted = subst (λ (z : List ℕ). count ≡ from + length (puts_where chosen at z)) all h.counted;
       written = λ start log w.
-          subst (λ (z : List ℕ). HasWritten start acts count (log ++ unserialized (puts_where chosen at z))) all (h.written start log w);
+          subst (λ (z : List ℕ). HasWritten start acts count (log ++ only_acts (puts_where chosen at z))) all (h.written start log w);
     }
 
 -- a buffer that stays has no entry added

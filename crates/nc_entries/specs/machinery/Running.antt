@@ -3,7 +3,7 @@ use Rattle.std.specs.Prelude.{◌≡◌, ℕ, zero, suc, ◌+◌, ◌*◌, ◌/�
 use Rattle.nc_decode.specs.declared.instruction.Mark.{Mark}
 use Rattle.nc_acts.specs.declared.acts.Entry.{Entry}
 use Rattle.nc_acts.specs.Acts.{puts_where, is_start, is_inside}
-use Rattle.nc_acts.specs.Log.{unserialized}
+use Rattle.nc_acts.specs.Log.{only_acts}
 use Rattle.nc_entries.specs.declared.act.NcAct.{NcAct}
 use Rattle.nc_entries.specs.declared.runs.Places.{Places}
 use Rattle.nc_entries.specs.declared.runs.Places.TheVariants.{Inside, Starts, Marked, Unmarked}
@@ -52,4 +52,4 @@ pub record HasRunUpTo (places : Places) (marks : ℕ → Mark) (base : ℕ) (cod
   pub len : length acts ≡ length initial
   pub counted : count ≡ from + n
   pub written : AddsRuns base code initial from acts count (runs_where (run_at places) (picks places marks base) base n)
-      (unserialized (puts_where (picks places marks base) base (take (32 * n) (bytes_for places code))))
+      (only_acts (puts_where (picks places marks base) base (take (32 * n) (bytes_for places code))))

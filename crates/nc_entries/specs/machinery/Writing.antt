@@ -5,7 +5,7 @@ use Rattle.nc_decode.specs.declared.instruction.Mark.{Mark}
 use Rattle.nc_acts.specs.declared.acts.Entry.{Entry}
 use Rattle.nc_acts.specs.Acts.{puts_where, is_mark}
 pub use Rattle.nc_acts.specs.Acts.{starts_if}
-use Rattle.nc_acts.specs.Log.{unserialized}
+use Rattle.nc_acts.specs.Log.{only_acts}
 use Rattle.nc_entries.specs.declared.act.NcAct.{NcAct}
 use Rattle.nc_entries.specs.Written.{HasWritten}
 
@@ -16,7 +16,7 @@ pub record HasPutUpTo (chosen : ℕ → Bool) (at : ℕ) (bytes : List ℕ) (ini
   pub len : length acts ≡ length initial
   pub counted : count ≡ from + length (puts_where chosen at (take n bytes))
   pub written : (start : List NcAct) (log : List Entry) → HasWritten start initial from log
-      → HasWritten start acts count (log ++ unserialized (puts_where chosen at (take n bytes)))
+      → HasWritten start acts count (log ++ only_acts (puts_where chosen at (take n bytes)))
 
 -- a mark that stands for a state, or one that stands for none
 abbrev pub mark_if : Bool → Mark → Bool

@@ -1,7 +1,7 @@
 -- Machinery of the proofs, cited by no public contract: the classes of a bundle by the states of the automaton.
 use Rattle.std.specs.Prelude.{◌≡◌, ℕ, ◌≤◌, Option, None, List, [], ◌∷◌, length, ◌==◌, nat_lt, slice_index, if◌then◌else◌}
 use Rattle.nc_decode.specs.declared.automaton.TheConstants.{END, AFTER_PAIR}
-use Rattle.nc_vet.specs.States.{states_after, bundle_at}
+use Rattle.nc_vet.specs.States.{states_after, bundle_bytes}
 use Rattle.nc_reading.specs.declared.class.Class.{Class}
 use Rattle.nc_reading.specs.declared.class.Class.TheVariants.{Inside, Entry, Second}
 use Rattle.nc_reading.specs.machinery.Seen.{HasFilled}
@@ -17,7 +17,7 @@ classes_by before (s ∷ states) = class_by before (slice_index states 0) ∷ cl
 
 -- the classes of the bytes of the bundle that begins at a place of the code, if an instruction ends at its end
 abbrev pub bundle_classes : List ℕ → ℕ → List Class
-bundle_classes code at = classes_by END (states_after END (bundle_at code at))
+bundle_classes code at = classes_by END (states_after END (bundle_bytes code at))
 
 -- If `old` has the classes of the bytes before a place, `new` has those of the bytes before `end`, which is that place or
 -- a later one.

@@ -27,7 +27,7 @@ use Rattle.nc_region.proofs.patching.Runs.{apart_by_index}
 use Rattle.nc_acts.proofs.Offered.{place_of, Before, Within, Behind, span_within, span_before, span_behind}
 use Rattle.nc_acts.proofs.Offered.{told_logged, deleted_acts}
 
--- one chunk of a ascending list put in place of another of the same span
+-- one chunk of an ascending list put in place of another of the same span
 ascending_set : (from : ℕ) (chunks : List Chunk) (k : ℕ) (c d : Chunk) → IsAscending from chunks → k < length chunks → get_or chunks k c ≡ c
     → d.base ≡ c.base → d.length ≡ c.length → IsAscending from (set chunks k d)
 ascending_set from [] k c d ascending lt here b l = absurd (omega arith)
@@ -92,7 +92,7 @@ stops_there old new chunks k c r at inside =
     ∙ (span_within old.bytes c.base (replicate c.length 244) at 0 p.low (omega (arith, n, p.high)) inside.0 (omega (arith, inside.1, n))
     ∙ get_or-replicate c.length (at - c.base) 244 0 (omega (arith, inside.0, inside.1)))
 
--- each other chunk of a ascending list lies beside the one at an index
+-- each other chunk of an ascending list lies beside the one at an index
 others_beside : (old : MarkedText) (chunks : List Chunk) (k : ℕ) (c : Chunk) → IsAscending 65536 chunks → k < length chunks
     → get_or chunks k c ≡ c → (i : ℕ) → i < length chunks → i ≢ k → LiesBeside c (get_or chunks i c)
 others_beside old chunks k c ascending inside here i lt other =

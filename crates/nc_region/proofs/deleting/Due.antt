@@ -12,7 +12,7 @@ use Rattle.nc_acts.specs.Chunks.{HasGoodSpan}
 use Rattle.nc_region.specs.Each.{Each}
 use Rattle.nc_region.specs.Region.{Region, IsLive, IsAscending, told}
 use Rattle.nc_gens.specs.Seen.{HasLooked, least_number}
-use Rattle.nc_acts.specs.Log.{Logs, unserialized}
+use Rattle.nc_acts.specs.Log.{Logs, only_acts}
 use Rattle.nc_region.specs.Deletion.{is_due, freed, kept, unmarked, unmarkings, IsReclaimed}
 use Rattle.nc_acts.proofs.Offered.{logs_more, told_logged, acts_back}
 
@@ -56,12 +56,12 @@ pub reclaimed_is : (old new : Region) (halfway : List Entry) (count least : ℕ)
     → least ≡ least_number new.keeper.numbers
     → new.chunks ≡ kept least old.chunks → count ≡ length (freed least old.chunks)
     → new.marked ≡ unmarked old.marked (freed least old.chunks) → new.made ≡ old.made
-    → Logs old.logged halfway (Did Look ∷ []) → Logs halfway new.logged (unserialized (unmarkings (freed least old.chunks)))
+    → Logs old.logged halfway (Did Look ∷ []) → Logs halfway new.logged (only_acts (unmarkings (freed least old.chunks)))
     → IsReclaimed old new count
 reclaimed_is old new halfway count least looked is chunks count_is marked made look rest =
     let acts = Look ∷ unmarkings (freed least old.chunks) in
-    let log : Logs old.logged new.logged (unserialized acts) =
-    logs_more old.logged halfway new.logged (Did Look ∷ []) (unserialized (unmarkings (freed least old.chunks))) look rest in
+    let log : Logs old.logged new.logged (only_acts acts) =
+    logs_more old.logged halfway new.logged (Did Look ∷ []) (only_acts (unmarkings (freed least old.chunks))) look rest in
     record {
       looked = looked;
       chunks = chunks ∙ ap (λ (n : ℕ). kept n old.chunks) is;
@@ -70,6 +70,6 @@ reclaimed_is old new halfway count least looked is chunks count_is marked made l
       bytes = ap (λ (m : MarkedText). m.bytes) marked ∙ unmarked_bytes old.marked (freed least old.chunks);
       others = ap (λ (d : List Bool). with_pages new d) made;
       acts = subst (λ (n : ℕ). told new ≡ told old ++ Look ∷ unmarkings (freed n old.chunks)) is
-          (told_logged old.logged new.logged (unserialized acts) acts (acts_back acts) log);
-      log = subst (λ (n : ℕ). Logs old.logged new.logged (unserialized (Look ∷ unmarkings (freed n old.chunks)))) is log;
+          (told_logged old.logged new.logged (only_acts acts) acts (acts_back acts) log);
+      log = subst (λ (n : ℕ). Logs old.logged new.logged (only_acts (Look ∷ unmarkings (freed n old.chunks)))) is log;
     }

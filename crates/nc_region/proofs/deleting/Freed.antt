@@ -19,7 +19,7 @@ rises_without : (from : ℕ) (before after : List Chunk) (c : Chunk) → IsAscen
 rises_without from [] after c ascending = rises_lower from (c.base + c.length) after (omega (arith, ascending.0)) ascending.1
 rises_without from (b ∷ before) after c ascending = (ascending.0, rises_without (b.base + b.length) before after c ascending.1)
 
--- in a ascending list the other chunks lie beside each one
+-- in an ascending list the other chunks lie beside each one
 lie_beside : (from : ℕ) (before after : List Chunk) (c : Chunk) → IsAscending from (before ++ c ∷ after)
     → Each (LiesBeside c) (before ++ after)
 lie_beside from [] after c ascending = each_map (λ (d : Chunk). c.base + c.length ≤ d.base) (LiesBeside c) (λ d h. inr h) after

@@ -11,7 +11,7 @@ use Rattle.nc_acts.specs.declared.acts.Act.{Act}
 use Rattle.nc_acts.specs.declared.acts.Act.TheVariants.{UnmarkSpan}
 use Rattle.nc_acts.specs.declared.acts.Entry.{Entry}
 use Rattle.nc_acts.specs.declared.acts.Entry.TheVariants.{Did}
-use Rattle.nc_acts.specs.Log.{Logs, unserialized}
+use Rattle.nc_acts.specs.Log.{Logs, only_acts}
 use Rattle.nc_region.specs.Deletion.{is_due, freed, kept, unmarked, unmarkings}
 use Rattle.nc_region.specs.Quiet.{IsQuiet}
 use Rattle.nc_region.specs.Region.{IsRegion}
@@ -46,7 +46,7 @@ pub unmarks_more : (xs ys : List Chunk) (a b c : MarkedText) (l m n : List Entry
     → AreUnmarked xs a b l m → AreUnmarked ys b c m n → AreUnmarked (xs ++ ys) a c l n
 unmarks_more xs ys a b c l m n first second = record {
   marked = second.marked ∙ (ap (λ (z : MarkedText). unmarked z ys) first.marked ∙ sym (unmarked_append a xs ys));
-  logs = subst (λ (z : List Act). Logs l n (unserialized z)) (sym (unmarkings_append xs ys))
+  logs = subst (λ (z : List Act). Logs l n (only_acts z)) (sym (unmarkings_append xs ys))
       (logs_acts l m n (unmarkings xs) (unmarkings ys) first.logs second.logs);
 }
 

@@ -3,7 +3,7 @@ use Rattle.std.specs.Prelude.{◌≡◌, ℕ, List, ◌++◌}
 use Rattle.nc_text.specs.MarkedText.{MarkedText}
 use Rattle.nc_list.specs.declared.chunk.Chunk.{Chunk}
 use Rattle.nc_acts.specs.declared.acts.Entry.{Entry}
-use Rattle.nc_acts.specs.Log.{Logs, unserialized}
+use Rattle.nc_acts.specs.Log.{Logs, only_acts}
 use Rattle.nc_region.specs.Region.{IsRegion}
 use Rattle.nc_region.specs.Deletion.{freed, kept, unmarked, unmarkings}
 
@@ -19,7 +19,7 @@ pub record AreTakenOut (least : ℕ) (marked : MarkedText) (left taken : List Ch
 -- The spans of these chunks have been unmarked, in this order: what became of the marks, and the entries logged.
 pub record AreUnmarked (chunks : List Chunk) (was now : MarkedText) (logged logged_now : List Entry) : Type 0 where
   pub marked : now ≡ unmarked was chunks
-  pub logs : Logs logged logged_now (unserialized (unmarkings chunks))
+  pub logs : Logs logged logged_now (only_acts (unmarkings chunks))
 
 -- The first of a region's chunks that are due have been taken out and unmarked, which left a region with the others.
 pub record AreFreed (least : ℕ) (old new : List Chunk) (was now : MarkedText) (logged logged_now : List Entry) : Type 0 where

@@ -67,7 +67,7 @@ pub record CanPatch (marked : MarkedText) (c : Chunk) (at : ℕ) (new : List ℕ
 
 -- These bytes have been put at the address in a chunk, which holds valid code. The marks are as before, the text is closed, and
 -- the entries of the patch are logged.
-pub record HasPatched (old new : MarkedText) (logged logged_now : List Entry) (c : Chunk) (at : ℕ) (put : List ℕ) : Type 0 where
+pub record HasPutPatch (old new : MarkedText) (logged logged_now : List Entry) (c : Chunk) (at : ℕ) (put : List ℕ) : Type 0 where
   pub bytes : new.bytes ≡ with_span old.bytes (at - 0x10000) put
   pub marks : new.marks ≡ old.marks
   pub whole : IsText new

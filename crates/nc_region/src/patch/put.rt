@@ -9,12 +9,12 @@ ghost use Rattle.nc_text.specs.Ready.{AreReady};
 ghost use Rattle.nc_text.specs.MarkedText.{IsText, with_span};
 ghost use Rattle.nc_list.specs.declared.chunk.Chunk.{Chunk};
 ghost use Rattle.nc_acts.specs.Acts.{puts_where};
-ghost use Rattle.nc_acts.specs.Log.{Logs, unserialized};
+ghost use Rattle.nc_acts.specs.Log.{Logs, only_acts};
 ghost use Rattle.nc_acts.specs.Puts.{HasPut};
 ghost use Rattle.nc_acts.specs.declared.acts.Act.{Act};
 ghost use Rattle.nc_acts.specs.declared.acts.Entry.{Entry};
 ghost use Rattle.nc_region.specs.Patch.{stands_there, any_place, log_of_instruction};
-ghost use Rattle.nc_region.specs.machinery.PatchSteps.{IsReplacing, CanReplace, IsInterim, CanPatch, HasPatched};
+ghost use Rattle.nc_region.specs.machinery.PatchSteps.{IsReplacing, CanReplace, IsInterim, CanPatch, HasPutPatch};
 
 use crate::patch::judge::stands_there;
 use nc_acts::Acts;
@@ -28,7 +28,7 @@ pub(crate) fn put_patch<A: Acts>(acts: &mut A, chunk: Chunk, at: u32, new: &[u8]
     requires patch { CanPatch (A.marked acts.old) chunk at new.now }
     requires ends { at + length new.now ≤ chunk.base + chunk.length }
     requires ready { AreReady (A.made acts.old) at (length new.now) }
-    ensures patched { HasPatched (A.marked acts.old) (A.marked acts.new) (A.logged acts.old) (A.logged acts.new) chunk at new.now }
+    ensures patched { HasPutPatch (A.marked acts.old) (A.marked acts.new) (A.logged acts.old) (A.logged acts.new) chunk at new.now }
     ensures made { A.made acts.new ≡ A.made acts.old }
     ensures keeper { A.keeper acts.new ≡ A.keeper acts.old }
 {
@@ -92,7 +92,7 @@ fn put_longer<A: Acts>(acts: &mut A, at: u32, first: u8, rest: &[u8])
     ensures made { A.made acts.new ≡ A.made acts.old }
     ensures keeper { A.keeper acts.new ≡ A.keeper acts.old }
     ensures log { Logs (A.logged acts.old) (A.logged acts.new) (Entry.Did (Act.Put at 0xF4) ∷ Entry.Serialized
-        ∷ (unserialized (puts_where any_place (at + 1) rest.now) ++ (Entry.Serialized ∷ Entry.Did (Act.Put at first) ∷ []))) }
+        ∷ (only_acts (puts_where any_place (at + 1) rest.now) ++ (Entry.Serialized ∷ Entry.Did (Act.Put at first) ∷ []))) }
 {
     acts.put(at, STOP);
     put_rest(acts, at, rest);
@@ -114,7 +114,7 @@ fn put_rest<A: Acts>(acts: &mut A, at: u32, rest: &[u8])
     ensures made { A.made acts.new ≡ A.made acts.old }
     ensures keeper { A.keeper acts.new ≡ A.keeper acts.old }
     ensures log { Logs (A.logged acts.old) (A.logged acts.new) (Entry.Serialized
-        ∷ (unserialized (puts_where any_place (at + 1) rest.now) ++ Entry.Serialized ∷ [])) }
+        ∷ (only_acts (puts_where any_place (at + 1) rest.now) ++ Entry.Serialized ∷ [])) }
 {
     acts.serialize(); // Each thread that comes here stops.
     for i in 0..rest.len() {
@@ -129,7 +129,7 @@ pub(crate) fn put_single<A: Acts>(acts: &mut A, chunk: Chunk, at: u32, new: &[u8
     requires patch { CanPatch (A.marked acts.old) chunk at new.now }
     requires ready { AreReady (A.made acts.old) at (length new.now) }
     requires only { (i : Instr) × (first_instruction new.now ≡ Some i) × (i.len ≡ length new.now) }
-    ensures patched { HasPatched (A.marked acts.old) (A.marked acts.new) (A.logged acts.old) (A.logged acts.new) chunk at new.now }
+    ensures patched { HasPutPatch (A.marked acts.old) (A.marked acts.new) (A.logged acts.old) (A.logged acts.new) chunk at new.now }
     ensures made { A.made acts.new ≡ A.made acts.old }
     ensures keeper { A.keeper acts.new ≡ A.keeper acts.old }
 {

@@ -36,8 +36,8 @@ abbrev pub entered : List ℕ → ℕ → ℕ → ℕ
 entered code at i = if i == 0 then END else state_after code (at + i - 1)
 
 -- the first i bytes of a bundle are read: `states` has the state before the first of them, the state after each, and a 0 at its
--- end, and `state` is the state after the last
-pub record HasRead (bytes : List ℕ) (i state : ℕ) (states : List ℕ) : Type 0 where
+-- end, and `state` leads to the states after the other bytes
+pub record LaneHasRead (bytes : List ℕ) (i state : ℕ) (states : List ℕ) : Type 0 where
   pub so_far : take (i + 1) states ++ states_after state (drop i bytes) ≡ END ∷ states_after END bytes
   pub long : length states ≡ 34
   pub end : get_or states 33 0 ≡ 0

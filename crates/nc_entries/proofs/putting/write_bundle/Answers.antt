@@ -3,7 +3,8 @@ use Rattle.nc_acts.specs.declared.acts.Act.TheVariants.{Put}
 use Rattle.nc_acts.specs.Acts.{puts_where, is_start, is_inside}
 use Rattle.nc_entries.specs.Shown.{act_of}
 use Rattle.nc_entries.specs.machinery.Writing.{HasPutUpTo}
-use Rattle.nc_entries.proofs.writing.Bundles.{bundle_size, bundle_byte, bundle_is, start_put, start_fits}
+use Rattle.nc_vet.proofs.Offered.{bundle_size, bundle_byte}
+use Rattle.nc_entries.proofs.writing.Bundles.{bundle_is, start_put, start_fits}
 use Rattle.nc_entries.proofs.putting.write_bundle.Goals as goal
 
 pub write-requires : goal.write-requires

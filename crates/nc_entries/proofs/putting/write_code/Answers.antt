@@ -1,6 +1,7 @@
 use Rattle.std.proofs.Common.{◌+◌, ◌*◌, ◌≤◌, ℕ, length, take, drop, subst, arith}
 use Rattle.nc_entries.specs.machinery.Writing.{HasPutUpTo, starts_if}
-use Rattle.nc_entries.proofs.writing.Bundles.{bundle_size, part_fits, part_next}
+use Rattle.nc_vet.proofs.Offered.{bundle_size}
+use Rattle.nc_entries.proofs.writing.Bundles.{part_fits, part_next}
 use Rattle.nc_entries.proofs.writing.RunLists.{bundle_more}
 use Rattle.nc_entries.proofs.putting.write_code.Goals as goal
 

@@ -1,7 +1,7 @@
 use Rattle.std.proofs.Common.{ℕ, ◌∙◌, List, [], ◌∷◌, replicate, arith, ap, subst, append_assoc}
 use Rattle.nc_acts.specs.declared.acts.Entry.{Entry}
 use Rattle.nc_acts.specs.Acts.{puts_where, is_marked_at, is_unmarked_at}
-use Rattle.nc_acts.specs.Log.{Logs, unserialized}
+use Rattle.nc_acts.specs.Log.{Logs, only_acts}
 use Rattle.nc_text.specs.MarkedText.{MarkedText}
 use Rattle.nc_acts.specs.declared.acts.Entry.TheVariants.{Did, Serialized}
 use Rattle.nc_acts.specs.declared.acts.Act.TheVariants.{Bump}
@@ -38,6 +38,6 @@ returns-clause-log g c =
     let marks = (g.A.Acts.marked c.args.acts.now).marks in
     let stops = replicate {A = ℕ} c.args.len 244 in
     subst (λ (z : List Entry). Logs (g.A.Acts.logged c.args.acts.now) (g.A.Acts.logged c.bump.new.self) z)
-    (append_assoc (unserialized (puts_where (is_marked_at marks) c.args.base stops))
-    (Serialized ∷ unserialized (puts_where (is_unmarked_at marks) c.args.base stops)) (Did Bump ∷ []))
+    (append_assoc (only_acts (puts_where (is_marked_at marks) c.args.base stops))
+    (Serialized ∷ only_acts (puts_where (is_unmarked_at marks) c.args.base stops)) (Did Bump ∷ []))
     (logs_more _ _ _ _ (Did Bump ∷ []) c.stop_span.ensures.logged c.in-Ok.ensures.logged)

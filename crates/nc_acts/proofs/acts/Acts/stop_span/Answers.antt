@@ -29,11 +29,11 @@ marked_stopped g c at low high marked =
     ∙ (c.stop_where.ensures.bytes.put at low high marked
     ∙ get_or-replicate c.args.len (at - c.args.at) 244 0 (omega (arith, low, high)))
 
--- once the stops at marked places are serialized the marks are as before
+-- once the region has serialized after the stops at marked places, the marks are as before
 marks_then : (g : Over) (c : After-serialize g) → (g.Self.Acts.marked c.serialize.new.self).marks ≡ (g.Self.Acts.marked c.args.self.now).marks
 marks_then g c = ap (λ (m : MarkedText). m.marks) c.serialize.ensures.marked ∙ c.stop_where.ensures.marks
 
--- once the stops at marked places are serialized the span lies in the region
+-- once the region has serialized after the stops at marked places, the span lies in the region
 placed_then : (g : Over) (c : After-serialize g)
     → HasGoodSpan c.args.at (limit_of (g.Self.Acts.marked c.serialize.new.self).bytes) c.args.len
 placed_then g c =

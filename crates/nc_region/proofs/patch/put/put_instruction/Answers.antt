@@ -6,7 +6,7 @@ use Rattle.nc_text.specs.MarkedText.{MarkedText}
 use Rattle.nc_acts.specs.declared.acts.Act.TheVariants.{Put}
 use Rattle.nc_acts.specs.declared.acts.Entry.TheVariants.{Did, Serialized}
 use Rattle.nc_acts.specs.Acts.{puts_where}
-use Rattle.nc_acts.specs.Log.{unserialized}
+use Rattle.nc_acts.specs.Log.{only_acts}
 use Rattle.nc_region.specs.Patch.{any_place, acts_of_instruction, log_of_instruction}
 use Rattle.nc_region.specs.machinery.PatchSteps.{IsReplacing}
 use Rattle.nc_region.proofs.chunks.ReadyPlaces.{ready_part, ready_place}
@@ -36,7 +36,7 @@ acts_of_more at first [] some = absurd (omega arith)
 acts_of_more at first (next ∷ rest) some = refl
 
 log_of_more : (at first : ℕ) (rest : List ℕ) → 0 < length rest
-    → Did (Put at 244) ∷ Serialized ∷ (unserialized (puts_where any_place (at + 1) rest) ++ (Serialized ∷ Did (Put at first) ∷ []))
+    → Did (Put at 244) ∷ Serialized ∷ (only_acts (puts_where any_place (at + 1) rest) ++ (Serialized ∷ Did (Put at first) ∷ []))
     ≡ log_of_instruction at (first ∷ rest)
 log_of_more at first [] some = absurd (omega arith)
 log_of_more at first (next ∷ rest) some = refl

@@ -5,7 +5,7 @@ use Rattle.nc_text.specs.Marks.{IsClosed}
 use Rattle.nc_text.specs.Ready.{IsReady}
 use Rattle.nc_acts.specs.declared.acts.Entry.TheVariants.{Serialized}
 use Rattle.nc_acts.specs.Acts.{puts_where}
-use Rattle.nc_acts.specs.Log.{Logs, unserialized}
+use Rattle.nc_acts.specs.Log.{Logs, only_acts}
 use Rattle.nc_region.specs.Patch.{any_place}
 use Rattle.nc_acts.specs.Puts.{HasPut}
 use Rattle.nc_acts.proofs.Offered.{put_more}
@@ -65,12 +65,12 @@ loop-i-preserved g c =
 pub returns-clause-log : goal.returns-clause-log
 returns-clause-log g c =
     let log : Logs (g.A.Acts.logged c.args.acts.now) (g.A.Acts.logged c.loop-i.acts)
-    (Serialized ∷ unserialized (puts_where any_place (c.args.at + 1) c.args.rest.now)) =
+    (Serialized ∷ only_acts (puts_where any_place (c.args.at + 1) c.args.rest.now)) =
     subst (λ (z : List ℕ). Logs (g.A.Acts.logged c.args.acts.now) (g.A.Acts.logged c.loop-i.acts)
-    (Serialized ∷ unserialized (puts_where any_place (c.args.at + 1) z))) (take_all c.loop-i.i c.args.rest.now (omega arith))
+    (Serialized ∷ only_acts (puts_where any_place (c.args.at + 1) z))) (take_all c.loop-i.i c.args.rest.now (omega arith))
     c.loop-i.invariant.log in
     search (ends_serialized (g.A.Acts.logged c.args.acts.now) (g.A.Acts.logged c.loop-i.acts)
-    (Serialized ∷ unserialized (puts_where any_place (c.args.at + 1) c.args.rest.now)) log)
+    (Serialized ∷ only_acts (puts_where any_place (c.args.at + 1) c.args.rest.now)) log)
 
 pub returns-clause-bytes : goal.returns-clause-bytes
 returns-clause-bytes g c =

@@ -2,7 +2,7 @@ use Rattle.std.proofs.Common.{◌≡◌, ◌+◌, ◌∷◌, take}
 use Rattle.nc_text.specs.MarkedText.{IsText}
 use Rattle.nc_acts.specs.declared.acts.Entry.TheVariants.{Serialized}
 use Rattle.nc_acts.specs.Acts.{puts_where}
-use Rattle.nc_acts.specs.Log.{Logs, unserialized}
+use Rattle.nc_acts.specs.Log.{Logs, only_acts}
 use Rattle.nc_region.specs.Patch.{any_place}
 use Rattle.nc_acts.specs.Puts.{HasPut}
 use Rattle.nc_region.proofs.patch.put.put_rest.Given as goal
@@ -16,5 +16,5 @@ invariant-loop-i g l =
       made : g.A.Acts.made l.acts ≡ g.A.Acts.made l.fn.acts;
       keeper : g.A.Acts.keeper l.acts ≡ g.A.Acts.keeper l.fn.acts;
       log : Logs (g.A.Acts.logged l.fn.acts) (g.A.Acts.logged l.acts)
-          (Serialized ∷ unserialized (puts_where any_place (l.at + 1) (take l.i l.rest)));
+          (Serialized ∷ only_acts (puts_where any_place (l.at + 1) (take l.i l.rest)));
     }
