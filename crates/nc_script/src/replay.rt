@@ -1,14 +1,9 @@
 //! Running a script from a reader to a writer.
 
-ghost use Rattle.std.specs.Prelude.{◌≡◌, ◌⊎◌, ◌≢◌, ℕ, List, OnOk, IfErr, IfSome, IsErrOf};
-ghost use Rattle.std.specs.Io.KnownBytes.{Consumes, IsAtEnd};
 ghost use Rattle.nc_gens.specs.Seen.{AreSeats};
 ghost use Rattle.nc_decode.specs.Bundles.{IsRegionSize};
-ghost use Rattle.nc_lines.specs.Lines.{lines_of, ended_lines};
-ghost use Rattle.nc_lines.specs.Answering.{IsBegun, IsCutShort};
-ghost use Rattle.nc_script.specs.Answers.{AnswersOnly, new_script};
 ghost use Rattle.nc_script.specs.Laws.{BeginsAll, HasOneReply, FreesByLeast, LeavesOpen};
-ghost use Rattle.nc_script.specs.Run.{HasAnswered, HasRun};
+ghost use Rattle.nc_script.specs.Run.{HasRun};
 
 use crate::seats::Seats;
 use crate::session::Session;
@@ -79,19 +74,7 @@ fn run_new<R: Read, W: Write>(
 ) -> Result<(), ReplayFault>
     requires size { IsRegionSize bundles }
     requires seats { AreSeats seats }
-    ensures ok { OnOk result (IfSome (R.remaining reader.old) (λ input.
-        HasAnswered bundles seats (W.contents writer.old) (W.contents writer.new) (lines_of input))) }
-    ensures read { OnOk result (IsAtEnd (R.remaining reader.new)) }
-    ensures write_failed { IsErrOf result ReplayFault.WriteFailed → IfSome (R.remaining reader.old) (λ input.
-        IsBegun AnswersOnly (new_script bundles seats) (W.contents writer.old) (W.contents writer.new) (lines_of input)) }
-    ensures read_failed { IsErrOf result ReplayFault.ReadFailed → (front : List ℕ)
-        × Consumes (R.remaining reader.old) (R.remaining reader.new) front
-        × HasAnswered bundles seats (W.contents writer.old) (W.contents writer.new) (ended_lines front) }
-    ensures out_of_memory { IsErrOf result ReplayFault.OutOfMemory
-        → ((reader.new ≡ reader.old) × (writer.new ≡ writer.old)) ⊎ IfSome (R.remaining reader.old) (λ input.
-        IsCutShort AnswersOnly (new_script bundles seats) (W.contents writer.old) (W.contents writer.new) (lines_of input)) }
-    ensures faults { IfErr result (λ fault. (fault ≢ ReplayFault.BadSize) × (fault ≢ ReplayFault.BadSeats)
-        × (fault ≢ ReplayFault.BadWorkers)) }
+    ensures { HasRun bundles seats R.remaining W.contents reader.old reader.new writer.old writer.new result }
 {
     let Ok((gens, keeper, passes)) = Gens::new(alloc, seats) else {
         return Err(ReplayFault::OutOfMemory);
