@@ -134,14 +134,14 @@ IsOnly request old reply new = (other : List ℕ) (next : Script) → Serves req
 
 -- The line has only one answer: it isn't a reclaim, or no seat has left. Once a seat has left, the number by which a reclaim
 -- frees depends on the moment at which the keeper sees that.
-abbrev pub IsSerialized : Script → List ℕ → Type 0
-IsSerialized old line = (request_in line ≢ Some Reclaim) ⊎ AllStay old
+abbrev pub IsDetermined : Script → List ℕ → Type 0
+IsDetermined old line = (request_in line ≢ Some Reclaim) ⊎ AllStay old
 
 -- From the old state this is an answer to the line, which leads to the new state. There is no other answer if the line isn't
 -- a reclaim, or if no seat has left.
 pub record AnswersOnly (old : Script) (line reply : List ℕ) (new : Script) : Type 0 where
   pub serves : ServesLine old line reply new
-  pub only : IsSerialized old line → (other : List ℕ) (next : Script) → ServesLine old line other next → (other ≡ reply) × (next ≡ new)
+  pub only : IsDetermined old line → (other : List ℕ) (next : Script) → ServesLine old line other next → (other ≡ reply) × (next ≡ new)
 
 -- the initial state: there is no chunk, no seat has left, and all numbers are 0
 abbrev pub new_script : ℕ → ℕ → Script

@@ -35,8 +35,8 @@ line_follows request old new line reply is e follows seats freed fits =
       next,
       number,
       line_only request before after line reply e serves
-          (λ serialized. request_only request old.region seats freed reply after is
-          (subst (λ (asked : Option Request). (asked ≢ Some Reclaim) ⊎ AllStay before) e serialized) serves),
+          (λ determined. request_only request old.region seats freed reply after is
+          (subst (λ (asked : Option Request). (asked ≢ Some Reclaim) ⊎ AllStay before) e determined) serves),
       still,
     )
 

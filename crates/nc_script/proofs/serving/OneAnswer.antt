@@ -23,7 +23,7 @@ use Rattle.nc_script.specs.declared.query.Query.{Query}
 use Rattle.nc_script.specs.Patching.{LiesInLive, Replaces, IsLawfulPatch, IsRefusedPatch}
 use Rattle.nc_script.specs.Reuse.{ListsLive, IsRefusedDeletion, AllStay, Stays, LetsFree, number_of, IsFreeingNumber, freed_by, kept_by}
 use Rattle.nc_output.specs.Verdicts.{IsValidAt}
-use Rattle.nc_script.specs.Answers.{AnswersOnly, IsOnly, IsSerialized, Serves}
+use Rattle.nc_script.specs.Answers.{AnswersOnly, IsOnly, IsDetermined, Serves}
 use Rattle.nc_script.specs.machinery.Session.{script_of}
 use Rattle.nc_output.specs.Verdicts.{with_line_end, refused_words, fault_words}
 use Rattle.nc_script.specs.Replies.{walk_reply, patch_words, deletion_words, freed_reply}
@@ -254,28 +254,28 @@ reclaim_only old reply new stay a other next b =
 pub request_only : (request : Request) (region : Region) (seats : List ScriptSeat) (freed : ℕ) (reply : List ℕ) (new : Script)
     → IsRegion region.marked region.chunks → (Some request ≢ Some Reclaim) ⊎ AllStay (script_of region seats freed)
     → Serves request (script_of region seats freed) reply new → IsOnly request (script_of region seats freed) reply new
-request_only (Create base bytes) region seats freed reply new is serialized h =
+request_only (Create base bytes) region seats freed reply new is determined h =
     create_only base bytes (script_of region seats freed) reply new h
-request_only (Modify at bytes) region seats freed reply new is serialized h =
+request_only (Modify at bytes) region seats freed reply new is determined h =
     modify_only at bytes (script_of region seats freed) reply new h
-request_only (Delete base) region seats freed reply new is serialized h = delete_only base (script_of region seats freed) reply new h
-request_only (CheckIn seat) region seats freed reply new is serialized h = check_in_only seat (script_of region seats freed) reply new h
-request_only (Leave seat) region seats freed reply new is serialized h = leave_only seat (script_of region seats freed) reply new h
+request_only (Delete base) region seats freed reply new is determined h = delete_only base (script_of region seats freed) reply new h
+request_only (CheckIn seat) region seats freed reply new is determined h = check_in_only seat (script_of region seats freed) reply new h
+request_only (Leave seat) region seats freed reply new is determined h = leave_only seat (script_of region seats freed) reply new h
 request_only Reclaim region seats freed reply new is (inl other) h = absurd (other refl)
 request_only Reclaim region seats freed reply new is (inr stay) h = reclaim_only (script_of region seats freed) reply new stay h
-request_only (Walk start choices) region seats freed reply new is serialized h =
+request_only (Walk start choices) region seats freed reply new is determined h =
     walk_only region seats freed start choices reply new is h
-request_only (Ask query) region seats freed reply new is serialized h = ask_only query (script_of region seats freed) reply new h
+request_only (Ask query) region seats freed reply new is determined h = ask_only query (script_of region seats freed) reply new h
 
 -- a line that asks for this has this answer, and only this one if it leaves nothing open
 pub line_only : (request : Request) (old new : Script) (line reply : List ℕ) → request_in line ≡ Some request
-    → Serves request old reply new → (IsSerialized old line → IsOnly request old reply new) → AnswersOnly old line reply new
+    → Serves request old reply new → (IsDetermined old line → IsOnly request old reply new) → AnswersOnly old line reply new
 line_only request old new line reply e h only =
     let Shown : Option Request → List ℕ → Script → Type 0 =
     λ r t n. MatchOption r ((t ≡ bad_line) × (n ≡ old)) (λ asked. Serves asked old t n) in
     record {
       serves = subst (λ (r : Option Request). Shown r reply new) (sym e) h;
-      only = λ serialized other next s. only serialized other next (subst (λ (r : Option Request). Shown r other next) e s);
+      only = λ determined other next s. only determined other next (subst (λ (r : Option Request). Shown r other next) e s);
     }
 
 -- a line that asks for nothing is only a bad line
@@ -285,5 +285,5 @@ bad_only old line e =
     λ r t n. MatchOption r ((t ≡ bad_line) × (n ≡ old)) (λ asked. Serves asked old t n) in
     record {
       serves = subst (λ (r : Option Request). Shown r bad_line old) (sym e) (refl, refl);
-      only = λ serialized other next s. subst (λ (r : Option Request). Shown r other next) e s;
+      only = λ determined other next s. subst (λ (r : Option Request). Shown r other next) e s;
     }
