@@ -2,7 +2,7 @@
 use Rattle.std.proofs.Common.{◌≡◌, suc, List, [], ◌∷◌, ◌++◌, All, length, map, get_or, ap, arith, sym, subst, ◌∙◌, append_assoc}
 use Rattle.std.proofs.lemmas.List.{map-append}
 
--- one more item
+-- a list that is made item by item, with one more item
 pub made_more : {X Y Z : Type 0} (f : X → Z) (g : Y → Z) (whole : List Z) (made new : List Y) (y : Y) (before after : List X) (x : X)
     → whole ≡ map g made ++ map f before → before ≡ x ∷ after → new ≡ made ++ y ∷ [] → g y ≡ f x → whole ≡ map g new ++ map f after
 made_more f g whole made new y before after x is next pushed same =

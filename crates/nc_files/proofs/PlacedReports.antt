@@ -88,7 +88,7 @@ fits_first ask file files (Some report) (other, is, reported) =
     let same : other ≡ file = cc in
     subst (λ (f : Bor (List ℕ)). ReportsOn ask f.now report) same reported
 
--- the other places have those on the other files
+-- a report in a place after the first one is that on a file after the first one
 fits_next : (ask : CheckAsk) (file : Bor (List ℕ)) (files : List (Bor (List ℕ))) (k : ℕ) (place : Option Report)
     → FitsPlace ask (file ∷ files) (suc k) place → FitsPlace ask files k place
 fits_next ask file files k None h = tt

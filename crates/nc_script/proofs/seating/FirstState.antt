@@ -78,11 +78,11 @@ module _ (region : Region) (seats : SeatsState) (bundles n : ℕ) (table : Table
     (some : 1 ≤ n) (keeper_is : keeper ≡ first_keeper table n) (passes_are : passes ≡ new_passes table n)
     (region_is : region ≡ new_region (unused_text (0x10000 + 32 * bundles)) (unmade_pages (0x10000 + 32 * bundles)) keeper)
     (seats_are : seats ≡ new_seats table passes) where
-  -- it stands for the first state of a script
+  -- a session over a new region stands for the first state of a script
   first_script : script_of region (replicate n (Staying 0)) 0 ≡ new_script bundles n
   first_script = grind (arith, common_steps, region_is, keeper_is)
 
-  -- all seats are there, with the number 0
+  -- a session over a new region has all seats, with the number 0
   first_session : FitsSession (record { region = region; seats = seats }) (replicate n (Staying 0)) 0
   first_session =
       let marked = unused_text (0x10000 + 32 * bundles) in
