@@ -365,12 +365,12 @@ NcChange nc_region_patch(NcRegion *region, uint32_t at, const uint8_t *bytes, si
 
 /* Begins a deletion, with two acts more than the chunk has bytes. The last is NC_BUMP, for which the host must call nc_region_end_delete
    after it has made the others. Until then the region shows the chunk's bytes.
-   Promised: the deletion of the live chunk at `base` is under way (HasBegun), and these are its acts (log_of_delete), pending but for
+   Promised: the deletion of the live chunk at `base` is under way (HasBegunDeletion), and these are its acts (log_of_delete), pending but for
    NC_BUMP [begun, pending, at].
    Refused: NC_UNDER_WAY, NC_NO_CHUNK, NC_FULL, NC_NO_ROOM [refused, unchanged, untouched]. */
 NcChange nc_region_begin_delete(NcRegion *region, uint32_t base, NcAct *acts, size_t acts_len);
 
-/* Ends a deletion. The chunk's bytes are then stops, and it is retired with the next stamp. Both calls are one of a history (HasEnded)
+/* Ends a deletion. The chunk's bytes are then stops, and it is retired with the next stamp. Both calls are one of a history (HasEndedDeletion)
    [ended]. Only the stamp is pending, which the library has drawn (DoesItself) [pending].
    Refused: NC_NOT_BEGUN [refused, unchanged]. */
 NcStamp nc_region_end_delete(NcRegion *region);

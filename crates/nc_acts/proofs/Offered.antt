@@ -4,7 +4,7 @@ pub use Rattle.nc_acts.proofs.Places.{Before, Within, Behind, place_of, unused_i
 pub use Rattle.nc_acts.proofs.Places.{is_start_false, start_or_not, span_within, span_before, before_span, span_behind}
 pub use Rattle.nc_acts.proofs.Places.{within_span, is_inside_true, is_start_true}
 pub use Rattle.nc_acts.proofs.OneMoreByte.{put_none, put_more, put_passed, byte_at_other, byte_at_same}
-pub use Rattle.nc_acts.proofs.Chosen.{puts_append}
+pub use Rattle.nc_acts.proofs.Chosen.{puts_append, next_put, next_passed}
 pub use Rattle.nc_acts.proofs.Logged.{told_logged, acts_back, deleted_acts, acts_join, acts_before, logs_more, logs_none}
 pub use Rattle.nc_acts.proofs.Logged.{logs_acts, created_acts, logs_after, log_put, ends_serialized}
 pub use Rattle.nc_acts.proofs.Alone.{alone, alone_fits_bytes, alone_within, alone_before, alone_behind, alone_bytes_long}

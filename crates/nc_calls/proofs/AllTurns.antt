@@ -2,6 +2,7 @@
 use Rattle.std.proofs.Common.{◌≡◌, ℕ, List, [], ◌∷◌, ◌++◌, refl, sym, ap, subst}
 use Rattle.std.specs.Prelude.{IfSome}
 use Rattle.std.proofs.lemmas.List.Elements.{All-weaker}
+use Rattle.std.proofs.lemmas.Option.{IfSome_then}
 use Rattle.nc_text.specs.Machine.{IsConfined, IsSafe}
 use Rattle.nc_text.specs.Headline.{Stands}
 use Rattle.nc_text.specs.MarkedText.{MarkedText, unused_text}
@@ -9,7 +10,7 @@ use Rattle.nc_text.proofs.Offered.{confined_if_closed, stands_if_safe}
 use Rattle.nc_region.specs.schedules.Spans.{RetiredSpan}
 use Rattle.nc_region.specs.schedules.World.{World, Seat, first_world, IsViewOf, AllStandSafe, NoneIsWithin}
 use Rattle.nc_region.specs.schedules.Events.{Event, Frees, world_after, AreAllowed}
-use Rattle.nc_region.proofs.Offered.{safe_after, none_is_within_freed, if_map}
+use Rattle.nc_region.proofs.Offered.{safe_after, none_is_within_freed}
 use Rattle.nc_region.specs.Region.{Region, IsRegion}
 use Rattle.nc_region.proofs.Offered.{region_of_new}
 use Rattle.nc_calls.specs.Interleaving.{writers, ThreadsMay}
@@ -109,9 +110,10 @@ pub all_stand : (w : World) → AllStandSafe w → AllStand w
 all_stand w safe =
     All-weaker (λ (seat : Seat). IfSome seat.inside (λ now. (view : List ℕ) → IsViewOf w view → IsSafe view now))
     (λ (seat : Seat). IfSome seat.inside (λ now. (view : List ℕ) → IsViewOf w view → Stands view now))
-    (λ seat s. if_map seat.inside (λ now. (view : List ℕ) → IsViewOf w view → IsSafe view now)
-    (λ now. (view : List ℕ) → IsViewOf w view → Stands view now)
-    (λ now is view v. stands_if_safe view now (is view v)) s) w.seats safe
+    (λ seat s. IfSome_then seat.inside
+    {P = (λ now. (view : List ℕ) → IsViewOf w view → IsSafe view now)}
+    {Q = (λ now. (view : List ℕ) → IsViewOf w view → Stands view now)}
+    s (λ now is view v. stands_if_safe view now (is view v))) w.seats safe
 
 -- after every event of a history, threads stand where they may
 pub stand_always : (limit seats : ℕ) (first events later : List Event) (r : Region) (turns : List Turn)

@@ -26,8 +26,8 @@ use Rattle.nc_acts.specs.Puts.{HasPut}
 use Rattle.nc_acts.proofs.Offered.{byte_at_other}
 use Rattle.nc_region.specs.Each.{Each}
 use Rattle.nc_region.specs.Region.{IsLive, IsAscending, IsRegion}
-use Rattle.nc_region.proofs.Offered.{region_deleted, all_stops, each_get, each_from, each_at_set, quiet_chunks, rises_get}
-use Rattle.nc_region.proofs.Offered.{apart_by_index, place_of, Before, Within, Behind, before_span}
+use Rattle.nc_region.proofs.Offered.{region_deleted, all_stops, each_get, each_from, each_at_set, quiet_chunks, ascending_get}
+use Rattle.nc_region.proofs.Offered.{place_of, Before, Within, Behind, before_span}
 use Rattle.nc_calls.specs.Calls.{no_details}
 use Rattle.nc_calls.specs.Views.{ViewsKeep}
 use Rattle.nc_calls.proofs.Creation.{in_one_bundle}
@@ -37,6 +37,7 @@ use Rattle.nc_calls.proofs.OnePut.{good_put_marked, good_put_unread, byte_there}
 use Rattle.nc_calls.proofs.Parting.{Kept, region_stopped}
 use Rattle.nc_calls.proofs.PutsWhole.{whole_put_unread, whole_put_stop}
 use Rattle.nc_calls.proofs.Putting.{with_text, serialized, Views, Leads, Reaches, leads_one, leads_more, serialization_leads, serialized_views, MayLay, lay_all}
+use Rattle.nc_list.proofs.Offered.{ascending_apart}
 use Rattle.nc_calls.proofs.RetiredSpans.{AreSpansOf, IsBeside, all_spans, retired_each}
 
 -- what is marked stands for some state
@@ -64,13 +65,13 @@ live_beside chunks k c ascending lt here live =
     each_from (λ (d : Chunk). (stamp : ℕ) → d.state ≡ Retired stamp → IsBeside c.base c.length
     (record { base = d.base; length = d.length; stamp = stamp })) chunks c
     (λ i inside stamp is. (
-      rises_get 65536 chunks i c ascending inside,
+      ascending_get 65536 chunks i c ascending inside,
       ⊎_elim
-          (λ (before : i < k). inl (omega (arith, apart_by_index 65536 chunks c ascending i k before lt, ap (λ (x : Chunk). x.base) here)))
+          (λ (before : i < k). inl (omega (arith, ascending_apart 65536 chunks i k c ascending before lt, ap (λ (x : Chunk). x.base) here)))
           (λ (from : k ≤ i).
           ⊎_elim
           (λ (behind : k < i). inr
-          (omega (arith, apart_by_index 65536 chunks c ascending k i behind inside, ap (λ (x : Chunk). x.base + x.length) here)))
+          (omega (arith, ascending_apart 65536 chunks k i c ascending behind inside, ap (λ (x : Chunk). x.base + x.length) here)))
           (λ (to : i ≤ k).
           let same : i ≡ k = omega (arith, from, to) in
           let at : get_or chunks i c ≡ c = ap (λ (n : ℕ). get_or chunks n c) same ∙ here in
@@ -151,7 +152,7 @@ emptied_clear w base len mid view at placed f low high is_unmarked now i k m is 
       | Behind p ↦ omega (arith, p, same, high)
     ]
 
--- at its unmarked places stops may be put
+-- at the unmarked places of a span stops may be put
 pub may_lay_others : (w : World) (base len : ℕ) (mid : List ℕ) → HasGoodSpan base (limit_of w.marked.bytes) len
     → MayLay w (is_unmarked_at w.marked.marks) base (replicate len 244) (Emptied w base len mid)
 may_lay_others w base len mid placed =

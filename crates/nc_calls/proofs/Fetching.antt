@@ -2,11 +2,12 @@
 use Rattle.std.proofs.Common.{ℕ, ◌≤◌, List, ◌++◌, inl, inr, arith}
 use Rattle.std.specs.Prelude.{IfSome}
 use Rattle.std.proofs.lemmas.List.Elements.{All-from_get_or}
+use Rattle.std.proofs.lemmas.Option.{IfSome_then}
 use Rattle.nc_decode.specs.Bundles.{IsLawfulLimit}
 use Rattle.nc_text.proofs.Offered.{IsKnown}
 use Rattle.nc_region.specs.schedules.World.{World, Seat, first_seat, first_world, seat_at}
 use Rattle.nc_region.specs.schedules.Events.{Event, world_after, AreAllowed}
-use Rattle.nc_region.proofs.Offered.{Keeps, keeps_reached, allowed_front, if_map}
+use Rattle.nc_region.proofs.Offered.{Keeps, keeps_reached, allowed_front}
 use Rattle.nc_calls.specs.Whole.{StoodWhole, AllFetchWhole}
 use Rattle.nc_calls.proofs.StaysWhole.{IsWholeIn, StaysWhole, whole_between}
 
@@ -15,9 +16,10 @@ all_fetch_whole : (w : World) → Keeps w → IsWholeIn w → AllFetchWhole w
 all_fetch_whole w keeps whole =
     All-from_get_or
     (λ (seat : Seat). IfSome seat.inside (λ now. 65536 ≤ now.place → StoodWhole w.marked.bytes w.earlier now.place)) w.seats first_seat
-    (λ k lt. if_map (seat_at w k).inside (IsKnown w.marked.marks)
-    (λ now. 65536 ≤ now.place → StoodWhole w.marked.bytes w.earlier now.place)
-    (λ now known low. elim known [ inl m ↦ whole now m | inr z ↦ absurd (omega (arith, low, z.0)) ]) (keeps.seats k lt).stands)
+    (λ k lt. IfSome_then (seat_at w k).inside
+    {P = (IsKnown w.marked.marks)}
+    {Q = (λ now. 65536 ≤ now.place → StoodWhole w.marked.bytes w.earlier now.place)}
+    (keeps.seats k lt).stands (λ now known low. elim known [ inl m ↦ whole now m | inr z ↦ absurd (omega (arith, low, z.0)) ]))
 
 -- after every event of a schedule that stays whole, threads fetch whole instructions
 pub fetch_whole_after : (limit seats : ℕ) (events later : List Event) → IsLawfulLimit limit

@@ -14,7 +14,7 @@ use Rattle.nc_text.proofs.Offered.{executes, leads_of, step_of, no_step_from_sto
 use Rattle.nc_text.proofs.Offered.{length_at}
 use Rattle.nc_region.specs.schedules.Spans.{RetiredSpan, IsShut}
 use Rattle.nc_region.proofs.Offered.{some_same}
-use Rattle.nc_calls.specs.Views.{AreParted}
+use Rattle.nc_calls.specs.Views.{NoneOverlaps}
 
 -- bytes and marks, as a text
 abbrev pub text_of : List ℕ → List Mark → MarkedText
@@ -24,7 +24,7 @@ text_of bytes marks = record { bytes = bytes; marks = marks }
 pub record Good (text : List ℕ) (marks : List Mark) (spans : List RetiredSpan) : Type 0 where
   pub closed : IsClosed text marks
   pub shut : All (IsShut text marks) spans
-  pub parted : AreParted text marks
+  pub parted : NoneOverlaps text marks
 
 -- the instruction at a place, if it lies in one bundle, has its bytes in both texts
 abbrev pub KeepsInstruction : List ℕ → List ℕ → ℕ → Type 0
@@ -91,7 +91,7 @@ shut_by_places old text marks spans good long each = λ n d lt.
 
 -- no instruction reaches another marked place
 parted_by_places : (old text : List ℕ) (marks : List Mark) (spans : List RetiredSpan) → Good old marks spans → length text ≡ length old
-    → ((now : State) → IsMarked marks now → (byte_at text now.place ≡ 244) ⊎ Borrowed text marks spans now) → AreParted text marks
+    → ((now : State) → IsMarked marks now → (byte_at text now.place ≡ 244) ⊎ Borrowed text marks spans now) → NoneOverlaps text marks
 parted_by_places old text marks spans good long each = λ now i k m is some less.
     elim (each now m) [
       | inl stop ↦ absurd

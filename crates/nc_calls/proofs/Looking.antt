@@ -1,12 +1,13 @@
 -- The keeper's events with threads between them, and by which stamps a look at all seats lets spans be freed.
-use Rattle.std.proofs.Common.{◌≡◌, ◌≢◌, ℕ, zero, suc, ◌+◌, ◌<◌, ◌≤◌, ◌⊎◌, ◌==◌, not, min, Bool, true, false, cond, List, [], ◌∷◌, ◌++◌}
-use Rattle.std.proofs.Common.{fold, length, get_or, map, inl, inr, arith, refl, ◌∙◌, sym, ap, subst, ne_eqb}
+use Rattle.std.proofs.Common.{◌≡◌, ◌≢◌, ℕ, zero, suc, ◌+◌, ◌<◌, ◌≤◌, ◌⊎◌, Bool, true, false, cond, List, [], ◌∷◌, ◌++◌}
+use Rattle.std.proofs.Common.{length, get_or, map, inl, inr, arith, refl, ◌∙◌, sym, ap, subst}
 use Rattle.std.specs.Prelude.{All, slice_index}
 use Rattle.std.specs.List.{range_with_len}
 use Rattle.std.proofs.lemmas.List.Elements.{All-nil, All-cons, All-head, All-tail}
 use Rattle.nc_gens.specs.declared.view.KeeperNumbers.{KeeperNumbers}
 use Rattle.nc_gens.specs.Rule.{left_word, last_generation}
-use Rattle.nc_gens.specs.Seen.{staying, least_or, least_number}
+use Rattle.nc_gens.specs.Seen.{least_number}
+use Rattle.nc_gens.proofs.Offered.{least_below}
 use Rattle.nc_region.specs.schedules.World.{World, Seat, seat_at, HasPassed}
 use Rattle.nc_region.specs.schedules.Events.{Event, Steps, Enters, Exits, Takes, Sees, Stores, Leaves, Puts, Serializes, Marks, Bumps, Retires, Frees}
 use Rattle.nc_region.specs.schedules.Events.{Looks}
@@ -16,40 +17,7 @@ use Rattle.nc_calls.specs.Interleaving.{is_writers, writers, IsKeepers, ThreadsM
 use Rattle.nc_calls.specs.Calls.{KnowsNoMore}
 use Rattle.nc_calls.proofs.StaysWhole.{IsWholeIn, StaysWhole}
 
--- ---- the least number
-
--- the least of some numbers is at most the one that it begins with
-fold_le : (a : ℕ) (xs : List ℕ) → fold min a xs ≤ a
-fold_le a [] = omega arith
-fold_le a (x ∷ xs) = let h = fold_le (min a x) xs in omega (arith, h)
-
--- the least of some numbers is at most each of them that stays
-fold_below : (a : ℕ) (bs : List ℕ) (k : ℕ) → k < length bs → get_or bs k 0 ≢ left_word → fold min a (staying bs) ≤ get_or bs k 0
-fold_below a [] k lt stays = absurd (omega arith)
-fold_below a (b ∷ bs) zero lt stays =
-    subst (λ (t : Bool). fold min a (cond (not t) (b ∷ staying bs) (staying bs)) ≤ b) (sym (ne_eqb b left_word stays))
-    (let h = fold_le (min a b) (staying bs) in omega (arith, h))
-fold_below a (b ∷ bs) (suc k) lt stays =
-    go (not (b == left_word)) (fold_below (min a b) bs k (omega (arith, lt)) stays) (fold_below a bs k (omega (arith, lt)) stays)
-  where
-    go : (t : Bool) → fold min (min a b) (staying bs) ≤ get_or bs k 0 → fold min a (staying bs) ≤ get_or bs k 0
-        → fold min a (cond t (b ∷ staying bs) (staying bs)) ≤ get_or bs k 0
-    go true counted passed = counted
-    go false counted passed = passed
-
--- the least number is at most each bound that stays
-least_below : (g : ℕ) (bs : List ℕ) (k : ℕ) → k < length bs → get_or bs k 0 ≢ left_word → least_or g (staying bs) ≤ get_or bs k 0
-least_below g [] k lt stays = absurd (omega arith)
-least_below g (b ∷ bs) zero lt stays =
-    subst (λ (t : Bool). least_or g (cond (not t) (b ∷ staying bs) (staying bs)) ≤ b) (sym (ne_eqb b left_word stays))
-    (fold_le b (staying bs))
-least_below g (b ∷ bs) (suc k) lt stays =
-    go (not (b == left_word)) (fold_below b bs k (omega (arith, lt)) stays) (least_below g bs k (omega (arith, lt)) stays)
-  where
-    go : (t : Bool) → fold min b (staying bs) ≤ get_or bs k 0 → least_or g (staying bs) ≤ get_or bs k 0
-        → least_or g (cond t (b ∷ staying bs) (staying bs)) ≤ get_or bs k 0
-    go true counted passed = counted
-    go false counted passed = passed
+-- ---- seats that have passed a stamp
 
 -- a stamp of at most the least number of a keeper that knows no more than the world's has passed every seat
 pub has_passed : (w : World) (known : KeeperNumbers) (stamp : ℕ) → Keeps w → w.keeper.generation ≤ last_generation

@@ -23,7 +23,7 @@ use Rattle.nc_region.specs.Quiet.{retired_spans}
 use Rattle.nc_region.specs.Region.{IsLive, IsInChunk, HoldsValid, IsRegion}
 use Rattle.nc_region.specs.machinery.PatchSteps.{Begins}
 use Rattle.nc_region.proofs.Offered.{each_map, all_long, stands_with, some_same, quiet_spans, Here, Earlier, Later, where_is}
-use Rattle.nc_calls.specs.Views.{AreParted, IsFree, AreStopped}
+use Rattle.nc_calls.specs.Views.{NoneOverlaps, IsFree, AreStopped}
 use Rattle.nc_calls.proofs.Good.{Good, marked_inside, stop_ends}
 use Rattle.nc_calls.proofs.OnePut.{not_unmarked}
 use Rattle.nc_calls.proofs.RetiredSpans.{AreSpansOf, all_spans}
@@ -102,7 +102,7 @@ parted_live marked c t h now i k m inside is some less =
     first_of p q xs ys e = cc
 
 -- in a region no instruction reaches another marked place
-pub parted_region : (marked : MarkedText) (chunks : List Chunk) → IsRegion marked chunks → AreParted marked.bytes marked.marks
+pub parted_region : (marked : MarkedText) (chunks : List Chunk) → IsRegion marked chunks → NoneOverlaps marked.bytes marked.marks
 parted_region marked chunks region = λ now i k m is some less.
     elim (live_or_free (λ (c : Chunk). IsLive c.state → HoldsValid marked c) chunks now.place region.live) [
       | inl found ↦ parted_live marked found.0 region.whole (found.1 found.2) now i k m found.3 is some less
@@ -134,7 +134,7 @@ region_stopped marked chunks region = λ now m free.
 
 -- what a view keeps from one call to the next
 pub record Kept (marks : List Mark) (chunks : List Chunk) (view : List ℕ) : Type 0 where
-  pub parted : AreParted view marks
+  pub parted : NoneOverlaps view marks
   pub stopped : AreStopped view marks chunks
 
 -- a region's text keeps what views have to (`Kept`)

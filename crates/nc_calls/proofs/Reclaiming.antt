@@ -25,7 +25,7 @@ use Rattle.nc_region.specs.Deletion.{is_due, freed, kept, unmarked, unmarkings}
 use Rattle.nc_region.specs.Each.{Each}
 use Rattle.nc_region.specs.Quiet.{with_retired, retired_spans}
 use Rattle.nc_region.specs.Region.{IsLive, IsAscending, IsRegion}
-use Rattle.nc_region.proofs.Offered.{each_map, each_both, each_contains, each_middle, region_freed, rises_above}
+use Rattle.nc_region.proofs.Offered.{each_map, each_both, each_contains, each_middle, region_freed, ascending_above, same_as_itself}
 use Rattle.nc_calls.specs.Interleaving.{writers, ThreadsMay}
 use Rattle.nc_calls.specs.Calls.{KnowsNoMore, span_from}
 use Rattle.nc_calls.proofs.Entries.{events_of}
@@ -134,12 +134,6 @@ other_span a b ne = go (is_same_span a b) refl
     go true e = absurd (ne (same_base a b e))
     go false e = e
 
--- a span is the same as itself
-same_itself : (a : RetiredSpan) → is_same_span a a ≡ true
-same_itself a =
-    ap (λ (x : Bool). (x && (a.length == a.length)) && (a.stamp == a.stamp)) (eq-eqb a.base a.base refl)
-    ∙ (ap (λ (x : Bool). x && (a.stamp == a.stamp)) (eq-eqb a.length a.length refl) ∙ eq-eqb a.stamp a.stamp refl)
-
 -- ---- the chunks that are due
 
 -- a chunk that isn't empty lies beside others
@@ -154,12 +148,12 @@ others_clear : (from : ℕ) (before after : List Chunk) (c : Chunk) (limit : ℕ
 others_clear from [] after c limit ascending placed =
     each_map (λ (d : Chunk). c.base + c.length ≤ d.base)
     (λ (d : Chunk). (stamp : ℕ) → d.state ≡ Retired stamp → IsClear c.base (record { base = d.base; length = d.length; stamp = stamp }))
-    (λ d h stamp is e. omega (arith, h, e, placed.0.some)) after (rises_above (c.base + c.length) after ascending.1)
+    (λ d h stamp is e. omega (arith, h, e, placed.0.some)) after (ascending_above (c.base + c.length) after ascending.1)
 others_clear from (b ∷ before) after c limit ascending placed = (
   λ stamp is e. omega (
     arith,
     each_middle (λ (d : Chunk). b.base + b.length ≤ d.base) before after c
-        (rises_above (b.base + b.length) (before ++ c ∷ after) ascending.1),
+        (ascending_above (b.base + b.length) (before ++ c ∷ after) ascending.1),
     e,
     placed.0.some,
   ),
@@ -186,7 +180,7 @@ same_spans_freed spans before after c stamp is clear same = λ span.
           (record { base = c.base; length = c.length; stamp = stamp }) span
           (subst (λ (z : List RetiredSpan). Contains z span) old_is ((same span).0 h.0))) [
             | inl it ↦ absurd
-                (false≢true (sym (ap not (same_itself (record { base = c.base; length = c.length; stamp = stamp })))
+                (false≢true (sym (ap not (same_as_itself (record { base = c.base; length = c.length; stamp = stamp })))
                 ∙ subst (λ (z : RetiredSpan). not (is_same_span (record { base = c.base; length = c.length; stamp = stamp }) z) ≡ true)
                 (sym it) h.1))
             | inr other ↦ other
@@ -235,7 +229,7 @@ finds_all from limit (x ∷ rest) ascending placed = (
   each_both (λ (d : Chunk). x.base + x.length ≤ d.base) (Finds (retired_spans rest)) (Finds (retired_spans (x ∷ rest)))
       (λ d above finds stamp is. found_behind x d x.state (retired_spans rest)
       (record { base = d.base; length = d.length; stamp = stamp }) (λ e. omega (arith, above, e, placed.0.some)) (finds stamp is))
-      rest (rises_above (x.base + x.length) rest ascending.1) (finds_all (x.base + x.length) limit rest ascending.1 placed.1),
+      rest (ascending_above (x.base + x.length) rest ascending.1) (finds_all (x.base + x.length) limit rest ascending.1 placed.1),
 )
 
 -- what is due was retired with a stamp of at most the number

@@ -71,7 +71,7 @@ abbrev pub AreSameSpans : List RetiredSpan → List Chunk → Type 0
 AreSameSpans spans chunks = (span : RetiredSpan) → Contains spans span ↔ Contains (retired_spans chunks) span
 
 -- a list with one member is that member
-one_is : {X : Type 0} (y x : X) → Contains (y ∷ []) x → y ≡ x
+pub one_is : {X : Type 0} (y x : X) → Contains (y ∷ []) x → y ≡ x
 one_is {X} y x has = elim (Contains-push_cases [] y x has) [ inl none ↦ absurd (omega (arith, none.1)) | inr same ↦ same ]
 
 -- a member of a list in the middle of which another one is put

@@ -12,8 +12,8 @@ use Rattle.nc_region.specs.Each.{Each}
 use Rattle.nc_region.specs.Region.{IsLive, IsInChunk}
 
 -- no instruction at a marked place overlaps another marked place
-abbrev pub AreParted : List ℕ → List Mark → Type 0
-AreParted text marks =
+abbrev pub NoneOverlaps : List ℕ → List Mark → Type 0
+NoneOverlaps text marks =
     (now : State) (i : Instr) (k : ℕ) → IsMarked marks now → instruction_at text now.place ≡ Some i → 0 < k → k < i.len
     → mark_at marks (now.place + k) ≡ Unmarked
 
@@ -28,5 +28,5 @@ AreStopped text marks chunks = (now : State) → IsMarked marks now → IsFree c
 -- In every view no instruction at a marked place overlaps another marked place, and marked places outside live chunks hold
 -- F4.
 pub record ViewsKeep (w : World) (chunks : List Chunk) : Type 0 where
-  pub parted : (view : List ℕ) → IsViewOf w view → AreParted view w.marked.marks
+  pub parted : (view : List ℕ) → IsViewOf w view → NoneOverlaps view w.marked.marks
   pub stopped : (view : List ℕ) → IsViewOf w view → AreStopped view w.marked.marks chunks

@@ -12,8 +12,9 @@ use clap::error::ErrorKind as ClapKind;
 use halt::Halt;
 use nc_command::{CheckAsk, ask_check, check_words};
 use nc_files::{Failure, Progress, check_files};
+use nc_output::PipeWriter;
 use nc_usage::arguments;
-use std::io::{ErrorKind, Input, IsTerminal};
+use std::io::{self, ErrorKind, Input, IsTerminal};
 use std::process::ExitCode;
 use std::rt::{Env, Files};
 use std::sync::Wait;
@@ -39,7 +40,8 @@ where
         Err(error) => return Err(Halt::Words(error)),
     };
     let progress = Progress::new(ask.files.len(), is_terminal, is_shared);
-    match check_files(rt, &ask, progress) {
+    let mut writer = PipeWriter::new(io::writer(rt));
+    match check_files(rt, &ask, progress, &mut writer) {
         Ok(status) => Ok(status),
         Err(failure) => Err(Halt::Files(failure)),
     }

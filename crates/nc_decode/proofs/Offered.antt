@@ -1,4 +1,5 @@
--- What proofs of the crates above may use of this crate: its laws, what grows with a profile, and four lemmas on tests. The
+-- What proofs of the crates above may use of this crate: its laws, what grows with a profile, and lemmas on tests and
+-- bits. The
 -- other files are private.
 pub use Rattle.nc_decode.proofs.fronts.FrontLaws.{exact, prefix_free, stop_first, has_its_length, depends_on_its_bytes}
 pub use Rattle.nc_decode.proofs.fronts.FrontLaws.{masks_only_before_next, names_registers, masks_exactly, goes_on_after_prefix}
@@ -9,4 +10,6 @@ pub use Rattle.nc_decode.proofs.stages.Runs.{reads_by_states, none_is_paired}
 pub use Rattle.nc_decode.proofs.stages.Stages.{next_small}
 pub use Rattle.nc_decode.proofs.fronts.Growth.{IsPartOf, first_is_part, spelled_by_more}
 pub use Rattle.nc_decode.proofs.stages.BundleWords.{start_word, second_word, length-marks_in, marks_in-at}
-pub use Rattle.nc_decode.proofs.BoolTests.{true_or_false, both, cond_is_true, cond_is_false}
+pub use Rattle.nc_decode.proofs.BoolTests.{true_or_false, both, not_is, cond_is_true, cond_is_false, each_below-at}
+pub use Rattle.nc_decode.proofs.opcodes.EntriesMatchRows.{each_below}
+pub use Rattle.nc_decode.proofs.stages.BundleWords.{bit_passed}

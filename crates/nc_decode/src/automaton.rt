@@ -45,7 +45,7 @@ macro_rules! kind {
     // No opcode, and opcodes with nothing after them.
     (NO $prefix:tt)   => { column!($prefix Dead,        Dead,        Dead, Dead, Dead) };
     (OP $prefix:tt)   => { column!($prefix End,         Dead,        Dead, Dead, Dead) };
-    (STOP $prefix:tt) => { column!($prefix End,         Dead,        Dead, Dead, Dead) };
+    (TRAP $prefix:tt) => { column!($prefix End,         Dead,        Dead, Dead, Dead) };
     (OPV $prefix:tt)  => { column!($prefix End,         End,         Dead, Dead, Dead) };
     (STR $prefix:tt)  => { column!($prefix End,         Dead,        End,  Dead, Dead) };
     (STRV $prefix:tt) => { column!($prefix End,         End,         End,  Dead, Dead) };

@@ -139,7 +139,7 @@ pub(crate) const CALL: Entry = Entry {
     ..NO
 };
 /// HLT and UD2, at which a thread traps.
-pub(crate) const STOP: Entry = Entry {
+pub(crate) const TRAP: Entry = Entry {
     flow: Flow::Stop,
     forms: [1, 0, 0, 0, 0],
     ..NO

@@ -5,11 +5,11 @@ use Rattle.nc_entries.specs.declared.act.NcAct.{NcAct}
 use Rattle.nc_entries.specs.Shown.{entry_of, over}
 
 -- the buffer now begins with exactly this log's entries, and is as before beyond them; the count is their number
-pub record HasWritten (start now : List NcAct) (count : ℕ) (log : List Entry) : Type 0 where
+pub record HoldsLog (start now : List NcAct) (count : ℕ) (log : List Entry) : Type 0 where
   pub buffer : now ≡ over (map entry_of log) start
   pub counted : count ≡ length log
 
 -- whatever log the buffer began with at the old count, it now begins with that log and these entries, at the new count
-abbrev pub Adds : List NcAct → ℕ → List NcAct → ℕ → List Entry → Type 0
-Adds initial from acts count added =
-    (start : List NcAct) (log : List Entry) → HasWritten start initial from log → HasWritten start acts count (log ++ added)
+abbrev pub AddsEntries : List NcAct → ℕ → List NcAct → ℕ → List Entry → Type 0
+AddsEntries initial from acts count added =
+    (start : List NcAct) (log : List Entry) → HoldsLog start initial from log → HoldsLog start acts count (log ++ added)

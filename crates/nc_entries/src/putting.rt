@@ -6,7 +6,7 @@ ghost use Rattle.nc_decode.specs.declared.instruction.Mark.{Mark};
 ghost use Rattle.nc_acts.specs.Acts.{puts_where, is_inside};
 ghost use Rattle.nc_acts.specs.Log.{log_of_create, log_of_delete};
 ghost use Rattle.nc_entries.specs.Standing.{AreMarksAt};
-ghost use Rattle.nc_entries.specs.Written.{HasWritten};
+ghost use Rattle.nc_entries.specs.Written.{HoldsLog};
 ghost use Rattle.nc_entries.specs.machinery.Writing.{HasPutUpTo, starts_if, mark_if, marks_if, is_among};
 
 use crate::act::NcAct;
@@ -132,7 +132,7 @@ pub fn write_creation<C: ReadChunk>(acts: &mut [NcAct], base: u32, chunk: &C)
     requires high { base + length (C.code chunk.now) < 2 ^ 32 }
     requires whole { length (C.code chunk.now) % 32 ≡ 0 }
     requires room { length (C.code chunk.now) + 2 ≤ length acts.old }
-    ensures { HasWritten acts.old acts.new (length (C.code chunk.now) + 2) (log_of_create base (C.code chunk.now)) }
+    ensures { HoldsLog acts.old acts.new (length (C.code chunk.now) + 2) (log_of_create base (C.code chunk.now)) }
 {
     let count = write_code(acts, 0, base, chunk, false);
     let serialized = write(acts, count, serialize());
@@ -149,7 +149,7 @@ pub fn write_deletion<C: ReadChunk>(acts: &mut [NcAct], base: u32, chunk: &C)
     requires room { length (C.code chunk.now) + 2 ≤ length acts.old }
     // For any text that has the chunk's marks from this base on.
     ensures { (text : List Mark) → AreMarksAt text base (length (C.code chunk.now)) (C.marks chunk.now)
-        → HasWritten acts.old acts.new (length (C.code chunk.now) + 2) (log_of_delete text base (length (C.code chunk.now))) }
+        → HoldsLog acts.old acts.new (length (C.code chunk.now) + 2) (log_of_delete text base (length (C.code chunk.now))) }
 {
     let marked = write_stops(acts, 0, base, chunk, true);
     let serialized = write(acts, marked, serialize());

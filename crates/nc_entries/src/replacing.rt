@@ -4,7 +4,7 @@ ghost use Rattle.std.specs.Prelude.{◌≡◌, ◌+◌, ◌*◌, ◌<◌, ◌≤
 ghost use Rattle.nc_vet.specs.Chunk.{Piece};
 ghost use Rattle.nc_region.specs.Patch.{AreBytesOf, stands_there, any_place, log_of_instruction, log_of_modify};
 ghost use Rattle.nc_entries.specs.Standing.{AreBytesAt};
-ghost use Rattle.nc_entries.specs.Written.{Adds};
+ghost use Rattle.nc_entries.specs.Written.{AddsEntries};
 ghost use Rattle.nc_entries.specs.machinery.Writing.{HasPutUpTo};
 
 use crate::act::NcAct;
@@ -43,7 +43,7 @@ fn write_instruction(acts: &mut [NcAct], from: usize, at: u32, bytes: &[u8]) -> 
     requires room { from + 3 * length bytes.now ≤ length acts.old }
     ensures len { length acts.new ≡ length acts.old }
     ensures within { result ≤ from + 3 * length bytes.now }
-    ensures written { Adds acts.old from acts.new result (log_of_instruction at bytes.now) }
+    ensures written { AddsEntries acts.old from acts.new result (log_of_instruction at bytes.now) }
 {
     let first = bytes[0];
     if bytes.len() == 1 {
@@ -71,7 +71,7 @@ fn write_where_new(
     requires room { count + 3 * length bytes.now ≤ length acts.old }
     ensures len { length acts.new ≡ length acts.old }
     ensures within { result ≤ count + 3 * length bytes.now }
-    ensures written { (text : List ℕ) → AreBytesAt text base code.now → Adds acts.old count acts.new result
+    ensures written { (text : List ℕ) → AreBytesAt text base code.now → AddsEntries acts.old count acts.new result
         (if stands_there text (base + from) bytes.now then [] else log_of_instruction (base + from) bytes.now) }
 {
     if stands(code, from, bytes) {
@@ -101,7 +101,7 @@ pub fn write_patch(
     ensures len { length acts.new ≡ length acts.old }
     ensures within { result ≤ count + 3 * length new.now }
     ensures written { (text : List ℕ) (news : List Piece) → AreBytesAt text base code.now → AreBytesOf new.now news
-        → Adds acts.old count acts.new result (log_of_modify text (base + from) news) }
+        → AddsEntries acts.old count acts.new result (log_of_modify text (base + from) news) }
 {
     if new.is_empty() {
         return count;

@@ -2,3 +2,4 @@ mod Listed
 mod Labelled
 mod WrittenReports
 mod PlacedReports
+mod PrintedFiles

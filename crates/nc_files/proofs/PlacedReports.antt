@@ -1,5 +1,5 @@
 -- Reports in their places, and one after the other.
-use Rattle.std.proofs.Common.{◌≡◌, ℕ, zero, suc, ◌<◌, List, [], ◌∷◌, ◌++◌, length, get_or, set, take, drop, refl, ap, arith, Option, Some}
+use Rattle.std.proofs.Common.{◌≡◌, ℕ, zero, suc, ◌<◌, List, [], ◌∷◌, ◌++◌, length, get_or, set, take, drop, ap, arith, Option, Some}
 use Rattle.std.proofs.Common.{None, sym, subst, inl, inr}
 use Rattle.std.specs.Prelude.{◌⊎◌, All}
 use Rattle.std.specs.Borrow.{Bor}
@@ -7,81 +7,68 @@ use Rattle.std.specs.List.{AllZip}
 use Rattle.std.proofs.lemmas.List.Elements.{All-push, All-head, All-rest, All-take, All-append, All-drop}
 use Rattle.std.proofs.lemmas.Option.{slice_get-get_or}
 use Rattle.nc_command.specs.declared.asked.CheckAsk.{CheckAsk}
-use Rattle.nc_files.specs.Places.{FitsPlace, AreDone, ArePlaces}
+use Rattle.nc_command.proofs.Offered.{set_each, none_at}
+use Rattle.nc_files.specs.Places.{FitsReport, AreReports, ArePlaces}
 use Rattle.nc_files.specs.Reports.{ReportsOn, FitsFile}
 use Rattle.nc_files.specs.declared.working.Done.{Done}
 use Rattle.nc_files.specs.declared.working.Report.{Report}
 use Rattle.nc_files.specs.declared.working.Worker.{Worker}
 
--- what holds of each place holds after one of them has changed
-set_each : {X : Type 0} (P : ℕ → X → Type 0) (xs : List X) (i : ℕ) (y d : X) → ((k : ℕ) → P k (get_or xs k d)) → P i y → (k : ℕ)
-    → P k (get_or (set xs i y) k d)
-set_each P [] i y d h p k = h k
-set_each P (x ∷ xs) zero y d h p zero = p
-set_each P (x ∷ xs) zero y d h p (suc k) = h (suc k)
-set_each P (x ∷ xs) (suc i) y d h p zero = h zero
-set_each P (x ∷ xs) (suc i) y d h p (suc k) = set_each (λ j. P (suc j)) xs i y d (λ j. h (suc j)) p k
-
 -- what is put into its place is the report on that file
 pub places_set : (ask : CheckAsk) (files : List (Bor (List ℕ))) (places : List (Option Report)) (at : ℕ) (place : Option Report)
-    → ArePlaces ask files places → FitsPlace ask files at place → ArePlaces ask files (set places at place)
-places_set ask files places at place h p = record { each = set_each (FitsPlace ask files) places at place None h.each p }
+    → ArePlaces ask files places → FitsReport ask files at place → ArePlaces ask files (set places at place)
+places_set ask files places at place h p = record { each = set_each (FitsReport ask files) places at place None h.each p }
 
 -- where no place has a report, none has a wrong one
-none_at : (places : List (Option Report)) → All (λ a. a ≡ None) places → (k : ℕ) → get_or places k None ≡ None
-none_at [] none k = refl
-none_at (a ∷ rest) none zero = none zero None (omega arith)
-none_at (a ∷ rest) none (suc k) = none_at rest (λ j d below. none (suc j) d (omega (arith, below))) k
-
 pub none_placed : (ask : CheckAsk) (files : List (Bor (List ℕ))) (places : List (Option Report)) → All (λ a. a ≡ None) places
     → ArePlaces ask files places
 none_placed ask files places none = record {
-  each = λ k. subst (λ (a : Option Report). FitsPlace ask files k a) (sym (none_at places none k)) tt;
+  each = λ k. subst (λ (a : Option Report). FitsReport ask files k a) (sym (none_at places none k)) tt;
 }
 
 -- a worker that has done nothing has done it right
-none_done : (ask : CheckAsk) (files : List (Bor (List ℕ))) (done : List Done) → done ≡ [] → AreDone ask files done
+none_done : (ask : CheckAsk) (files : List (Bor (List ℕ))) (done : List Done) → done ≡ [] → AreReports ask files done
 none_done ask files done e = record { each = λ k d below. absurd (omega (arith, below, ap (λ (z : List Done). length z) e)) }
 
 pub none_worked : (ask : CheckAsk) (files : List (Bor (List ℕ))) (workers : List Worker) → All (λ worker. worker.done.items ≡ []) workers
-    → All (λ worker. AreDone ask files worker.done.items) workers
+    → All (λ worker. AreReports ask files worker.done.items) workers
 none_worked ask files workers none = λ k d below. none_done ask files (get_or workers k d).done.items (none k d below)
 
 -- a worker's list goes on by the report on one more file, or stays as it is
 pub done_more : (ask : CheckAsk) (files : List (Bor (List ℕ))) (done new : List Done) (n : ℕ) (d : Bor (List ℕ)) (report : Report)
-    → AreDone ask files done → n < length files → ReportsOn ask (get_or files n d).now report
-    → (new ≡ done ++ record { number = n; report = report } ∷ []) ⊎ (new ≡ done) → AreDone ask files new
+    → AreReports ask files done → n < length files → ReportsOn ask (get_or files n d).now report
+    → (new ≡ done ++ record { number = n; report = report } ∷ []) ⊎ (new ≡ done) → AreReports ask files new
 done_more ask files done new n d report h below reported (inl e) =
-    subst (AreDone ask files) (sym e)
+    subst (AreReports ask files) (sym e)
     (record {
-      each = All-push (λ d. FitsPlace ask files d.number (Some d.report)) done (record { number = n; report = report }) h.each
+      each = All-push (λ d. FitsReport ask files d.number (Some d.report)) done (record { number = n; report = report }) h.each
           (get_or files n d, slice_get-get_or files n d below, reported);
     })
-done_more ask files done new n d report h below reported (inr e) = subst (AreDone ask files) (sym e) h
+done_more ask files done new n d report h below reported (inr e) = subst (AreReports ask files) (sym e) h
 
 -- the first report of a worker's list is that on its file
-pub done_head : (ask : CheckAsk) (files : List (Bor (List ℕ))) (all rest : List Done) (one : Done) → all ≡ one ∷ rest → AreDone ask files all
-    → FitsPlace ask files one.number (Some one.report)
-done_head ask files all rest one e h = All-head (λ (d : Done). FitsPlace ask files d.number (Some d.report)) one rest
-    (subst (λ (z : List Done). All (λ d. FitsPlace ask files d.number (Some d.report)) z) e h.each)
+pub done_head : (ask : CheckAsk) (files : List (Bor (List ℕ))) (all rest : List Done) (one : Done) → all ≡ one ∷ rest → AreReports ask files all
+    → FitsReport ask files one.number (Some one.report)
+done_head ask files all rest one e h = All-head (λ (d : Done). FitsReport ask files d.number (Some d.report)) one rest
+    (subst (λ (z : List Done). All (λ d. FitsReport ask files d.number (Some d.report)) z) e h.each)
 
--- the other reports of a worker's list are those on their files
+-- the reports of a worker's list behind the first are those on their files
 pub done_tail : (ask : CheckAsk) (files : List (Bor (List ℕ))) (all rest : List Done) (one : Done) → all ≡ one ∷ rest
-    → AreDone ask files all → AreDone ask files rest
+    → AreReports ask files all → AreReports ask files rest
 done_tail ask files all rest one e h =
-    record { each = All-rest (λ (d : Done). FitsPlace ask files d.number (Some d.report)) one rest all e h.each }
+    record { each = All-rest (λ (d : Done). FitsReport ask files d.number (Some d.report)) one rest all e h.each }
 
 -- what the workers' lists hold once they are read out of the slice again
 pub workers_back : (ask : CheckAsk) (files : List (Bor (List ℕ))) (old new : List Worker) (n : ℕ)
-    → All (λ worker. worker.done.items ≡ []) old → All (λ worker. AreDone ask files worker.done.items) new
-    → All (λ worker. AreDone ask files worker.done.items) (take n (new ++ drop (length new) old))
+    → All (λ worker. worker.done.items ≡ []) old → All (λ worker. AreReports ask files worker.done.items) new
+    → All (λ worker. AreReports ask files worker.done.items) (take n (new ++ drop (length new) old))
 workers_back ask files old new n none done =
-    let P : Worker → Type 0 = λ worker. AreDone ask files worker.done.items in
+    let P : Worker → Type 0 = λ worker. AreReports ask files worker.done.items in
     All-take P n (new ++ drop (length new) old)
     (All-append P new (drop (length new) old) done (All-drop P (length new) old (none_worked ask files old none)))
 
 -- the first place has the report on the first file
-fits_first : (ask : CheckAsk) (file : Bor (List ℕ)) (files : List (Bor (List ℕ))) (place : Option Report) → FitsPlace ask (file ∷ files) 0 place
+fits_first : (ask : CheckAsk) (file : Bor (List ℕ)) (files : List (Bor (List ℕ))) (place : Option Report) → FitsReport ask (file ∷ files) 0 place
     → FitsFile ask file.now place
 fits_first ask file files None h = tt
 fits_first ask file files (Some report) (other, is, reported) =
@@ -90,12 +77,12 @@ fits_first ask file files (Some report) (other, is, reported) =
 
 -- a report in a place after the first one is that on a file after the first one
 fits_next : (ask : CheckAsk) (file : Bor (List ℕ)) (files : List (Bor (List ℕ))) (k : ℕ) (place : Option Report)
-    → FitsPlace ask (file ∷ files) (suc k) place → FitsPlace ask files k place
+    → FitsReport ask (file ∷ files) (suc k) place → FitsReport ask files k place
 fits_next ask file files k None h = tt
 fits_next ask file files k (Some report) h = h
 
 fits_each : (ask : CheckAsk) (files : List (Bor (List ℕ))) (places : List (Option Report)) → length places ≡ length files
-    → ((k : ℕ) → FitsPlace ask files k (get_or places k None)) → AllZip (λ file place. FitsFile ask file.now place) files places
+    → ((k : ℕ) → FitsReport ask files k (get_or places k None)) → AllZip (λ file place. FitsFile ask file.now place) files places
 fits_each ask [] [] long h = tt
 fits_each ask [] (place ∷ places) long h = absurd (omega (arith, long))
 fits_each ask (file ∷ files) [] long h = absurd (omega (arith, long))
@@ -108,19 +95,6 @@ fits_each ask (file ∷ files) (place ∷ places) long h = (
 pub places_fit : (ask : CheckAsk) (files : List (Bor (List ℕ))) (places : List (Option Report)) → length places ≡ length files
     → ArePlaces ask files places → AllZip (λ file place. FitsFile ask file.now place) files places
 places_fit ask files places long h = fits_each ask files places long h.each
-
--- nothing of nothing
-take_none : {X : Type 0} (n : ℕ) → take {A = X} n [] ≡ []
-take_none zero = refl
-take_none (suc n) = refl
-
--- a list that has been changed as a slice of the same length is that slice
-pub slice_back : {X : Type 0} (old new : List X) (n : ℕ) → n ≡ length old → length new ≡ length old → take n (new ++ drop (length new) old) ≡ new
-slice_back [] [] n e long = take_none n
-slice_back [] (y ∷ new) n e long = absurd (omega (arith, long))
-slice_back (x ∷ old) [] n e long = absurd (omega (arith, long))
-slice_back (x ∷ old) (y ∷ new) zero e long = absurd (omega (arith, e))
-slice_back (x ∷ old) (y ∷ new) (suc n) e long = ap (λ (z : List _). y ∷ z) (slice_back old new n (omega (arith, e)) (omega (arith, long)))
 
 -- what holds of two lists side by side holds at each index
 pub zip_at : {A B : Type 0} (R : A → B → Type 0) (xs : List A) (ys : List B) (k : ℕ) (d : A) (y : B) → AllZip R xs ys → k < length xs

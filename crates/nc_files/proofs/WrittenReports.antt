@@ -11,7 +11,7 @@ use Rattle.nc_output.specs.declared.detail.Style.{Style}
 use Rattle.nc_report.specs.Report.{HasWritten}
 use Rattle.nc_command.specs.declared.asked.CheckAsk.{CheckAsk}
 use Rattle.nc_files.specs.Parts.{bases_in, codes_in, names_in, part_name}
-use Rattle.nc_files.specs.Reports.{Judged, judged_in, segment_code, raw_code, ReportsCode, ReportsEach, ReportsRaw, hexadecimal_note, explanation, refusal_text}
+use Rattle.nc_files.specs.Reports.{Judged, judged_in, segment_code, raw_code, ReportsCode, ReportsAll, ReportsRaw, hexadecimal_note, explanation, refusal_text}
 use Rattle.nc_files.specs.declared.parts.Part.{Part}
 
 -- what was written says what it has to
@@ -32,17 +32,17 @@ written_more P Q R before mid after f a b = record {
 pub written_none : (P : List ℕ → Type 0) (before : Option (List ℕ)) → P [] → HasWritten P before before
 written_none P before p = record { text = []; says = p; written = Appends-nil before }
 
-or-false : (b : Bool) → b ≡ b || false
+pub or-false : (b : Bool) → b ≡ b || false
 or-false true = refl
 or-false false = refl
 
-or_assoc : (a b c : Bool) → (a || b) || c ≡ a || (b || c)
+pub or_assoc : (a b c : Bool) → (a || b) || c ≡ a || (b || c)
 or_assoc true b c = refl
 or_assoc false b c = refl
 
 -- the report on one more, after the reports on others
 pub reports_more : (ask : CheckAsk) (done : List Judged) (judged : Judged) (refused more : Bool) (text next : List ℕ)
-    → ReportsEach ask done refused text → ReportsCode ask judged more next → ReportsEach ask (done ++ judged ∷ []) (refused || more) (text ++ next)
+    → ReportsAll ask done refused text → ReportsCode ask judged more next → ReportsAll ask (done ++ judged ∷ []) (refused || more) (text ++ next)
 reports_more ask [] judged refused more text next (none, empty) h = (
   more,
   false,
@@ -78,7 +78,7 @@ judged_segments format name code (part ∷ parts) (segment ∷ segments) bases n
     let others = judged_segments format name code parts segments (cc) (cc) (cc) in
     cc
 
--- one more of the parts is before those that are left
+-- one more of a file's parts is before those that are left
 pub split_more : (all before after : List Part) (part : Part) (done : List Judged) → map judged_in all ≡ done ++ map judged_in before
     → before ≡ part ∷ after → map judged_in all ≡ (done ++ judged_in part ∷ []) ++ map judged_in after
 split_more all before after part done is next =

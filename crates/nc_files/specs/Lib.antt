@@ -1,3 +1,5 @@
 pub mod Parts
 pub mod Reports
 pub mod Places
+pub mod Files
+pub mod Outcomes

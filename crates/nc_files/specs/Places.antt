@@ -7,14 +7,14 @@ use Rattle.nc_files.specs.declared.working.Done.{Done}
 use Rattle.nc_files.specs.declared.working.Report.{Report}
 
 -- the report in place `at`, if there is one, is that on the file of this number
-abbrev pub FitsPlace : CheckAsk → List (Bor (List ℕ)) → ℕ → Option Report → Type 0
-FitsPlace ask files at None = ⊤
-FitsPlace ask files at (Some report) = (file : Bor (List ℕ)) × (slice_get files at ≡ Some file) × ReportsOn ask file.now report
+abbrev pub FitsReport : CheckAsk → List (Bor (List ℕ)) → ℕ → Option Report → Type 0
+FitsReport ask files at None = ⊤
+FitsReport ask files at (Some report) = (file : Bor (List ℕ)) × (slice_get files at ≡ Some file) × ReportsOn ask file.now report
 
 -- each report of a worker is that on the file of its number
-pub record AreDone (ask : CheckAsk) (files : List (Bor (List ℕ))) (done : List Done) : Type 0 where
-  pub each : All (λ d. FitsPlace ask files d.number (Some d.report)) done
+pub record AreReports (ask : CheckAsk) (files : List (Bor (List ℕ))) (done : List Done) : Type 0 where
+  pub each : All (λ d. FitsReport ask files d.number (Some d.report)) done
 
 -- each place is empty, or has the report on the file of its number
 pub record ArePlaces (ask : CheckAsk) (files : List (Bor (List ℕ))) (places : List (Option Report)) : Type 0 where
-  pub each : (k : ℕ) → FitsPlace ask files k (slice_index_or places k None)
+  pub each : (k : ℕ) → FitsReport ask files k (slice_index_or places k None)

@@ -36,10 +36,10 @@ ReportsCode ask judged refused text =
     Reports judged.base (limit_after ask.bundles) ask.style judged.name judged.code refused text
 
 -- the reports on all of these, in order; it is refused if any of them is
-abbrev pub ReportsEach : CheckAsk → List Judged → Bool → List ℕ → Type 0
-ReportsEach ask [] refused text = (refused ≡ false) × (text ≡ [])
-ReportsEach ask (judged ∷ others) refused text =
-    (one more : Bool) × (first rest : List ℕ) × ReportsCode ask judged one first × ReportsEach ask others more rest
+abbrev pub ReportsAll : CheckAsk → List Judged → Bool → List ℕ → Type 0
+ReportsAll ask [] refused text = (refused ≡ false) × (text ≡ [])
+ReportsAll ask (judged ∷ others) refused text =
+    (one more : Bool) × (first rest : List ℕ) × ReportsCode ask judged one first × ReportsAll ask others more rest
     × (refused ≡ one || more) × (text ≡ first ++ rest)
 
 -- a file of raw code, at the address that is asked for
@@ -86,7 +86,7 @@ pub record RefusesElf (style : Style) (name code text : List ℕ) : Type 0 where
 -- the reports on the segments of code of an ELF file, in the order of its program headers; or its refusal as a whole
 abbrev pub ReportsElf : CheckAsk → List ℕ → List ℕ → Bool → List ℕ → Type 0
 ReportsElf ask name code refused text =
-    (IsWellFormed code × ReportsEach ask (map (segment_code ask.style.format name code) (segments_of code)) refused text)
+    (IsWellFormed code × ReportsAll ask (map (segment_code ask.style.format name code) (segments_of code)) refused text)
     ⊎ ((refused ≡ true) × RefusesElf ask.style name code text)
 
 -- the file is judged as raw code: it doesn't begin as ELF files do, or that is asked for

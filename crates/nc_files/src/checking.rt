@@ -1,19 +1,22 @@
 //! Judging files, one round after another.
 
-ghost use Rattle.std.specs.Prelude.{◌<◌, ◌≤◌, IfOk, length};
+ghost use Rattle.std.specs.Prelude.{◌≡◌, ◌||◌, ◌∷◌, [], Bool, IfOk, OnOk};
 ghost use Rattle.std.specs.List.{AllZip};
+ghost use Rattle.std.specs.Io.KnownBytes.{Appends};
+ghost use Rattle.nc_report.specs.Report.{HasWritten};
 ghost use Rattle.nc_files.specs.Reports.{FitsFile};
+ghost use Rattle.nc_files.specs.Files.{PrintsFiles, exit_status};
+ghost use Rattle.nc_files.specs.Outcomes.{HasPrinted};
 
 use crate::files::Unread;
-use crate::judging::{Unjudged, judge_file};
+use crate::judging::{Unjudged, Unreported, judge_file};
 use crate::outcome::{Failure, Outcome};
 use crate::progress::Progress;
 use crate::working::{Report, judge_files};
 use nc_command::CheckAsk;
 use nc_output::{PipeWriter, write_out};
 use std::alloc::Global;
-use std::io;
-use std::io::Input;
+use std::io::{Input, Write};
 use std::rt::Files;
 use std::sync::Wait;
 use std::thread::Threads;
@@ -44,15 +47,18 @@ fn eprint_fault<R: Eprint>(rt: &R, file: &str, unread: Unread) {
 }
 
 /// Judges a file alone, and prints the report on it as it is made.
-fn judge_alone<R: AllocGlobal + Input + Files + Print + Eprint>(
+fn judge_alone<R: AllocGlobal + Input + Files + Eprint, W: Write>(
     rt: &R,
     ask: &CheckAsk<'_>,
     state: &mut State,
     file: &str,
-) -> Result<(), Failure> {
+    writer: &mut PipeWriter<W>,
+) -> Result<(), Failure>
+    ensures { OnOk result (HasPrinted ask.now (file.entry ∷ []) state.old.outcome state.new.outcome
+        (W.contents writer.old.writer) (W.contents writer.new.writer)) }
+{
     state.progress.yield_output(rt);
-    let mut writer = PipeWriter::new(io::writer(rt));
-    match judge_file(rt, ask, file, &mut writer) {
+    match judge_file(rt, ask, file, writer) {
         Ok(is_refused) => {
             state.outcome.is_refused |= is_refused;
             Ok(())
@@ -63,108 +69,115 @@ fn judge_alone<R: AllocGlobal + Input + Files + Print + Eprint>(
             state.outcome.is_faulty = true;
             Ok(())
         }
-        Err(Unjudged::OutOfMemory) => Err(Failure::OutOfMemory),
-        Err(Unjudged::WriteFailed) => Err(Failure::of_writing(writer.is_closed())),
+        Err(Unjudged::Unreported(Unreported::OutOfMemory)) => Err(Failure::OutOfMemory),
+        Err(Unjudged::Unreported(Unreported::WriteFailed)) => {
+            Err(Failure::of_writing(writer.is_closed()))
+        }
     }
 }
 
 /// Prints the report that a worker has made.
-fn print<R: Print + Eprint>(rt: &R, state: &mut State, report: &Report) -> Result<(), Failure> {
+fn print<R: Eprint, W: Write>(
+    rt: &R,
+    state: &mut State,
+    report: &Report,
+    writer: &mut PipeWriter<W>,
+) -> Result<(), Failure>
+    ensures text { OnOk result (Appends (W.contents writer.old.writer) (W.contents writer.new.writer) report.now.text.items) }
+    ensures faulty { state.new.outcome.is_faulty ≡ state.old.outcome.is_faulty }
+    ensures refused { state.new.outcome.is_refused ≡ state.old.outcome.is_refused || report.now.is_refused }
+{
     state.progress.yield_output(rt);
     state.outcome.is_refused |= report.is_refused;
-    let mut writer = PipeWriter::new(io::writer(rt));
-    match write_out(&mut writer, &report.text) {
+    match write_out(writer, &report.text) {
         Ok(()) => Ok(()),
         Err(_) => Err(Failure::of_writing(writer.is_closed())),
     }
 }
 
 /// Prints the report on a file, which is in the file's place. A file that no worker has judged is judged here.
-fn print_place<R: AllocGlobal + Input + Files + Print + Eprint>(
+fn print_place<R: AllocGlobal + Input + Files + Eprint, W: Write>(
     rt: &R,
     ask: &CheckAsk<'_>,
     state: &mut State,
     file: &str,
     place: &Option<Report>,
+    writer: &mut PipeWriter<W>,
 ) -> Result<(), Failure>
     requires { FitsFile ask.now file.now place.now }
+    ensures { OnOk result (HasPrinted ask.now (file.entry ∷ []) state.old.outcome state.new.outcome
+        (W.contents writer.old.writer) (W.contents writer.new.writer)) }
 {
     match place {
-        Some(report) => print(rt, state, report),
-        None => judge_alone(rt, ask, state, file),
-    }
-}
-
-/// Prints the report on the file of this number in a round.
-fn print_number<R: AllocGlobal + Input + Files + Print + Eprint>(
-    rt: &R,
-    ask: &CheckAsk<'_>,
-    state: &mut State,
-    files: &[&str],
-    places: &[Option<Report>],
-    number: usize,
-) -> Result<(), Failure>
-    requires below { number < length files.now }
-    requires places { AllZip (λ file place. FitsFile ask.now file.now place) files.now places.now }
-{
-    match places.get(number) {
-        Some(place) => print_place(rt, ask, state, files[number], place),
-        None => unreachable!(),
+        Some(report) => print(rt, state, report, writer),
+        None => judge_alone(rt, ask, state, file, writer),
     }
 }
 
 /// Prints the reports on the files of a round, in the order of the files.
-fn print_round<R: AllocGlobal + Input + Files + Print + Eprint>(
+fn print_round<R: AllocGlobal + Input + Files + Eprint, W: Write>(
     rt: &R,
     ask: &CheckAsk<'_>,
     state: &mut State,
     files: &[&str],
     places: &[Option<Report>],
+    writer: &mut PipeWriter<W>,
 ) -> Result<(), Failure>
     requires { AllZip (λ file place. FitsFile ask.now file.now place) files.now places.now }
+    ensures { OnOk result (HasPrinted ask.now files.now state.old.outcome state.new.outcome
+        (W.contents writer.old.writer) (W.contents writer.new.writer)) }
 {
     for number in 0..files.len() {
-        print_number(rt, ask, state, files, places, number)?;
+        match places.get(number) {
+            Some(place) => print_place(rt, ask, state, files[number], place, writer)?,
+            None => unreachable!(),
+        }
     }
     Ok(())
 }
 
 /// Judges the files of a round, by several workers if there are several files, and prints the reports on them.
-fn judge_round<R: Threads + Wait + Sync + AllocGlobal + Input + Files + Print + Eprint>(
+fn judge_round<R: Threads + Wait + Sync + AllocGlobal + Input + Files + Eprint, W: Write>(
     rt: &R,
     ask: &CheckAsk<'_>,
     state: &mut State,
     files: &[&str],
+    writer: &mut PipeWriter<W>,
 ) -> Result<(), Failure>
 where
     R::File: Send + Sync,
     R::Dir: Send + Sync,
     R::Reader: Send + Sync,
+    ensures { OnOk result (HasPrinted ask.now files.now state.old.outcome state.new.outcome
+        (W.contents writer.old.writer) (W.contents writer.new.writer)) }
 {
     if files.len() == 1 {
-        return judge_alone(rt, ask, state, files[0]);
+        return judge_alone(rt, ask, state, files[0], writer);
     }
     match judge_files(rt, ask, files) {
-        Ok(places) => print_round(rt, ask, state, files, places.as_slice()),
+        Ok(places) => print_round(rt, ask, state, files, places.as_slice(), writer),
         Err(_) => Err(Failure::OutOfMemory),
     }
 }
 
 /// Judges the files that are asked for, one round after another.
-fn judge_all<R: Threads + Wait + Sync + AllocGlobal + Input + Files + Print + Eprint>(
+fn judge_all<R: Threads + Wait + Sync + AllocGlobal + Input + Files + Eprint, W: Write>(
     rt: &R,
     ask: &CheckAsk<'_>,
     state: &mut State,
+    writer: &mut PipeWriter<W>,
 ) -> Result<(), Failure>
 where
     R::File: Send + Sync,
     R::Dir: Send + Sync,
     R::Reader: Send + Sync,
+    ensures { OnOk result (HasPrinted ask.now ask.now.files.items state.old.outcome state.new.outcome
+        (W.contents writer.old.writer) (W.contents writer.new.writer)) }
 {
     let round = if ask.workers > 1 { ROUND } else { 1 };
     let mut done: usize = 0;
     for files in ask.files.chunks(round) {
-        judge_round(rt, ask, state, files)?;
+        judge_round(rt, ask, state, files, writer)?;
         done = files.len().saturating_add(done);
         state.progress.show(rt, done);
     }
@@ -172,18 +185,22 @@ where
     Ok(())
 }
 
-/// Judges the files that are asked for, in order, and returns the exit status: 2 if a file wasn't judged, otherwise 1 if one was refused,
-/// otherwise 0.
-pub fn check_files<R: Threads + Wait + Sync + AllocGlobal + Input + Files + Print + Eprint>(
+/// Judges the files that are asked for, and writes the reports on them. Returns the exit status: 2 if a file wasn't judged, otherwise 1 if
+/// one was refused, otherwise 0. A file that can't be read is named on standard error.
+pub fn check_files<R: Threads + Wait + Sync + AllocGlobal + Input + Files + Eprint, W: Write>(
     rt: &R,
     ask: &CheckAsk<'_>,
     progress: Progress,
+    writer: &mut PipeWriter<W>,
 ) -> Result<u8, Failure>
 where
     R::File: Send + Sync,
     R::Dir: Send + Sync,
     R::Reader: Send + Sync,
-    ensures { IfOk result (λ status. status ≤ 2) }
+    // For each file, in the files' order, exactly the report on a file of this name was written; or nothing, and then the status is 2. What
+    // bytes a file has, and whether it can be read, is up to its device.
+    ensures { IfOk result (λ status. (faulty refused : Bool) × (status ≡ exit_status faulty refused)
+        × HasWritten (PrintsFiles ask.now ask.now.files.items faulty refused) (W.contents writer.old.writer) (W.contents writer.new.writer)) }
 {
     keep_memory(rt.alloc());
     let mut state = State {
@@ -193,7 +210,7 @@ where
         },
         progress,
     };
-    match judge_all(rt, ask, &mut state) {
+    match judge_all(rt, ask, &mut state, writer) {
         Ok(()) => Ok(state.outcome.status()),
         Err(failure) => Err(failure),
     }

@@ -1,10 +1,11 @@
 //! Judging one file, and writing the report on it.
 
-ghost use Rattle.std.specs.Prelude.{◌≡◌, ◌≢◌, ◌++◌, ℕ, List, true, IfOk, OnOk, map};
+ghost use Rattle.std.specs.Prelude.{◌≡◌, ◌≢◌, ◌++◌, ℕ, List, true, IfOk, IfErr, OnOk, map};
 ghost use Rattle.nc_elf.specs.Faults.{HasElfFault};
 ghost use Rattle.nc_elf.specs.declared.fault.ElfFault.TheVariants as elf;
 ghost use Rattle.nc_report.specs.Report.{HasWritten};
-ghost use Rattle.nc_files.specs.Reports.{judged_in, ReportsCode, ReportsEach, ReportsRaw, RefusesElf, ReportsElf, ReportsFile, explanation, refusal_text};
+ghost use Rattle.nc_files.specs.Files.{IsUnread};
+ghost use Rattle.nc_files.specs.Reports.{judged_in, ReportsCode, ReportsAll, ReportsRaw, RefusesElf, ReportsElf, ReportsFile, explanation, refusal_text};
 
 use crate::files::{Unread, read_file};
 use crate::parts::{Part, parts_of};
@@ -16,15 +17,22 @@ use std::alloc::{AllocError, Global};
 use std::io::{Input, Write};
 use std::rt::Files;
 
-/// Why a file isn't judged, or the report on it isn't complete.
+/// Why the report on code isn't complete.
 #[derive(Clone, Copy, Drop)]
-pub enum Unjudged {
-    /// It can't be read.
-    Unread(Unread),
+pub enum Unreported {
     /// There is no memory.
     OutOfMemory,
     /// The writer failed.
     WriteFailed,
+}
+
+/// Why a file isn't judged.
+#[derive(Clone, Copy, Drop)]
+pub enum Unjudged {
+    /// It can't be read.
+    Unread(Unread),
+    /// The report on it isn't complete.
+    Unreported(Unreported),
 }
 
 /// Judges code and writes the report on it. Returns whether it was refused.
@@ -33,16 +41,16 @@ fn judge_part<W: Write>(
     ask: &CheckAsk<'_>,
     part: Part,
     writer: &mut W,
-) -> Result<bool, Unjudged>
+) -> Result<bool, Unreported>
     ensures { IfOk result (λ refused. HasWritten (ReportsCode ask.now (judged_in part) refused)
         (W.contents writer.old) (W.contents writer.new)) }
 {
     let Part { base, source } = part;
     match report(alloc, source, base, ask.bundles, ask.style, writer) {
         Ok(refused) => Ok(refused),
-        Err(ReportFault::WriteFailed) => Err(Unjudged::WriteFailed),
+        Err(ReportFault::WriteFailed) => Err(Unreported::WriteFailed),
         // the number of bundles is in range, since the command line was parsed
-        Err(_) => Err(Unjudged::OutOfMemory),
+        Err(_) => Err(Unreported::OutOfMemory),
     }
 }
 
@@ -52,15 +60,15 @@ fn judge_parts<W: Write>(
     ask: &CheckAsk<'_>,
     parts: Vec<Part>,
     writer: &mut W,
-) -> Result<bool, Unjudged>
-    ensures { IfOk result (λ refused. HasWritten (ReportsEach ask.now (map judged_in parts.items) refused)
+) -> Result<bool, Unreported>
+    ensures { IfOk result (λ refused. HasWritten (ReportsAll ask.now (map judged_in parts.items) refused)
         (W.contents writer.old) (W.contents writer.new)) }
 {
     let mut is_refused = false;
     for part in parts {
         match judge_part(alloc, ask, part, writer) {
             Ok(more) => is_refused |= more,
-            Err(unjudged) => return Err(unjudged),
+            Err(unreported) => return Err(unreported),
         }
     }
     Ok(is_refused)
@@ -118,7 +126,7 @@ fn refuse<W: Write>(
     file: &Source,
     fault: ElfFault,
     writer: &mut W,
-) -> Result<bool, Unjudged>
+) -> Result<bool, Unreported>
     requires has { HasElfFault file.now.code.items fault }
     requires real { fault ≢ elf.OutOfMemory }
     ensures { IfOk result (λ refused. (refused ≡ true)
@@ -126,11 +134,11 @@ fn refuse<W: Write>(
         (W.contents writer.old) (W.contents writer.new)) }
 {
     let Ok(text) = refusal(alloc, ask.style, file.name.as_slice(), fault) else {
-        return Err(Unjudged::OutOfMemory);
+        return Err(Unreported::OutOfMemory);
     };
     match write_out(writer, &text) {
         Ok(()) => Ok(true),
-        Err(_) => Err(Unjudged::WriteFailed),
+        Err(_) => Err(Unreported::WriteFailed),
     }
 }
 
@@ -140,13 +148,13 @@ fn judge_elf<W: Write>(
     ask: &CheckAsk<'_>,
     file: &Source,
     writer: &mut W,
-) -> Result<bool, Unjudged>
+) -> Result<bool, Unreported>
     ensures { IfOk result (λ refused. HasWritten (ReportsElf ask.now file.now.name.items file.now.code.items refused)
         (W.contents writer.old) (W.contents writer.new)) }
 {
     match parts_of(alloc, file, ask.style) {
         Ok(parts) => judge_parts(alloc, ask, parts, writer),
-        Err(ElfFault::OutOfMemory) => Err(Unjudged::OutOfMemory),
+        Err(ElfFault::OutOfMemory) => Err(Unreported::OutOfMemory),
         Err(fault) => refuse(alloc, ask, file, fault, writer),
     }
 }
@@ -166,7 +174,7 @@ fn judge_raw<W: Write>(
     ask: &CheckAsk<'_>,
     source: Source,
     writer: &mut W,
-) -> Result<bool, Unjudged>
+) -> Result<bool, Unreported>
     ensures { IfOk result (λ refused. HasWritten (ReportsRaw ask.now source.name.items source.code.items refused)
         (W.contents writer.old) (W.contents writer.new)) }
 {
@@ -174,14 +182,14 @@ fn judge_raw<W: Write>(
     let is_noted = has_lines(ask.style) && is_hexadecimal(source.code.as_slice());
     let is_refused = match judge_part(alloc, ask, Part { base, source }, writer) {
         Ok(is_refused) => is_refused,
-        Err(unjudged) => return Err(unjudged),
+        Err(unreported) => return Err(unreported),
     };
     if is_refused || !is_noted {
         return Ok(is_refused);
     }
     match write_out(writer, NOTE) {
         Ok(()) => Ok(false),
-        Err(_) => Err(Unjudged::WriteFailed),
+        Err(_) => Err(Unreported::WriteFailed),
     }
 }
 
@@ -191,7 +199,7 @@ fn judge_source<W: Write>(
     ask: &CheckAsk<'_>,
     source: Source,
     writer: &mut W,
-) -> Result<bool, Unjudged>
+) -> Result<bool, Unreported>
     ensures { IfOk result (λ refused. HasWritten (ReportsFile ask.now source.name.items source.code.items refused)
         (W.contents writer.old) (W.contents writer.new)) }
 {
@@ -211,12 +219,17 @@ pub fn judge_file<R: AllocGlobal + Input + Files, W: Write>(
 ) -> Result<bool, Unjudged>
     // Exactly the report on a file of this name was written, and the result says whether it is refused. What bytes a file has is up
     // to its device.
-    ensures { IfOk result (λ refused. (code : List ℕ) × HasWritten (ReportsFile ask.now file.now code refused)
+    ensures report { IfOk result (λ refused. (code : List ℕ) × HasWritten (ReportsFile ask.now file.now code refused)
         (W.contents writer.old) (W.contents writer.new)) }
+    // Nothing is written for a file that can't be read.
+    ensures unread { IfErr result (λ unjudged. IsUnread unjudged → W.contents writer.new ≡ W.contents writer.old) }
 {
     match read_file(rt, file) {
-        Ok(source) => judge_source(rt.alloc(), ask, source, writer),
-        Err(Unread::OutOfMemory) => Err(Unjudged::OutOfMemory),
+        Ok(source) => match judge_source(rt.alloc(), ask, source, writer) {
+            Ok(is_refused) => Ok(is_refused),
+            Err(unreported) => Err(Unjudged::Unreported(unreported)),
+        },
+        Err(Unread::OutOfMemory) => Err(Unjudged::Unreported(Unreported::OutOfMemory)),
         Err(unread) => Err(Unjudged::Unread(unread)),
     }
 }

@@ -1,6 +1,7 @@
 //! How judging the files ends.
 
-ghost use Rattle.std.specs.Prelude.{◌≡◌, ◌≤◌, ◌↔◌, true, false, IfSome, IsNone, codes};
+ghost use Rattle.std.specs.Prelude.{◌≡◌, ◌↔◌, true, false, IfSome, IsNone, codes};
+ghost use Rattle.nc_files.specs.Files.{exit_status};
 
 /// Why the files are not all judged.
 #[derive(Clone, Copy, Drop)]
@@ -43,7 +44,7 @@ impl Failure {
 /// The findings about the files so far.
 #[derive(Clone, Copy, Drop)]
 pub struct Outcome {
-    /// A file wasn't judged: it couldn't be read, was too long, or there was no memory for it.
+    /// A file wasn't judged, since it couldn't be read or was too long.
     pub is_faulty: bool,
     /// A file was refused.
     pub is_refused: bool,
@@ -52,10 +53,7 @@ pub struct Outcome {
 impl Outcome {
     /// The exit status after the program has been through its files.
     pub fn status(self) -> u8
-        ensures faulty { (result ≡ 2) ↔ (self.is_faulty ≡ true) }
-        ensures refused { (result ≡ 1) ↔ ((self.is_faulty ≡ false) × (self.is_refused ≡ true)) }
-        ensures good { (result ≡ 0) ↔ ((self.is_faulty ≡ false) × (self.is_refused ≡ false)) }
-        ensures range { result ≤ 2 }
+        ensures { result ≡ exit_status self.is_faulty self.is_refused }
     {
         if self.is_faulty {
             2

@@ -2,7 +2,7 @@
 
 ghost use Rattle.std.specs.Prelude.{◌≡◌, ◌<◌, ◌++◌, ◌∷◌, [], ◌⊎◌, All, None, Some, IfOk, IfSome, length, vec_len};
 ghost use Rattle.std.specs.List.{AllZip};
-ghost use Rattle.nc_files.specs.Places.{FitsPlace, AreDone, ArePlaces};
+ghost use Rattle.nc_files.specs.Places.{FitsReport, AreReports, ArePlaces};
 ghost use Rattle.nc_files.specs.Reports.{ReportsOn, FitsFile};
 
 use crate::buffered::BufferedReport;
@@ -125,8 +125,8 @@ fn judge_next<R: Wait + AllocGlobal + Input + Files>(
     worker: &mut Worker,
 )
     requires below { number < length files.now }
-    requires done { AreDone ask.now files.now worker.old.done.items }
-    ensures { AreDone ask.now files.now worker.new.done.items }
+    requires done { AreReports ask.now files.now worker.old.done.items }
+    ensures { AreReports ask.now files.now worker.new.done.items }
 {
     if let Some(report) = judge_one(rt, ask, files[number], large, worker.room) {
         keep(worker, number, report);
@@ -142,8 +142,8 @@ fn work<R: Wait + AllocGlobal + Input + Files>(
     large: &Mutex<()>,
     worker: &mut Worker,
 )
-    requires { AreDone ask.now files.now worker.old.done.items }
-    ensures { AreDone ask.now files.now worker.new.done.items }
+    requires { AreReports ask.now files.now worker.old.done.items }
+    ensures { AreReports ask.now files.now worker.new.done.items }
 {
     for _ in 0..files.len() {
         let number = next.fetch_add(1, Ordering::SeqCst);
@@ -165,8 +165,8 @@ where
     R::File: Send + Sync,
     R::Dir: Send + Sync,
     R::Reader: Send + Sync,
-    requires { All (λ worker. AreDone ask.now files.now worker.done.items) workers.old }
-    ensures { All (λ worker. AreDone ask.now files.now worker.done.items) workers.new }
+    requires { All (λ worker. AreReports ask.now files.now worker.done.items) workers.old }
+    ensures { All (λ worker. AreReports ask.now files.now worker.done.items) workers.new }
 {
     let next = AtomicUsize::new(0);
     let large = Mutex::new(());
@@ -176,8 +176,8 @@ where
         workers,
         count,
         &|_number: usize, worker: &mut Worker|
-            requires { AreDone ask.now files.now worker.old.done.items }
-            ensures { AreDone ask.entry.now files.entry.now worker.new.done.items }
+            requires { AreReports ask.now files.now worker.old.done.items }
+            ensures { AreReports ask.entry.now files.entry.now worker.new.done.items }
         { work(rt, ask, files, &next, &large, worker) },
     );
 }
@@ -196,7 +196,7 @@ fn make_places(alloc: Global, count: usize) -> Result<Vec<Option<Report>>, Alloc
 
 /// Puts a report into the place of its file.
 fn put(ask: &CheckAsk<'_>, files: &[&str], done: Done, places: &mut [Option<Report>])
-    requires done { FitsPlace ask.now files.now done.number (Some done.report) }
+    requires done { FitsReport ask.now files.now done.number (Some done.report) }
     requires places { ArePlaces ask.now files.now places.old }
     ensures len { length places.new ≡ length places.old }
     ensures places { ArePlaces ask.now files.now places.new }
@@ -209,7 +209,7 @@ fn put(ask: &CheckAsk<'_>, files: &[&str], done: Done, places: &mut [Option<Repo
 
 /// Puts the reports of a worker into the places of its files.
 fn put_all(ask: &CheckAsk<'_>, files: &[&str], done: Vec<Done>, places: &mut [Option<Report>])
-    requires done { AreDone ask.now files.now done.items }
+    requires done { AreReports ask.now files.now done.items }
     requires places { ArePlaces ask.now files.now places.old }
     ensures len { length places.new ≡ length places.old }
     ensures places { ArePlaces ask.now files.now places.new }
@@ -221,7 +221,7 @@ fn put_all(ask: &CheckAsk<'_>, files: &[&str], done: Vec<Done>, places: &mut [Op
 
 /// Puts the reports of all workers into the places of their files.
 fn gather(ask: &CheckAsk<'_>, files: &[&str], workers: Vec<Worker>, places: &mut [Option<Report>])
-    requires workers { All (λ worker. AreDone ask.now files.now worker.done.items) workers.items }
+    requires workers { All (λ worker. AreReports ask.now files.now worker.done.items) workers.items }
     requires places { ArePlaces ask.now files.now places.old }
     ensures len { length places.new ≡ length places.old }
     ensures places { ArePlaces ask.now files.now places.new }

@@ -57,3 +57,19 @@ pub fold-lower_below : (a : ℕ) (bs : List ℕ) (i d : ℕ) → i < length bs �
 fold-lower_below a [] i d l ne = absurd (omega arith)
 fold-lower_below a (b ∷ bs) zero d l ne = le_trans (fold-lower_le (lower a b) bs) (lower_le a b ne)
 fold-lower_below a (b ∷ bs) (suc i) d l ne = fold-lower_below (lower a b) bs i d (omega arith) ne
+
+-- the least number is at most each bound that stays
+pub least_below : (g : ℕ) (bs : List ℕ) (k : ℕ) → k < length bs → get_or bs k 0 ≢ left_word → least_or g (staying bs) ≤ get_or bs k 0
+least_below g [] k lt ne = absurd (omega (arith, lt))
+least_below g (b ∷ bs) zero lt ne =
+    subst (λ (t : Bool). least_or g (cond (not t) (b ∷ staying bs) (staying bs)) ≤ b) (sym (ne_eqb b left_word ne))
+    (subst (λ (n : ℕ). n ≤ b) (sym (fold-staying b bs)) (fold-lower_le b bs))
+least_below g (b ∷ bs) (suc k) lt ne =
+    go (not (b == left_word))
+    (subst (λ (n : ℕ). n ≤ get_or bs k 0) (sym (fold-staying b bs)) (fold-lower_below b bs k 0 (omega (arith, lt)) ne))
+    (least_below g bs k (omega (arith, lt)) ne)
+  where
+    go : (t : Bool) → fold min b (staying bs) ≤ get_or bs k 0 → least_or g (staying bs) ≤ get_or bs k 0
+        → least_or g (cond t (b ∷ staying bs) (staying bs)) ≤ get_or bs k 0
+    go true counted passed = counted
+    go false counted passed = passed

@@ -8,14 +8,15 @@ use Rattle.nc_text.specs.Places.{limit_of}
 use Rattle.nc_vet.specs.Faults.{HasGoodSpan}
 use Rattle.nc_list.specs.declared.chunk.Chunk.{Chunk}
 use Rattle.nc_region.specs.Region.{IsRegion}
-use Rattle.nc_region.proofs.Offered.{each_get, apart_by_index}
+use Rattle.nc_list.proofs.Offered.{ascending_apart}
+use Rattle.nc_region.proofs.Offered.{each_get}
 
 -- a later chunk has another base
 later_base : (marked : MarkedText) (chunks : List Chunk) (d : Chunk) → IsRegion marked chunks → (i j : ℕ) → i < j → j < length chunks
     → (get_or chunks i d).base < (get_or chunks j d).base
 later_base marked chunks d region i j before lt =
     let good = each_get (λ (x : Chunk). HasGoodSpan x.base (limit_of marked.bytes) x.length) chunks i d (omega (arith, before, lt)) region.placed in
-    omega (arith, good.some, apart_by_index 0x10000 chunks d region.ascending i j before lt)
+    omega (arith, good.some, ascending_apart 0x10000 chunks i j d region.ascending before lt)
 
 -- listed chunks of one base are one
 pub one_of_base : (marked : MarkedText) (chunks : List Chunk) (c d : Chunk) → IsRegion marked chunks → Contains chunks c

@@ -25,7 +25,7 @@ use Rattle.nc_calls.proofs.Offered.{log_append}
 use Rattle.nc_entries.specs.declared.act.NcAct.{NcAct}
 use Rattle.nc_entries.specs.Shown.{entry_of}
 use Rattle.nc_handle.specs.Lent.{IsReported}
-use Rattle.nc_handle.specs.RegionHandle.{RegionHandleState, HasBegun, HasEnded, HasReclaimed, meetings}
+use Rattle.nc_handle.specs.RegionHandle.{RegionHandleState, HasBegunDeletion, HasEndedDeletion, HasReclaimed, meetings}
 use Rattle.nc_handle.specs.Pending.{events_pending_by, events_pending, IsHandleCall, Changes, Begins, Ends, ReportsPending, IsLibrarys, DoesItself}
 
 -- what is pending for some elements, and then for others
@@ -176,11 +176,11 @@ patches old new at bytes lent now count v lawful is none others reported =
     (patch_all v no_details old.region.marked.bytes at run.news))))
 
 -- the entries reported for the first call of a deletion are its pending events
-pub begins : (old new : RegionHandleState) (base : ℕ) (c : Chunk) (lent now : List NcAct) (count : ℕ) (v : MarkedChunk) → HasBegun old new base c
+pub begins : (old new : RegionHandleState) (base : ℕ) (c : Chunk) (lent now : List NcAct) (count : ℕ) (v : MarkedChunk) → HasBegunDeletion old new base c
     → IsReported lent now count (log_of_delete old.region.marked.marks base c.length) → ReportsPending old new v lent now count
 begins old new base c lent now count v begun reported =
     reported_due old new v lent now count (log_of_delete old.region.marked.marks base c.length) reported
-    (λ seats. Begins c (subst (λ (b : ℕ). HasBegun old new b c) (sym begun.live.2) begun)
+    (λ seats. Begins c (subst (λ (b : ℕ). HasBegunDeletion old new b c) (sym begun.live.2) begun)
     (ap (λ (b : ℕ). events_pending v (map entry_of (log_of_delete old.region.marked.marks base c.length)) ++ Retires b c.length ∷ []) begun.live.2
     ∙ (stops_due v old.region.marked.marks base c.length
     ∙ ap (λ (b : ℕ). delete_events old.region.marked.marks b c.length) (sym begun.live.2))))
@@ -188,7 +188,7 @@ begins old new base c lent now count v begun reported =
 -- ---- what the library does itself
 
 -- the stamp of a deletion is drawn by the library itself
-pub ends : (seats : ℕ) (old new : RegionHandleState) (stamp : ℕ) → HasEnded old new stamp → DoesItself seats old new
+pub ends : (seats : ℕ) (old new : RegionHandleState) (stamp : ℕ) → HasEndedDeletion old new stamp → DoesItself seats old new
 ends seats old new stamp is =
     record {
       own = Retires is.chunk.base is.chunk.length ∷ [];

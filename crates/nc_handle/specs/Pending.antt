@@ -7,7 +7,7 @@ use Rattle.nc_region.specs.schedules.Events.{Event, Puts, Serializes, Marks, Ret
 use Rattle.nc_calls.specs.Calls.{delete_events}
 use Rattle.nc_calls.specs.Histories.{IsCall}
 use Rattle.nc_entries.specs.declared.act.NcAct.{NcAct}
-use Rattle.nc_handle.specs.RegionHandle.{RegionHandleState, HasBegun, HasEnded}
+use Rattle.nc_handle.specs.RegionHandle.{RegionHandleState, HasBegunDeletion, HasEndedDeletion}
 
 -- the stores of these bytes, from this address on in ascending order, at the places whose bits are set; the lowest bit is
 -- the first place's
@@ -42,10 +42,10 @@ ChangesPages old new = new ≡ record old { region = record old.region { made = 
 -- with the stamp.
 pub data IsHandleCall (seats : ℕ) (old new : RegionHandleState) (pending : List Event) : Type 0 where
   Changes : old.begun ≡ None → new.begun ≡ None → IsCall seats old.region new.region pending → IsHandleCall seats old new pending
-  Begins : (c : Chunk) → HasBegun old new c.base c
+  Begins : (c : Chunk) → HasBegunDeletion old new c.base c
       → pending ++ Retires c.base c.length ∷ [] ≡ delete_events old.region.marked.marks c.base c.length
       → IsHandleCall seats old new pending
-  Ends : (stamp : ℕ) (is : HasEnded old new stamp) → pending ≡ Retires is.chunk.base is.chunk.length ∷ []
+  Ends : (stamp : ℕ) (is : HasEndedDeletion old new stamp) → pending ≡ Retires is.chunk.base is.chunk.length ∷ []
       → IsHandleCall seats old new pending
 
 -- If a buffer was lent, its first `count` elements now are the events pending after the call, for a host that knows this chunk.

@@ -108,7 +108,7 @@ MayRefuseBegin h base room (retire.NoRoom wanted) =
 
 -- The deletion of this live chunk with this base is under way, none was before, and a stamp is left for it. All else is
 -- as before.
-pub record HasBegun (old new : RegionHandleState) (base : ℕ) (c : Chunk) : Type 0 where
+pub record HasBegunDeletion (old new : RegionHandleState) (base : ℕ) (c : Chunk) : Type 0 where
   pub live : IsLiveAt old.region.chunks base c
   pub room : old.region.keeper.numbers.generation < 2 ^ 62
   pub none : old.begun ≡ None
@@ -117,7 +117,7 @@ pub record HasBegun (old new : RegionHandleState) (base : ℕ) (c : Chunk) : Typ
 -- The chunk whose deletion was under way is the one that is deleted, with this stamp (`IsDeleted` of nc_region), and none
 -- is under way. All acts of the deletion are logged now, as a call of a history (`LogsCall` of nc_calls). All else is as
 -- before.
-pub record HasEnded (old new : RegionHandleState) (stamp : ℕ) : Type 0 where
+pub record HasEndedDeletion (old new : RegionHandleState) (stamp : ℕ) : Type 0 where
   pub chunk : Chunk
   pub begun : old.begun ≡ Some chunk
   pub deleted : IsDeleted old.region new.region chunk.base stamp

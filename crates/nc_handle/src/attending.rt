@@ -4,12 +4,12 @@ ghost use Rattle.std.specs.Prelude.{◌≡◌, ◌≤◌, ◌<◌, All, length, 
 ghost use Rattle.nc_gens.specs.Seen.{Raised, PassState};
 ghost use Rattle.nc_handle.specs.RegionHandle.{IsIn};
 
-use crate::region_handle::Owned;
+use crate::region_handle::HandleActs;
 use nc_gens::{Gens, Pass};
 use nc_region::RegionOf;
 
 /// Checks in for a pass whose seat no thread has, and lets the region's keeper learn of it.
-fn attend_one(region: &mut RegionOf<Owned>, gens: &Gens, pass: &mut Pass)
+fn attend_one(region: &mut RegionOf<HandleActs>, gens: &Gens, pass: &mut Pass)
     requires region { region.old.keeper.table ≡ gens.now }
     requires pass { pass.old.table ≡ gens.now }
     ensures same { (pass.new.table ≡ pass.old.table) × (pass.new.seat ≡ pass.old.seat) }
@@ -26,7 +26,7 @@ fn attend_one(region: &mut RegionOf<Owned>, gens: &Gens, pass: &mut Pass)
 }
 
 /// Checks in for passes whose seats no thread has, and lets the region's keeper learn of it.
-pub(crate) fn attend(region: &mut RegionOf<Owned>, gens: &Gens, passes: &mut [Pass])
+pub(crate) fn attend(region: &mut RegionOf<HandleActs>, gens: &Gens, passes: &mut [Pass])
     requires region { region.old.keeper.table ≡ gens.now }
     requires passes { All (λ p. p.table ≡ gens.now) passes.old }
     ensures tables { All (λ p. p.table ≡ gens.now) passes.new }

@@ -10,7 +10,7 @@ ghost use Rattle.nc_region.specs.Region.{IsCreated, Meets};
 ghost use Rattle.nc_calls.specs.Calls.{no_details};
 ghost use Rattle.nc_calls.specs.Histories.{LogsCall};
 ghost use Rattle.nc_entries.specs.Standing.{AreBytesAt};
-ghost use Rattle.nc_handle.specs.RegionHandle.{IsLiveAt, IsShort, IsShortForPatch, HasBegun, HasEnded, IsNotLoaded, MayRefuseBegin, MayRefuseLoad, MayRefuseModify};
+ghost use Rattle.nc_handle.specs.RegionHandle.{IsLiveAt, IsShort, IsShortForPatch, HasBegunDeletion, HasEndedDeletion, IsNotLoaded, MayRefuseBegin, MayRefuseLoad, MayRefuseModify};
 ghost use Rattle.nc_handle.specs.Pending.{ReportsPending, DoesItself};
 ghost use Rattle.nc_handle.specs.Lent.{IsReported, bytes_of_span};
 
@@ -235,7 +235,7 @@ impl RegionHandle {
     /// way, it returns none and changes nothing. It takes no memory.
     pub fn end_delete(&mut self) -> Option<u64>
         // While a deletion is under way, it is never refused. The acts of the deletion are logged now, the stamp last.
-        ensures ended { IfSome result (HasEnded self.old self.new) }
+        ensures ended { IfSome result (HasEndedDeletion self.old self.new) }
         // Only the stamp is pending, which the library draws itself.
         ensures pending { (seats : ℕ) → OnSome result (DoesItself seats self.old self.new) }
         ensures none { IsNone result ↔ (self.old.begun ≡ None) }
@@ -264,7 +264,7 @@ impl RegionHandle {
         base: u32,
         acts: &mut [NcAct],
     ) -> Result<(Chunk, usize), RetireFault>
-        ensures begun { IfOk result (λ r. HasBegun self.old self.new base r.0) }
+        ensures begun { IfOk result (λ r. HasBegunDeletion self.old self.new base r.0) }
         // A lent buffer had room for the acts.
         ensures allowed { IfOk result (λ r. ¬ IsShort (length acts.old) (r.0.length + 2)) }
         // The acts written are those of a deletion, by the region's own marks, with the serialization.

@@ -16,14 +16,14 @@ use std::alloc::Global;
 use std::marker::Model;
 use std::sync::Arc;
 
-/// A text beside a share of its table of generations, and the keeper.
-pub(crate) type Owned = PlainOf<Arc<Gens, Global>>;
+/// The acts of a handle: a text beside a share of its table of generations, and the keeper.
+pub(crate) type HandleActs = PlainOf<Arc<Gens, Global>>;
 
 /// A region with its text, a share of its table of generations, the passes not given out yet, and the chunk whose deletion
 /// is under way.
 #[derive(Drop)]
 pub struct RegionHandle {
-    pub(crate) region: RegionOf<Owned>,
+    pub(crate) region: RegionOf<HandleActs>,
     pub(crate) gens: Arc<Gens, Global>,
     pub(crate) passes: Vec<Pass>,
     pub(crate) begun: Option<Chunk>,
@@ -57,7 +57,7 @@ fn first(alloc: Global, bundles: u32, seats: u32) -> Option<RegionHandle>
     let Some((gens, share)) = in_two_shares(alloc, gens) else {
         return None;
     };
-    let region = RegionOf::over(alloc, Owned::new(text, share, keeper));
+    let region = RegionOf::over(alloc, HandleActs::new(text, share, keeper));
     Some(RegionHandle {
         region,
         gens,

@@ -3,14 +3,14 @@
 ghost use Rattle.nc_text.specs.Places.{limit_of};
 ghost use Rattle.nc_vet.specs.Faults.{HasGoodSpan};
 
-use crate::region_handle::Owned;
+use crate::region_handle::HandleActs;
 use nc_entries::ReadChunk;
 use nc_region::{Acts, RegionOf};
 
 /// A span of a region that holds a chunk.
 #[derive(Drop)]
 pub(crate) struct Span<'a> {
-    pub(crate) region: &'a RegionOf<Owned>,
+    pub(crate) region: &'a RegionOf<HandleActs>,
     pub(crate) base: u32,
     pub(crate) length: u32,
     ghost placed: { HasGoodSpan base (limit_of region.now.marked.bytes) length },

@@ -4,13 +4,13 @@ ghost use Rattle.std.specs.Prelude.{◌≡◌, ◌+◌, ◌<◌, ◌≤◌, ℕ,
 ghost use Rattle.nc_region.specs.Region.{IsRegion};
 ghost use Rattle.nc_handle.specs.machinery.Window.{HoldsText};
 
-use crate::region_handle::Owned;
+use crate::region_handle::HandleActs;
 use nc_decode::START;
 use nc_region::RegionOf;
 
 /// The region's first `count` bytes from an address on, and then 0; also 0 after its end, and all 0 where the address is
 /// outside.
-pub(crate) fn read_window(region: &RegionOf<Owned>, at: u32, count: u32) -> [u8; 32]
+pub(crate) fn read_window(region: &RegionOf<HandleActs>, at: u32, count: u32) -> [u8; 32]
     requires { count ≤ 32 }
     ensures read { HoldsText region.now.marked.bytes at result count }
     ensures region { IsRegion region.now.marked region.now.chunks }

@@ -4,7 +4,7 @@ use Rattle.std.specs.Prelude.{Option, Some, Result, IfOk, IfErr}
 use Rattle.nc_handle.specs.declared.fault.RunsFault.{RunsFault}
 use Rattle.nc_handle.specs.RegionHandle.{RegionHandleState}
 use Rattle.nc_host.specs.declared.region_answers.NcChange.{NcChange}
-use Rattle.nc_host.specs.Handles.{IsRefusal}
+use Rattle.nc_host.specs.Handles.{IsNumberedRefusal}
 use Rattle.nc_host.specs.Running.{runs_number, runs_wanted}
 
 -- the refusal of a region's runs, by what the region is
@@ -12,7 +12,7 @@ pub runs_refusal : (handle : Option RegionHandleState) (h k : RegionHandleState)
     (answer : NcChange) → handle ≡ Some h → k ≡ h → IfErr reported (may k)
     → IfOk reported (λ count. answer ≡ record { fault = 0; at = 0; count = count })
     → IfErr reported (λ f. answer ≡ record { fault = runs_number none f; at = 0; count = runs_wanted f })
-    → 0 < answer.fault → IsRefusal handle may (runs_number none) runs_wanted answer.fault answer.count
+    → 0 < answer.fault → IsNumberedRefusal handle may (runs_number none) runs_wanted answer.fault answer.count
 runs_refusal handle h k may none (Ok n) answer had same due reported_ok reported_no = λ lt.
     absurd (omega (arith, lt, ap (λ (a : NcChange). a.fault) reported_ok))
 runs_refusal handle h k may none (Err f) answer had same due reported_ok reported_no = λ lt.

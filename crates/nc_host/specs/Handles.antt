@@ -30,8 +30,8 @@ pub record IsDone {X : Type 0} (old new : Option X) (step : X → X → Type 0) 
 
 -- the fault is 32 and the handle has nothing; or it is the number of a refusal that its value may get, with the count
 -- that the refusal needs
-abbrev pub IsRefusal : {X F : Type 0} → Option X → (X → F → Type 0) → (F → ℕ) → (F → ℕ) → (fault count : ℕ) → Type 0
-IsRefusal {X} {F} handle may number wanted fault count =
+abbrev pub IsNumberedRefusal : {X F : Type 0} → Option X → (X → F → Type 0) → (F → ℕ) → (F → ℕ) → (fault count : ℕ) → Type 0
+IsNumberedRefusal {X} {F} handle may number wanted fault count =
     ((handle ≡ None) × (fault ≡ 32) × (count ≡ 0))
     ⊎ ((x : X) × (f : F) × (handle ≡ Some x) × may x f × (fault ≡ number f) × (count ≡ wanted f))
 

@@ -16,13 +16,13 @@ retired_of Live = 0
 retired_of (Retired stamp) = 1
 
 -- a retired chunk's stamp; 0 for a live one
-abbrev pub stamp_of : ChunkState → ℕ
-stamp_of Live = 0
-stamp_of (Retired stamp) = stamp
+abbrev pub shown_stamp : ChunkState → ℕ
+shown_stamp Live = 0
+shown_stamp (Retired stamp) = stamp
 
 -- a chunk of a region as numbers: base, length, 1 if it is retired, and its stamp or 0
-abbrev pub chunk_of : Chunk → NcChunk
-chunk_of c = record { stamp = stamp_of c.state; fault = 0; base = c.base; length = c.length; retired = retired_of c.state }
+abbrev pub shown_chunk : Chunk → NcChunk
+shown_chunk c = record { stamp = shown_stamp c.state; fault = 0; base = c.base; length = c.length; retired = retired_of c.state }
 
 -- no chunk, for a fault of this number: all other fields are 0
 abbrev pub no_chunk : ℕ → NcChunk

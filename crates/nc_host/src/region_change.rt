@@ -4,14 +4,13 @@ ghost use Rattle.std.specs.Prelude.{◌≡◌, ◌<◌, ◌⊎◌, List, None, S
 ghost use Rattle.nc_text.specs.Places.{limit_of};
 ghost use Rattle.nc_vet.specs.Chunk.{MarkedChunk, Piece};
 ghost use Rattle.nc_acts.specs.Log.{log_of_create};
-ghost use Rattle.nc_region.specs.Patch.{AreBytesOf, IsModified, IsPatch, log_of_modify};
-ghost use Rattle.nc_region.specs.Region.{IsCreated};
+ghost use Rattle.nc_region.specs.Patch.{AreBytesOf, log_of_modify};
 ghost use Rattle.nc_handle.specs.RegionHandle.{HasLoaded, HasPatched, RegionHandleState, IsShortForPatch, MayRefuseLoad, MayRefuseModify};
 ghost use Rattle.nc_handle.specs.Pending.{ReportsPending};
 ghost use Rattle.nc_handle.specs.Lent.{IsReported};
 ghost use Rattle.nc_handle.specs.declared.fault.LoadFault.{LoadFault};
 ghost use Rattle.nc_handle.specs.declared.fault.PatchFault.{PatchFault};
-ghost use Rattle.nc_host.specs.Handles.{IsChunkFor, IsDone, IsRefusal, IsSameButPages, load_number, load_wanted, modify_number, modify_wanted};
+ghost use Rattle.nc_host.specs.Handles.{IsChunkFor, IsDone, IsNumberedRefusal, IsSameButPages, load_number, load_wanted, modify_number, modify_wanted};
 ghost use Rattle.nc_host.specs.Outcomes.{IsChunkFault};
 
 use crate::chunks::vet_copy;
@@ -161,7 +160,7 @@ pub extern "C" fn nc_region_patch(
     ensures unchanged { 0 < result.fault → region.new.value ≡ region.old.value }
     ensures at { result.at ≡ 0 }
     // Each refusal is returned exactly when it is due.
-    ensures refused { 0 < result.fault → IsRefusal region.old.value (λ h f. MayRefuseModify h at bytes.now (length acts.old) f)
+    ensures refused { 0 < result.fault → IsNumberedRefusal region.old.value (λ h f. MayRefuseModify h at bytes.now (length acts.old) f)
         modify_number modify_wanted result.fault result.count }
 {
     let Some(mut handle) = region.take(alloc) else {

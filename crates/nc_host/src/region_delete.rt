@@ -4,11 +4,11 @@ ghost use Rattle.std.specs.Prelude.{◌≡◌, ◌<◌, ◌⊎◌, ℕ, None, So
 ghost use Rattle.nc_vet.specs.Chunk.{MarkedChunk};
 ghost use Rattle.nc_list.specs.declared.chunk.Chunk.{Chunk};
 ghost use Rattle.nc_acts.specs.Log.{log_of_delete};
-ghost use Rattle.nc_handle.specs.RegionHandle.{RegionHandleState, HasBegun, HasEnded, HasReclaimed, MayRefuseBegin};
+ghost use Rattle.nc_handle.specs.RegionHandle.{RegionHandleState, HasBegunDeletion, HasEndedDeletion, HasReclaimed, MayRefuseBegin};
 ghost use Rattle.nc_handle.specs.Pending.{ReportsPending, DoesItself};
 ghost use Rattle.nc_handle.specs.Lent.{IsReported};
 ghost use Rattle.nc_handle.specs.declared.fault.RetireFault.{RetireFault};
-ghost use Rattle.nc_host.specs.Handles.{IsDone, IsRefusal, retire_number, retire_wanted};
+ghost use Rattle.nc_host.specs.Handles.{IsDone, IsNumberedRefusal, retire_number, retire_wanted};
 
 use crate::numbers::{NOT_BEGUN, NOTHING, UNDERWAY, retire_numbers};
 use crate::region_answers::{NcChange, NcCount, NcStamp, no_change};
@@ -17,7 +17,7 @@ use std::alloc::Global;
 
 /// The first call of a deletion, with its result as numbers.
 fn begin(handle: &mut RegionHandle, base: u32, acts: &mut [NcAct]) -> NcChange
-    ensures begun { result.fault ≡ 0 → (c : Chunk) × HasBegun handle.old handle.new base c
+    ensures begun { result.fault ≡ 0 → (c : Chunk) × HasBegunDeletion handle.old handle.new base c
         × IsReported acts.old acts.new result.count (log_of_delete handle.old.region.marked.marks base c.length) }
     ensures pending { (v : MarkedChunk) → result.fault ≡ 0 → ReportsPending handle.old handle.new v acts.old acts.new result.count }
     ensures untouched { 0 < result.fault → acts.new ≡ acts.old }
@@ -48,7 +48,7 @@ pub extern "C" fn nc_region_begin_delete(
     acts: &mut [NcAct],
 ) -> NcChange
     // The acts written are those of a deletion, by the region's own marks, with the serialization.
-    ensures begun { result.fault ≡ 0 → IsDone region.old.value region.new.value (λ old new. (c : Chunk) × HasBegun old new base c
+    ensures begun { result.fault ≡ 0 → IsDone region.old.value region.new.value (λ old new. (c : Chunk) × HasBegunDeletion old new base c
         × IsReported acts.old acts.new result.count (log_of_delete old.region.marked.marks base c.length)) }
     // The acts in the buffer, up to the stamp, are then pending.
     ensures pending { (v : MarkedChunk) → result.fault ≡ 0 → IsDone region.old.value region.new.value
@@ -57,7 +57,7 @@ pub extern "C" fn nc_region_begin_delete(
     ensures unchanged { 0 < result.fault → region.new.value ≡ region.old.value }
     ensures at { result.at ≡ 0 }
     // Each refusal is returned exactly when it is due.
-    ensures refused { 0 < result.fault → IsRefusal region.old.value (λ h f. MayRefuseBegin h base (length acts.old) f)
+    ensures refused { 0 < result.fault → IsNumberedRefusal region.old.value (λ h f. MayRefuseBegin h base (length acts.old) f)
         retire_number retire_wanted result.fault result.count }
 {
     let Some(mut handle) = region.take(alloc) else {
@@ -72,7 +72,7 @@ pub extern "C" fn nc_region_begin_delete(
 /// way it is never refused.
 #[unsafe(no_mangle)]
 pub extern "C" fn nc_region_end_delete(alloc: Global, region: &mut NcRegion) -> NcStamp
-    ensures ended { result.fault ≡ 0 → IsDone region.old.value region.new.value (λ old new. HasEnded old new result.stamp) }
+    ensures ended { result.fault ≡ 0 → IsDone region.old.value region.new.value (λ old new. HasEndedDeletion old new result.stamp) }
     // Only the stamp is pending, which the library has drawn itself.
     ensures pending { (seats : ℕ) → result.fault ≡ 0 → IsDone region.old.value region.new.value (DoesItself seats) }
     ensures unchanged { 0 < result.fault → (result.stamp ≡ 0) × (region.new.value ≡ region.old.value) }

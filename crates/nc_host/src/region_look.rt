@@ -1,14 +1,13 @@
 //! Reading a region by its handle.
 
-ghost use Rattle.std.specs.Prelude.{◌≡◌, ◌<◌, ◌≤◌, ◌⊎◌, None, Some, length, slice_get};
-ghost use Rattle.nc_text.specs.Marks.{mark_at};
-ghost use Rattle.nc_text.specs.Places.{InRegion, byte_at, limit_of};
+ghost use Rattle.std.specs.Prelude.{◌≡◌, ◌<◌, ◌⊎◌, None, Some, length, slice_get};
+ghost use Rattle.nc_text.specs.Places.{InRegion, limit_of};
 ghost use Rattle.nc_vet.specs.Faults.{HasGoodSpan};
 ghost use Rattle.nc_list.specs.declared.chunk.Chunk.{Chunk};
 ghost use Rattle.nc_region.specs.Region.{IsAboveAll, IsNextChunk};
 ghost use Rattle.nc_handle.specs.RegionHandle.{RegionHandleState};
 ghost use Rattle.nc_host.specs.Shown.{mark_number};
-ghost use Rattle.nc_host.specs.Looks.{chunk_of, no_chunk, shown_place, no_place};
+ghost use Rattle.nc_host.specs.Looks.{shown_chunk, no_chunk, shown_place, no_place};
 
 use crate::numbers::{NO_CHUNK, NO_PLACE, NOTHING};
 use crate::region_answers::{NcChunk, NcPlace, NcStamp, no_chunk, no_place};
@@ -19,7 +18,7 @@ use std::alloc::Global;
 
 /// A chunk as a host reads it.
 fn shown(chunk: Chunk) -> NcChunk
-    ensures { result ≡ chunk_of chunk }
+    ensures { result ≡ shown_chunk chunk }
 {
     let (retired, stamp) = match chunk.state {
         ChunkState::Live => (0, 0),
@@ -39,7 +38,7 @@ fn shown(chunk: Chunk) -> NcChunk
 pub extern "C" fn nc_region_chunk(alloc: Global, region: &mut NcRegion, index: usize) -> NcChunk
     ensures same { region.new.value ≡ region.old.value }
     ensures chunk { result.fault ≡ 0 → (h : RegionHandleState) × (region.old.value ≡ Some h)
-        × ((c : Chunk) × (slice_get h.region.chunks index ≡ Some c) × (result ≡ chunk_of c)) }
+        × ((c : Chunk) × (slice_get h.region.chunks index ≡ Some c) × (result ≡ shown_chunk c)) }
     ensures refused { 0 < result.fault → ((result ≡ no_chunk 32) × (region.old.value ≡ None))
         ⊎ ((result ≡ no_chunk 41) × ((h : RegionHandleState) × (region.old.value ≡ Some h) × (slice_get h.region.chunks index ≡ None))) }
 {
@@ -60,7 +59,7 @@ pub extern "C" fn nc_region_chunk(alloc: Global, region: &mut NcRegion, index: u
 pub extern "C" fn nc_region_chunk_at(alloc: Global, region: &mut NcRegion, at: u32) -> NcChunk
     ensures same { region.new.value ≡ region.old.value }
     ensures chunk { result.fault ≡ 0 → (h : RegionHandleState) × (region.old.value ≡ Some h)
-        × ((c : Chunk) × IsNextChunk h.region.chunks at c × (result ≡ chunk_of c)) }
+        × ((c : Chunk) × IsNextChunk h.region.chunks at c × (result ≡ shown_chunk c)) }
     ensures placed { result.fault ≡ 0 → (h : RegionHandleState) × (region.old.value ≡ Some h)
         × HasGoodSpan result.base (limit_of h.region.marked.bytes) result.length }
     ensures refused { 0 < result.fault → ((result ≡ no_chunk 32) × (region.old.value ≡ None))

@@ -4,7 +4,7 @@ ghost use Rattle.std.specs.Prelude.{◌≡◌, ◌<◌, Some, IfOk, IfErr, lengt
 ghost use Rattle.nc_list.specs.declared.chunk.Chunk.{Chunk};
 ghost use Rattle.nc_handle.specs.RegionHandle.{RegionHandleState, IsLiveAt};
 ghost use Rattle.nc_handle.specs.RunCalls.{AreCreationRuns, AreDeletionRuns, MayRefuseCreationRuns, MayRefuseDeletionRuns};
-ghost use Rattle.nc_host.specs.Handles.{IsRefusal};
+ghost use Rattle.nc_host.specs.Handles.{IsNumberedRefusal};
 ghost use Rattle.nc_host.specs.Running.{runs_number, runs_wanted};
 
 use crate::lent_answers::NO_ROOM;
@@ -40,7 +40,7 @@ pub extern "C" fn nc_region_creation_runs(
     ensures untouched { 0 < result.fault → acts.new ≡ acts.old }
     ensures at { result.at ≡ 0 }
     // Each refusal is returned exactly when it is due.
-    ensures refused { 0 < result.fault → IsRefusal region.old.value (λ h f. MayRefuseCreationRuns h base (length acts.old) f)
+    ensures refused { 0 < result.fault → IsNumberedRefusal region.old.value (λ h f. MayRefuseCreationRuns h base (length acts.old) f)
         (runs_number 41) runs_wanted result.fault result.count }
 {
     let Some(handle) = region.take(alloc) else {
@@ -65,7 +65,7 @@ pub extern "C" fn nc_region_deletion_runs(
     ensures untouched { 0 < result.fault → acts.new ≡ acts.old }
     ensures at { result.at ≡ 0 }
     // Each refusal is returned exactly when it is due.
-    ensures refused { 0 < result.fault → IsRefusal region.old.value (λ h f. MayRefuseDeletionRuns h (length acts.old) f)
+    ensures refused { 0 < result.fault → IsNumberedRefusal region.old.value (λ h f. MayRefuseDeletionRuns h (length acts.old) f)
         (runs_number 38) runs_wanted result.fault result.count }
 {
     let Some(handle) = region.take(alloc) else {

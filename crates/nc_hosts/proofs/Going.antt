@@ -17,7 +17,7 @@ use Rattle.nc_calls.specs.Interleaving.{is_writers}
 use Rattle.nc_calls.specs.Calls.{KnowsNoMore, no_details, create_events, modify_events, delete_events}
 use Rattle.nc_calls.specs.Histories.{Creates, Patches}
 use Rattle.nc_calls.proofs.Offered.{created, modified, knows_raised}
-use Rattle.nc_handle.specs.RegionHandle.{RegionHandleState, HasLoaded, HasPatched, HasBegun, HasEnded}
+use Rattle.nc_handle.specs.RegionHandle.{RegionHandleState, HasLoaded, HasPatched, HasBegunDeletion, HasEndedDeletion}
 use Rattle.nc_handle.specs.Pending.{IsHandleCall, ChangesPages, Changes, Begins, Ends}
 use Rattle.nc_hosts.specs.Hosts.{Host, Runs, Makes, Restarts, Calls, Asks, IsNoLook, IsReached, Then}
 use Rattle.nc_hosts.proofs.Kept.{IsStore, rest_stores, stores_keep, stores_look_not, thread_keeps_keeper, same_keeper}
@@ -88,7 +88,7 @@ none_stores pending none = subst (All IsStore) (sym none) (All-nil IsStore)
 
 -- the first call of a deletion leads to a host that is reached
 pub begins : (bundles seats : ℕ) (host : Host) (new : RegionHandleState) (c : Chunk) (stops : List Event) → IsReached bundles seats host
-    → host.pending ≡ [] → HasBegun host.handle new c.base c
+    → host.pending ≡ [] → HasBegunDeletion host.handle new c.base c
     → stops ++ Retires c.base c.length ∷ [] ≡ delete_events host.handle.region.marked.marks c.base c.length
     → IsReached bundles seats (record { handle = new; world = host.world; pending = stops })
 begins bundles seats host new c stops reached none begun own =
@@ -111,7 +111,7 @@ restarts bundles seats host c stops reached begun own =
     (rest_stores host.handle.region.marked.marks c.base c.length [] stops own))
 
 -- the last step of a deletion leads to a host that is reached
-pub ends : (bundles seats : ℕ) (host : Host) (new : RegionHandleState) (stamp : ℕ) (is : HasEnded host.handle new stamp)
+pub ends : (bundles seats : ℕ) (host : Host) (new : RegionHandleState) (stamp : ℕ) (is : HasEndedDeletion host.handle new stamp)
     → IsReached bundles seats host → host.pending ≡ []
     → IsReached bundles seats (record { handle = new; world = host.world; pending = Retires is.chunk.base is.chunk.length ∷ [] })
 ends bundles seats host new stamp is reached none =

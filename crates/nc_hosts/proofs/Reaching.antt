@@ -18,10 +18,10 @@ use Rattle.nc_calls.specs.Calls.{HasLedTo, no_details, delete_events}
 use Rattle.nc_calls.specs.Histories.{AreAttempts, NoneYet, OneMore, IsCall, Deletes, Keeps}
 use Rattle.nc_calls.proofs.Offered.{begins_unused}
 use Rattle.nc_acts.specs.Log.{log_of_delete}
-use Rattle.nc_handle.specs.RegionHandle.{RegionHandleState, IsLiveAt, IsFirst, HasBegun, HasEnded}
+use Rattle.nc_handle.specs.RegionHandle.{RegionHandleState, IsLiveAt, IsFirst, HasBegunDeletion, HasEndedDeletion}
 use Rattle.nc_handle.specs.Pending.{IsHandleCall, Changes, Begins, Ends}
 use Rattle.nc_calls.specs.Calls.{KnowsNoMore}
-use Rattle.nc_hosts.specs.Hosts.{Host, IsStep, Runs, Makes, Restarts, Calls, Asks, IsNoLook, HasFound, IsReached, First, Then}
+use Rattle.nc_hosts.specs.Hosts.{Host, IsHostStep, Runs, Makes, Restarts, Calls, Asks, IsNoLook, HasFound, IsReached, First, Then}
 use Rattle.nc_calls.proofs.Offered.{Stays, same_region, goes_on, call_stays}
 use Rattle.nc_calls.proofs.Offered.{whole_serialized, knows_as_much}
 use Rattle.nc_hosts.proofs.Kept.{IsStore, rest_stores}
@@ -121,11 +121,11 @@ led_makes limit seats old event rest l is found =
 
 -- a deletion that is under way could begin
 pub could_begin : (limit seats : ℕ) (host : Host) (c : Chunk) → Led limit seats host → host.handle.begun ≡ Some c
-    → HasBegun (record host.handle { begun = None }) host.handle c.base c
+    → HasBegunDeletion (record host.handle { begun = None }) host.handle c.base c
 could_begin limit seats host c l begun = go l.phase
   where
     go : Phase seats l.from (writers l.since) host.handle.begun host.handle.region host.pending
-        → HasBegun (record host.handle { begun = None }) host.handle c.base c
+        → HasBegunDeletion (record host.handle { begun = None }) host.handle c.base c
     go (Calling called idle pages call) = absurd (let bad : None ≡ Some c = sym idle ∙ begun in cc)
     go (Deleting d is at live room made last first own_is last_is) =
         let here : Some d ≡ Some c = sym is ∙ begun in
@@ -206,7 +206,7 @@ stops_plain pending r c own =
 
 -- the last call of a deletion
 phase_ended : (seats : ℕ) (from : Region) (own : List Event) (old new : RegionHandleState) (pending later : List Event) (stamp : ℕ)
-    (is : HasEnded old new stamp) → pending ≡ [] → later ≡ Retires is.chunk.base is.chunk.length ∷ [] → Phase seats from own old.begun old.region pending
+    (is : HasEndedDeletion old new stamp) → pending ≡ [] → later ≡ Retires is.chunk.base is.chunk.length ∷ [] → Phase seats from own old.begun old.region pending
     → Phase seats from own new.begun new.region later
 phase_ended seats from own old new pending later stamp is none stamped (Calling called idle pages call) =
     absurd (let bad : None ≡ Some is.chunk = sym idle ∙ is.begun in cc)
@@ -342,7 +342,7 @@ led_restarts limit seats old pending c l begun own found =
         ∙ ap (λ (e : Chunk). delete_events l.from.marked.marks e.base e.length) (sym same))))
 
 -- a host is led over a step
-led_step : (limit seats : ℕ) (old new : Host) → Led limit seats old → IsStep seats old new → HasFound new → Led limit seats new
+led_step : (limit seats : ℕ) (old new : Host) → Led limit seats old → IsHostStep seats old new → HasFound new → Led limit seats new
 led_step limit seats old new l (Runs event is may same) found =
     subst (Led limit seats) (sym same) (led_runs limit seats old event l is may (subst HasFound same found))
 led_step limit seats old new l (Makes event is same) found =

@@ -12,7 +12,7 @@ use Rattle.nc_calls.specs.Histories.{Creates}
 use Rattle.nc_calls.proofs.Offered.{still_created}
 use Rattle.nc_entries.specs.declared.act.NcAct.{NcAct}
 use Rattle.nc_entries.specs.Runs.{runs_of_create, HasRuns}
-use Rattle.nc_handle.specs.RegionHandle.{RegionHandleState, IsLiveAt, HasBegun, HasLoaded}
+use Rattle.nc_handle.specs.RegionHandle.{RegionHandleState, IsLiveAt, HasBegunDeletion, HasLoaded}
 use Rattle.nc_handle.specs.RunCalls.{AreCreationRuns, AreDeletionRuns}
 use Rattle.nc_handle.specs.Lent.{bytes_of_span}
 use Rattle.nc_handle.specs.Pending.{IsHandleCall, Changes, Begins, events_pending}
@@ -55,10 +55,10 @@ creation bundles seats host new v c lent now count reached valid loaded live run
 
 -- the first call of a deletion
 pub deletion : (seats : ℕ) (old new : RegionHandleState) (base : ℕ) (v : MarkedChunk) (c : Chunk) (lent now : List NcAct) (count : ℕ)
-    → HasBegun old new base c → AreDeletionRuns new c lent now count → IsHandleCall seats old new (events_pending v (take count now))
+    → HasBegunDeletion old new base c → AreDeletionRuns new c lent now count → IsHandleCall seats old new (events_pending v (take count now))
 deletion seats old new base v c lent now count begun runs =
     let region : new.region ≡ old.region = ap (λ (h : RegionHandleState). h.region) begun.others in
-    Begins c (subst (λ (b : ℕ). HasBegun old new b c) (sym begun.live.2) begun)
+    Begins c (subst (λ (b : ℕ). HasBegunDeletion old new b c) (sym begun.live.2) begun)
     (delete_runs_due v new.region.marked.marks c.base c.length (bytes_of_span new.region.marked.bytes c.base c.length) lent now count runs.1
     ∙ ap (λ (r : Region). delete_events r.marked.marks c.base c.length) region)
 

@@ -4,7 +4,7 @@ use Rattle.nc_region.specs.schedules.World.{World}
 use Rattle.nc_region.specs.schedules.Events.{Event, Steps, Enters, Exits, Takes, Sees, Stores, Leaves, Puts, Serializes, Marks, Bumps, Retires, Frees}
 use Rattle.nc_region.specs.schedules.Events.{Looks, after}
 use Rattle.nc_calls.specs.Interleaving.{is_writers}
-use Rattle.nc_hosts.specs.Hosts.{Host, IsStep, Runs, Makes, Restarts, Calls, Asks}
+use Rattle.nc_hosts.specs.Hosts.{Host, IsHostStep, Runs, Makes, Restarts, Calls, Asks}
 use Rattle.nc_hosts.proofs.Interleaving.{thread_seats}
 
 -- a thread's event changes no byte
@@ -39,7 +39,7 @@ world_is : (old new : Host) (w : World) → new.world ≡ w → Changed old.pend
 world_is old new w is changed = rw is changed
 
 -- a step of a host leaves the memory, or makes in it the store that was pending next
-pub stores : (seats : ℕ) (old new : Host) → IsStep seats old new → Changed old.pending new.pending old.world new.world
+pub stores : (seats : ℕ) (old new : Host) → IsHostStep seats old new → Changed old.pending new.pending old.world new.world
 stores seats old new (Runs event is may same) =
     world_is old new (after old.world event) (ap (λ (h : Host). h.world) same) (inl (thread_keeps old.world event is))
 stores seats old new (Makes event is same) =

@@ -20,16 +20,16 @@ pub record Host : Type 0 where
 -- `Restarts`: while a deletion is under way, all of its stores and its serialization become pending again. `Calls`: while nothing
 -- is pending, the host makes a call that changes the region, after which events are pending. `Asks`: any other call, also
 -- one that is refused, which leaves the region as it is, except that pages may have been made.
-pub data IsStep (seats : ℕ) (old new : Host) : Type 0 where
+pub data IsHostStep (seats : ℕ) (old new : Host) : Type 0 where
   Runs : (event : Event) → is_writers event ≡ false → ThreadMay old.world event
-      → new ≡ record old { world = after old.world event } → IsStep seats old new
+      → new ≡ record old { world = after old.world event } → IsHostStep seats old new
   Makes : (event : Event) → old.pending ≡ event ∷ new.pending
-      → new ≡ record old { world = after old.world event; pending = new.pending } → IsStep seats old new
+      → new ≡ record old { world = after old.world event; pending = new.pending } → IsHostStep seats old new
   Restarts : (c : Chunk) → old.handle.begun ≡ Some c → IsHandleCall seats (record old.handle { begun = None }) old.handle new.pending
-      → new ≡ record old { pending = new.pending } → IsStep seats old new
-  Calls : old.pending ≡ [] → IsHandleCall seats old.handle new.handle new.pending → new.world ≡ old.world → IsStep seats old new
+      → new ≡ record old { pending = new.pending } → IsHostStep seats old new
+  Calls : old.pending ≡ [] → IsHandleCall seats old.handle new.handle new.pending → new.world ≡ old.world → IsHostStep seats old new
   Asks : new.handle.begun ≡ old.handle.begun → new.handle.region ≡ record old.handle.region { made = new.handle.region.made }
-      → new ≡ record old { handle = new.handle } → IsStep seats old new
+      → new ≡ record old { handle = new.handle } → IsHostStep seats old new
 
 -- the event isn't a look at a seat's word
 abbrev pub IsNoLook : Event → Type 0
@@ -45,4 +45,4 @@ HasFound host = All IsNoLook host.pending → KnowsNoMore host.handle.region.kee
 pub data IsReached (bundles seats : ℕ) : Host → Type 0 where
   First : {host : Host} → IsFirst bundles seats host.handle → host.world ≡ first_world (0x10000 + 32 * bundles) seats
       → host.pending ≡ [] → IsReached bundles seats host
-  Then : {old new : Host} → IsReached bundles seats old → IsStep seats old new → HasFound new → IsReached bundles seats new
+  Then : {old new : Host} → IsReached bundles seats old → IsHostStep seats old new → HasFound new → IsReached bundles seats new

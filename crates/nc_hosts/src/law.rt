@@ -10,7 +10,7 @@ ghost use Rattle.nc_region.specs.schedules.Events.{Event};
 ghost use Rattle.nc_calls.specs.Calls.{StandsFor};
 ghost use Rattle.nc_calls.specs.Histories.{AllStand};
 ghost use Rattle.nc_calls.specs.Whole.{AllFetchWhole};
-ghost use Rattle.nc_hosts.specs.Hosts.{Host, IsStep, IsReached};
+ghost use Rattle.nc_hosts.specs.Hosts.{Host, IsHostStep, IsReached};
 
 /// For every state that a host can reach from a new region, whatever calls it makes by the region's handle, accepted or refused, in any
 /// order, and whatever its threads may do between any two stores:
@@ -32,7 +32,7 @@ ghost use Rattle.nc_hosts.specs.Hosts.{Host, IsStep, IsReached};
 /// (`DoesItself`). There is a state after each single store, so `stand` and `whole` are about every moment. The function does nothing
 /// when called.
 ///
-/// Its assumptions are in `ThreadMay`, `IsStep`, `HasFound` and `IsReached`:
+/// Its assumptions are in `ThreadMay`, `IsHostStep`, `HasFound` and `IsReached`:
 ///
 /// - At first the memory is all stops, the host has serialized since they were stored, and all threads are outside.
 /// - A thread inside moves only as the machine does in some view, and by no masked jump or call to the limit or above.
@@ -51,7 +51,7 @@ pub fn law_of_hosts()
         → host.handle.begun ≡ Some c → host.world.marked ≡ record host.handle.region.marked {
           bytes = with_span host.handle.region.marked.bytes (c.base - 0x10000) (replicate c.length 0xF4);
         } }
-    ensures stores { (seats : ℕ) (old new : Host) → IsStep seats old new → (new.world.marked.bytes ≡ old.world.marked.bytes)
+    ensures stores { (seats : ℕ) (old new : Host) → IsHostStep seats old new → (new.world.marked.bytes ≡ old.world.marked.bytes)
         ⊎ ((at : ℕ) × (byte : ℕ) × (old.pending ≡ Event.Puts at byte ∷ new.pending)
         × (new.world.marked.bytes ≡ slice_set old.world.marked.bytes (at - 0x10000) byte)) }
     ensures confined { (bundles seats : ℕ) (host : Host) → IsReached bundles seats host → IsConfined host.handle.region.marked.bytes }

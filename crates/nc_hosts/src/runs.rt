@@ -4,7 +4,7 @@ ghost use Rattle.std.specs.Prelude.{◌≡◌, ℕ, List, Some, take};
 ghost use Rattle.nc_vet.specs.Chunk.{MarkedChunk, IsValid};
 ghost use Rattle.nc_list.specs.declared.chunk.Chunk.{Chunk};
 ghost use Rattle.nc_entries.specs.declared.act.NcAct.{NcAct};
-ghost use Rattle.nc_handle.specs.RegionHandle.{RegionHandleState, IsLiveAt, HasBegun, HasLoaded};
+ghost use Rattle.nc_handle.specs.RegionHandle.{RegionHandleState, IsLiveAt, HasBegunDeletion, HasLoaded};
 ghost use Rattle.nc_handle.specs.RunCalls.{AreCreationRuns, AreDeletionRuns};
 ghost use Rattle.nc_handle.specs.Pending.{IsHandleCall, events_pending};
 ghost use Rattle.nc_hosts.specs.Hosts.{Host, IsReached};
@@ -17,7 +17,7 @@ pub fn law_of_runs()
         (count : ℕ) → IsReached bundles seats host → IsValid v → HasLoaded v host.handle new → IsLiveAt new.region.chunks v.base c
         → AreCreationRuns new c lent now count → IsHandleCall seats host.handle new (events_pending v (take count now)) }
     ensures deletion { (seats : ℕ) (old new : RegionHandleState) (base : ℕ) (v : MarkedChunk) (c : Chunk) (lent now : List NcAct) (count : ℕ)
-        → HasBegun old new base c → AreDeletionRuns new c lent now count → IsHandleCall seats old new (events_pending v (take count now)) }
+        → HasBegunDeletion old new base c → AreDeletionRuns new c lent now count → IsHandleCall seats old new (events_pending v (take count now)) }
     ensures again { (bundles seats : ℕ) (host : Host) (v : MarkedChunk) (c : Chunk) (lent now : List NcAct) (count : ℕ)
         → IsReached bundles seats host → host.handle.begun ≡ Some c → AreDeletionRuns host.handle c lent now count
         → IsReached bundles seats (record host { pending = events_pending v (take count now) }) }

@@ -7,7 +7,7 @@ ghost use Rattle.nc_region.specs.schedules.Events.{Event, ThreadMay, after};
 ghost use Rattle.nc_region.specs.Patch.{AreBytesOf};
 ghost use Rattle.nc_calls.specs.Interleaving.{is_writers};
 ghost use Rattle.nc_calls.specs.Calls.{create_events, modify_events, delete_events};
-ghost use Rattle.nc_handle.specs.RegionHandle.{RegionHandleState, HasLoaded, HasPatched, HasBegun, HasEnded};
+ghost use Rattle.nc_handle.specs.RegionHandle.{RegionHandleState, HasLoaded, HasPatched, HasBegunDeletion, HasEndedDeletion};
 ghost use Rattle.nc_handle.specs.Pending.{IsHandleCall, ChangesPages};
 ghost use Rattle.nc_hosts.specs.Hosts.{Host, IsNoLook, IsReached};
 
@@ -33,14 +33,14 @@ pub fn law_of_reaching()
         → IsReached bundles seats host → host.pending ≡ [] → AreBytesOf bytes news → HasPatched at bytes host.handle new
         → IsReached bundles seats (record { handle = new; world = host.world; pending = modify_events host.handle.region.marked.bytes at news }) }
     ensures begins { (bundles seats : ℕ) (host : Host) (new : RegionHandleState) (c : Chunk) (stops : List Event) → IsReached bundles seats host
-        → host.pending ≡ [] → HasBegun host.handle new c.base c
+        → host.pending ≡ [] → HasBegunDeletion host.handle new c.base c
         → stops ++ Event.Retires c.base c.length ∷ [] ≡ delete_events host.handle.region.marked.marks c.base c.length
         → IsReached bundles seats (record { handle = new; world = host.world; pending = stops }) }
     ensures restarts { (bundles seats : ℕ) (host : Host) (c : Chunk) (stops : List Event) → IsReached bundles seats host
         → host.handle.begun ≡ Some c
         → stops ++ Event.Retires c.base c.length ∷ [] ≡ delete_events host.handle.region.marked.marks c.base c.length
         → IsReached bundles seats (record host { pending = stops }) }
-    ensures ends { (bundles seats : ℕ) (host : Host) (new : RegionHandleState) (stamp : ℕ) (is : HasEnded host.handle new stamp)
+    ensures ends { (bundles seats : ℕ) (host : Host) (new : RegionHandleState) (stamp : ℕ) (is : HasEndedDeletion host.handle new stamp)
         → IsReached bundles seats host → host.pending ≡ []
         → IsReached bundles seats (record {
           handle = new;

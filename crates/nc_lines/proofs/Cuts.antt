@@ -39,10 +39,10 @@ onto_line-some : (b : ℕ) (lines : List (List ℕ)) → (line : List ℕ) × (o
 onto_line-some b [] = (b ∷ [], [], refl)
 onto_line-some b (line ∷ lines) = (b ∷ line, lines, refl)
 
--- a choice of two lists that have a first line has one
-either_some : (v : Bool) (xs ys : List (List ℕ)) → ((line : List ℕ) × (others : List (List ℕ)) × xs ≡ line ∷ others)
-    → ((line : List ℕ) × (others : List (List ℕ)) × ys ≡ line ∷ others)
-    → (line : List ℕ) × (others : List (List ℕ)) × cond v xs ys ≡ line ∷ others
+-- a choice of two lists that have a first element has one
+pub either_some : (v : Bool) (xs ys : List (List ℕ)) → ((first : List ℕ) × (others : List (List ℕ)) × xs ≡ first ∷ others)
+    → ((first : List ℕ) × (others : List (List ℕ)) × ys ≡ first ∷ others)
+    → (first : List ℕ) × (others : List (List ℕ)) × cond v xs ys ≡ first ∷ others
 either_some true xs ys h k = h
 either_some false xs ys h k = k
 

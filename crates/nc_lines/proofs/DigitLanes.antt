@@ -5,15 +5,16 @@ use Rattle.std.proofs.lemmas.Simd.{splat_is_map, tops_compared, zip2_of_maps, zi
 use lib.Bits.{bit_or}
 use lib.Lanes.{zip2, sel_l, top}
 use Rattle.hex.specs.Hex.{hex_digit_value, pair_value}
-use Rattle.nc_lines.specs.machinery.Digits.{entry_of, lane_value}
-use Rattle.nc_lines.proofs.DigitValues.{all_pass, passed_at, read_pair}
+use Rattle.nc_lines.specs.machinery.Digits.{digit_entry, lane_value}
+use Rattle.nc_decode.proofs.Offered.{each_below, each_below-at}
+use Rattle.nc_lines.proofs.DigitValues.{read_pair}
 
 -- the test of one byte: a lane's value up to 15 is the byte's
 abbrev is_valued : ℕ → Bool
-is_valued c = ltb 15 (lane_value c) || (entry_of (hex_digit_value c) == lane_value c)
+is_valued c = ltb 15 (lane_value c) || (digit_entry (hex_digit_value c) == lane_value c)
 
 -- all bytes pass the test of their value
-all_valued : all_pass is_valued 256 ≡ true
+all_valued : each_below is_valued 256 ≡ true
 all_valued = refl
 
 -- a value up to 15 passed the second part of the test
@@ -21,15 +22,15 @@ small_passed : (v e : ℕ) → v ≤ 15 → (ltb 15 v || (e == v)) ≡ true → 
 small_passed v e small h = grind (arith)
 
 -- a lane's value up to 15 is the byte's as a digit
-entry_small : (c : ℕ) → c < 256 → lane_value c ≤ 15 → entry_of (hex_digit_value c) ≡ lane_value c
-entry_small c below small = small_passed (lane_value c) (entry_of (hex_digit_value c)) small (passed_at is_valued 256 c all_valued below)
+entry_small : (c : ℕ) → c < 256 → lane_value c ≤ 15 → digit_entry (hex_digit_value c) ≡ lane_value c
+entry_small c below small = small_passed (lane_value c) (digit_entry (hex_digit_value c)) small (each_below-at is_valued 256 c all_valued below)
 
 -- two digits by the values of their lanes
 pub pair_by_lanes : (high low i : ℕ) → high < 256 → low < 256 → lane_value high ≤ 15 → lane_value low ≤ 15
     → pair_value high low i ≡ Ok (lane_value high * 16 + lane_value low)
 pair_by_lanes high low i hb lb hs ls =
     read_pair high low i (lane_value high * 16 + lane_value low) (hex_digit_value high) (hex_digit_value low)
-    (sym (ap (λ (n : ℕ). n * 16 + entry_of (hex_digit_value low)) (entry_small high hb hs) ∙ ap (λ (n : ℕ). lane_value high * 16 + n) (entry_small low lb ls)))
+    (sym (ap (λ (n : ℕ). n * 16 + digit_entry (hex_digit_value low)) (entry_small high hb hs) ∙ ap (λ (n : ℕ). lane_value high * 16 + n) (entry_small low lb ls)))
     (omega arith)
 
 -- an operation on a vector that was computed lane by lane and a splat

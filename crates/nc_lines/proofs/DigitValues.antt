@@ -1,47 +1,31 @@
 -- The table of the values of digits, and pairs of digits by their entries.
-use Rattle.std.proofs.Common.{◌≡◌, ◌+◌, ◌*◌, ◌<◌, ◌≤◌, ◌==◌, ◌&&◌, ℕ, zero, suc, Bool, true, List, Option, Some, None, slice_index, Ok, Err}
-use Rattle.std.proofs.Common.{refl, sym, ap, ◌∙◌, subst, arith, inl, inr}
-use Rattle.std.proofs.lemmas.Bool.{and_parts, cases_lt, eqb-true}
+use Rattle.std.proofs.Common.{◌≡◌, ◌+◌, ◌*◌, ◌<◌, ◌≤◌, ◌==◌, ℕ, Bool, true, List, Option, Some, None, slice_index, Ok, Err}
+use Rattle.std.proofs.Common.{refl, sym, ap, ◌∙◌, subst, arith}
+use Rattle.std.proofs.lemmas.Bool.{eqb-true}
 use Rattle.hex.specs.Hex.{hex_digit_value, digit_or_error, pair_value, ◌>>=◌}
 use Rattle.hex.specs.declared.error.FromHexError.{FromHexError}
-use Rattle.nc_lines.specs.machinery.Digits.{entry_of, AreDigitValues}
+use Rattle.nc_decode.proofs.Offered.{each_below, each_below-at}
+use Rattle.nc_lines.specs.machinery.Digits.{digit_entry, AreDigitValues}
 use Rattle.nc_lines.specs.declared.digits.TheConstants.{VALUES}
-
--- the test of the numbers below n, which computes
-abbrev pub all_pass : (ℕ → Bool) → ℕ → Bool
-all_pass test zero = true
-all_pass test (suc n) = test n && all_pass test n
-
--- a number below n passed the test
-pub passed_at : (test : ℕ → Bool) (n c : ℕ) → all_pass test n ≡ true → c < n → test c ≡ true
-passed_at test zero c h below = absurd (omega arith)
-passed_at test (suc n) c h below =
-    let parts = and_parts (test n) (all_pass test n) h in
-    elim (cases_lt c n) [
-      | inl before ↦ passed_at test n c parts.1 before
-      | inr last ↦
-          let same : c ≡ n = omega arith in
-          subst (λ (k : ℕ). test k ≡ true) (sym same) parts.0
-    ]
 
 -- the test of an entry of the table
 abbrev is_entered : ℕ → Bool
-is_entered c = slice_index VALUES c == entry_of (hex_digit_value c)
+is_entered c = slice_index VALUES c == digit_entry (hex_digit_value c)
 
 -- all entries of the table pass the test of their value
-all_entered : all_pass is_entered 256 ≡ true
+all_entered : each_below is_entered 256 ≡ true
 all_entered = refl
 
 -- the table has the values of digits
 pub values_are : AreDigitValues VALUES
-values_are c below = eqb-true (slice_index VALUES c) (entry_of (hex_digit_value c)) (passed_at is_entered 256 c all_entered below)
+values_are c below = eqb-true (slice_index VALUES c) (digit_entry (hex_digit_value c)) (each_below-at is_entered 256 c all_entered below)
 
 -- a digit's value is below 16
 digit_small : (c v : ℕ) → hex_digit_value c ≡ Some v → v < 16
 digit_small c v h = grind (arith)
 
 -- no entry is above 256
-entry_most : (o : Option ℕ) → ((v : ℕ) → o ≡ Some v → v < 16) → entry_of o ≤ 256
+entry_most : (o : Option ℕ) → ((v : ℕ) → o ≡ Some v → v < 16) → digit_entry o ≤ 256
 entry_most (Some v) small = let below : v < 16 = small v refl in omega arith
 entry_most None small = omega arith
 
@@ -51,7 +35,7 @@ entries_most values c are below =
     subst (λ (n : ℕ). n ≤ 256) (sym (are c below)) (entry_most (hex_digit_value c) (digit_small c))
 
 -- two digits, of whose values neither is missing, are the byte
-pub read_pair : (high low i byte : ℕ) (a b : Option ℕ) → byte ≡ entry_of a * 16 + entry_of b → byte ≤ 255
+pub read_pair : (high low i byte : ℕ) (a b : Option ℕ) → byte ≡ digit_entry a * 16 + digit_entry b → byte ≤ 255
     → (digit_or_error high i a >>= (λ h. digit_or_error low (i + 1) b >>= (λ l. Ok (h * 16 + l)))) ≡ Ok byte
 read_pair high low i byte (Some h) (Some l) e small = ap Ok (sym e)
 read_pair high low i byte (Some h) None e small = absurd (omega arith)
@@ -59,7 +43,7 @@ read_pair high low i byte None b e small = absurd (omega arith)
 
 -- two bytes of which one is no digit are refused
 bad_pair : (high low i byte : ℕ) (a b : Option ℕ) → ((v : ℕ) → a ≡ Some v → v < 16) → ((v : ℕ) → b ≡ Some v → v < 16)
-    → byte ≡ entry_of a * 16 + entry_of b → 255 < byte
+    → byte ≡ digit_entry a * 16 + digit_entry b → 255 < byte
     → (error : FromHexError) × ((digit_or_error high i a >>= (λ h. digit_or_error low (i + 1) b >>= (λ l. Ok (h * 16 + l)))) ≡ Err error)
 bad_pair high low i byte (Some h) (Some l) p q e large =
     let hs : h < 16 = p h refl in
@@ -73,7 +57,7 @@ pub pair_read : (values : List ℕ) (high low i byte : ℕ) → AreDigitValues v
     → byte ≡ slice_index values high * 16 + slice_index values low → byte ≤ 255 → pair_value high low i ≡ Ok byte
 pair_read values high low i byte are hb lb e small =
     read_pair high low i byte (hex_digit_value high) (hex_digit_value low)
-    (e ∙ ap (λ (n : ℕ). n * 16 + slice_index values low) (are high hb) ∙ ap (λ (n : ℕ). entry_of (hex_digit_value high) * 16 + n) (are low lb))
+    (e ∙ ap (λ (n : ℕ). n * 16 + slice_index values low) (are high hb) ∙ ap (λ (n : ℕ). digit_entry (hex_digit_value high) * 16 + n) (are low lb))
     small
 
 -- by a table of their values, two bytes of which one is no digit are refused
@@ -82,5 +66,5 @@ pub pair_refused : (values : List ℕ) (high low i byte : ℕ) → AreDigitValue
     → (error : FromHexError) × (pair_value high low i ≡ Err error)
 pair_refused values high low i byte are hb lb e large =
     bad_pair high low i byte (hex_digit_value high) (hex_digit_value low) (digit_small high) (digit_small low)
-    (e ∙ ap (λ (n : ℕ). n * 16 + slice_index values low) (are high hb) ∙ ap (λ (n : ℕ). entry_of (hex_digit_value high) * 16 + n) (are low lb))
+    (e ∙ ap (λ (n : ℕ). n * 16 + slice_index values low) (are high hb) ∙ ap (λ (n : ℕ). digit_entry (hex_digit_value high) * 16 + n) (are low lb))
     large

@@ -2,6 +2,7 @@
 use Rattle.std.proofs.Common.{◌≡◌, ◌+◌, ◌++◌, ◌<◌, ◌≤◌, ◌==◌, ◌&&◌, ◌⊎◌, inl, inr, ⊎_elim, ℕ, Bool, true, false, cond, List, [], ◌∷◌}
 use Rattle.std.proofs.Common.{Option, Some, None, is_some, eqb-true, Result, Ok, Err, length, take, drop, get_or, slice_index, refl, sym, ap, ◌∙◌, arith}
 use Rattle.std.proofs.Math.Seq.{get_or-append_seam, take-append_seam}
+use Rattle.std.proofs.lemmas.Bool.{and_right}
 use Rattle.std.proofs.lemmas.List.{drop_more, length-append, take-append-drop}
 use Rattle.std.proofs.lemmas.List.Elements.{All-head, All-nil, All-cons, All-tail}
 use Rattle.std.proofs.lemmas.List.Splits.{join_with_byte-slice_split, slice_split_at, slice_split_none}
@@ -16,15 +17,9 @@ use Rattle.hex.proofs.HexLemmas.{decode_of-ok, decode_sized-ok, decode_sized-twi
 use Rattle.nc_output.proofs.Offered.{eqb_no}
 use Rattle.nc_lines.specs.Lines.{words_in}
 use Rattle.nc_lines.specs.Words.{address_in, bytes_in, placed_in, first_address_in}
+use Rattle.nc_lines.proofs.Cuts.{either_some}
 
 -- ---- words
-
--- a choice of two lists that have a first word has one
-either_some : (v : Bool) (xs ys : List (List ℕ)) → ((word : List ℕ) × (others : List (List ℕ)) × xs ≡ word ∷ others)
-    → ((word : List ℕ) × (others : List (List ℕ)) × ys ≡ word ∷ others)
-    → (word : List ℕ) × (others : List (List ℕ)) × cond v xs ys ≡ word ∷ others
-either_some true xs ys h k = h
-either_some false xs ys h k = k
 
 -- a byte before some words has a first word
 onto_first-some : (b : ℕ) (words : List (List ℕ)) → (word : List ℕ) × (others : List (List ℕ)) × onto_first b words ≡ word ∷ others
@@ -81,11 +76,6 @@ spaced_result : (front back : List ℕ) (r : Result (List ℕ) FromHexError) →
 spaced_result front back (Ok bytes) e = absurd (spaced_no front back (decode_of-ok (front ++ 32 ∷ back) bytes e).1)
 spaced_result front back (Err error) e = refl
 
--- the second of two tests fails
-and_no : (b : Bool) → (b && false) ≡ false
-and_no true = refl
-and_no false = refl
-
 -- a choice between nothing and what is read, where neither length nor dash tells
 choose_none : {X : Type 0} (first second : Bool) (x : X) (read : Option X) → second ≡ false → read ≡ None
     → cond first None (cond second (Some x) read) ≡ None
@@ -95,7 +85,7 @@ choose_none false second x read apart e = ap (λ (b : Bool). cond b (Some x) rea
 -- a text with a space is not the dash
 spaced_dash : (front back : List ℕ)
     → ((length (front ++ 32 ∷ back) == 1) && (slice_index (front ++ 32 ∷ back) 0 == 45)) ≡ false
-spaced_dash [] back = and_no (length (32 ∷ back) == 1)
+spaced_dash [] back = and_right (length (32 ∷ back) == 1) false refl
 spaced_dash (c ∷ front) back =
     ap (λ (b : Bool). b && (c == 45)) (eqb_no (length (c ∷ (front ++ 32 ∷ back))) 1 (λ e. absurd (omega (arith, length-append front (32 ∷ back), e))))
 

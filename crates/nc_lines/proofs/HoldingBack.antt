@@ -1,6 +1,6 @@
 -- Answers that are held back, written with others or before them.
 use Rattle.std.proofs.Common.{◌≡◌, ◌++◌, ◌+◌, ℕ, List, [], Option, Result, Ok, Err, OnOk, OnErr, length, min, take, sym, ap, ◌∙◌, subst, arith}
-use Rattle.std.proofs.Common.{Bool, false, cond, append-nil}
+use Rattle.std.proofs.Common.{append-nil}
 use Rattle.std.specs.Io.KnownBytes.{Appends}
 use Rattle.std.proofs.KnownBytes.{Appends-trans}
 use Rattle.std.proofs.Math.Seq.{take-append-add}
@@ -35,7 +35,3 @@ front_of_more before after held answer h =
       subst (Appends before after)
           (sym (take-append-le count held answer (omega arith) ∙ take_min h.0 held)) h.1,
     )
-
--- where it was not held back, what was held back before still is
-pub held_still : (is_held : Bool) (new all old : List ℕ) → new ≡ cond is_held all old → is_held ≡ false → new ≡ old
-held_still is_held new all old e unheld = e ∙ ap (λ (b : Bool). cond b all old) unheld

@@ -7,7 +7,7 @@ use Rattle.std.specs.Io.KnownBytes.{Appends, Keeps}
 use Rattle.std.proofs.KnownBytes.{Appends-trans, Appends-kept, Appends-nil}
 use Rattle.nc_lines.specs.Lines.{lines_of, ended_lines, kept_of}
 use Rattle.nc_lines.specs.Answering.{AnswersLines, IsAnswered, IsBegun, IsCutShort}
-use Rattle.nc_lines.specs.machinery.Progress.{IsOpen, ended, WritesFront, HoldsRest, EndsEarly, IsHeld, KeepsUp, AnswersKept, Feeds, Finishes}
+use Rattle.nc_lines.specs.machinery.Progress.{IsOpen, ended, WritesFront, HoldsRest, EndsEarly, IsHeldBack, KeepsUp, AnswersKept, Feeds, Finishes}
 use Rattle.nc_lines.specs.declared.fault.ReplayFault.{ReplayFault}
 use Rattle.nc_lines.specs.declared.fault.ReplayFault.TheVariants.{ReadFailed, WriteFailed, OutOfMemory, BadSize, BadSeats, BadWorkers}
 use Rattle.nc_lines.proofs.Cuts.{more_to_come, lines_of-some, lines_of-cut, lines_of-open, lines_of-next, last_line, ended_lines-cut}
@@ -15,7 +15,7 @@ use Rattle.nc_lines.proofs.Cuts.{cut-ended, IsOpen-append, AreOpen-push}
 use Rattle.nc_lines.proofs.Answered.{runs_more}
 
 -- some bytes after others, cut where a number of them ends
-cut_after : (front bytes : List ℕ) (n : ℕ) → front ++ bytes ≡ (front ++ take n bytes) ++ drop n bytes
+pub cut_after : (front bytes : List ℕ) (n : ℕ) → front ++ bytes ≡ (front ++ take n bytes) ++ drop n bytes
 cut_after front bytes n =
     ap (λ (t : List ℕ). front ++ t) (sym (take-append-drop n bytes)) ∙ sym (append_assoc front (take n bytes) (drop n bytes))
 
@@ -69,8 +69,8 @@ module _ {S : Type 0} (answers : S → List ℕ → List ℕ → S → Type 0) (
   -- once one more line is answered, the replies are those to the lines up to it
   held_more : (now : S) (after : Option (List ℕ)) (held : List ℕ) (lines : List (List ℕ)) (line reply : List ℕ) (new : S)
       (later : Option (List ℕ)) (left : List ℕ)
-      → IsHeld answers start now before after held lines → answers now line reply new → HoldsRest after later (held ++ reply) left
-      → IsHeld answers start new before later left (lines ++ line ∷ [])
+      → IsHeldBack answers start now before after held lines → answers now line reply new → HoldsRest after later (held ++ reply) left
+      → IsHeldBack answers start new before later left (lines ++ line ∷ [])
   held_more now after held lines line reply new later left a answered_so rest = record {
     reply = a.reply ++ rest.0;
     runs = subst (λ (t : List ℕ). AnswersLines answers start (lines ++ line ∷ []) t new)
@@ -81,7 +81,7 @@ module _ {S : Type 0} (answers : S → List ℕ → List ℕ → S → Type 0) (
 
   -- what was held back is written
   pub held_written : (now : S) (after : Option (List ℕ)) (held : List ℕ) (lines : List (List ℕ)) (later : Option (List ℕ))
-      → IsHeld answers start now before after held lines → Appends after later held → IsAnswered answers start now before later lines
+      → IsHeldBack answers start now before after held lines → Appends after later held → IsAnswered answers start now before later lines
   held_written now after held lines later a written = record {
     reply = a.reply ++ held;
     runs = a.runs;
@@ -90,13 +90,13 @@ module _ {S : Type 0} (answers : S → List ℕ → List ℕ → S → Type 0) (
 
   -- where nothing is held back, all is written
   pub held_none : (now : S) (after : Option (List ℕ)) (held : List ℕ) (lines : List (List ℕ))
-      → held ≡ [] → IsHeld answers start now before after held lines → IsAnswered answers start now before after lines
+      → held ≡ [] → IsHeldBack answers start now before after held lines → IsAnswered answers start now before after lines
   held_none now after held lines none a =
       held_written now after held lines after a (subst (λ (h : List ℕ). Appends after after h) (sym none) (Appends-nil after))
 
   -- what was held back was written in part
   pub held_begun : (now : S) (after : Option (List ℕ)) (held : List ℕ) (lines others all : List (List ℕ)) (later : Option (List ℕ))
-      → IsHeld answers start now before after held lines → WritesFront after later held → all ≡ lines ++ others
+      → IsHeldBack answers start now before after held lines → WritesFront after later held → all ≡ lines ++ others
       → IsBegun answers start before later all
   held_begun now after held lines others all later a front e = record {
     first = lines;
@@ -238,9 +238,9 @@ module _ {S : Type 0} (answers : S → List ℕ → List ℕ → S → Type 0) (
   pub finish_line : (bytes : List ℕ) (now : S) (after : Option (List ℕ)) (held kept reply : List ℕ) (new : S) (later : Option (List ℕ))
       (left : List ℕ) (s : KeepsUp answers start before bytes now after held kept) → 0 < length s.part
       → answers now s.part reply new → HoldsRest after later (held ++ reply) left
-      → IsHeld answers start new before later left (lines_of bytes)
+      → IsHeldBack answers start new before later left (lines_of bytes)
   finish_line bytes now after held kept reply new later left s some answered_so rest =
-      subst (λ (ls : List (List ℕ)). IsHeld answers start new before later left ls)
+      subst (λ (ls : List (List ℕ)). IsHeldBack answers start new before later left ls)
       (sym (lines_at_end bytes now after held kept s ∙ ap (λ (ls : List (List ℕ)). s.lines ++ ls) (last_line_some s.part some)))
       (held_more now after held s.lines s.part reply new later left s.answered answered_so rest)
 

@@ -40,7 +40,7 @@ bad_next limit line lines is_named rest verdicts e h =
 -- where a line names a chunk, the next verdict is on it
 named_here : (limit : ℕ) (lines : List (List ℕ)) (chunk : Option (ℕ × List ℕ)) (rest : List Bool)
     (verdict : Result MarkedChunk (Vec ℕ × VetFault)) (later : List (Result MarkedChunk (Vec ℕ × VetFault))) (Reply : List ℕ → Type 0)
-    → ((limit base : ℕ) (bytes : List ℕ) → IsFound limit (base, bytes) verdict → (reply : List ℕ) × Reply reply
+    → ((base limit : ℕ) (bytes : List ℕ) → IsFound limit (base, bytes) verdict → (reply : List ℕ) × Reply reply
     × SaysVerdict base limit bytes reply)
     → MatchOption chunk
     ((after : List Bool) × (true ∷ rest ≡ false ∷ after) × AreFound limit lines after (verdict ∷ later))
@@ -55,7 +55,7 @@ named_here limit lines (Some placed) rest verdict later Reply says h =
     let same_rest : after ≡ rest = cc in
     let same_first : first ≡ verdict = cc in
     let same_others : others ≡ later = cc in
-    let said = says limit placed.0 placed.1 (subst (IsFound limit placed) same_first found) in (
+    let said = says placed.0 limit placed.1 (subst (IsFound limit placed) same_first found) in (
       said.0,
       said.1,
       said.2,
@@ -68,7 +68,7 @@ pub named_next : (limit : ℕ) (line : List ℕ) (lines : List (List ℕ)) (is_n
     (verdicts later : List (Result MarkedChunk (Vec ℕ × VetFault))) (verdict : Result MarkedChunk (Vec ℕ × VetFault))
     (Reply : List ℕ → Type 0)
     → is_named ≡ true → verdicts ≡ verdict ∷ later
-    → ((limit base : ℕ) (bytes : List ℕ) → IsFound limit (base, bytes) verdict → (reply : List ℕ) × Reply reply
+    → ((base limit : ℕ) (bytes : List ℕ) → IsFound limit (base, bytes) verdict → (reply : List ℕ) × Reply reply
     × SaysVerdict base limit bytes reply)
     → AreFound limit (line ∷ lines) (is_named ∷ rest) verdicts
     → (reply : List ℕ) × Reply reply × VetsLine limit line reply × AreFound limit lines rest later

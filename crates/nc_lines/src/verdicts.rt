@@ -12,7 +12,7 @@ use std::vec::IntoIter;
 
 /// Adds the reply to a line whose chunk has this verdict. Lack of memory is not a verdict: it is returned as an error.
 fn push_verdict(out: &mut Vec<u8>, verdict: Verdict) -> Result<(), AllocError>
-    ensures { OnOk result ((limit base : ℕ) (bytes : List ℕ) → IsFound limit (base, bytes) verdict → (reply : List ℕ)
+    ensures { OnOk result ((base limit : ℕ) (bytes : List ℕ) → IsFound limit (base, bytes) verdict → (reply : List ℕ)
         × (out.new.items ≡ out.old.items ++ reply) × SaysVerdict base limit bytes reply) }
 {
     match verdict {

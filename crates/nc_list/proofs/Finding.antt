@@ -9,7 +9,7 @@ use Rattle.nc_list.specs.Chunks.{IsAscending, IsAboveAll, IsNextChunk, HasBase, 
 use Rattle.nc_list.specs.Stamps.{BeginsAt}
 use Rattle.nc_list.specs.Parts.{IsPut, BeginTo, BeginAbove}
 use Rattle.nc_list.proofs.EachMember.{each_get, each_take_from, each_drop_from}
-use Rattle.nc_list.proofs.Ascending.{rises_at, rises_apart, meets_first, meets_rest}
+use Rattle.nc_list.proofs.Ascending.{ascending_at, ascending_apart, meets_first, meets_rest}
 use Rattle.nc_list.proofs.Pieces.{around, around_set}
 use Rattle.nc_list.proofs.Combining.{above_free}
 
@@ -18,7 +18,7 @@ pub before_begun : (chunks : List Chunk) (i at : ℕ) (d : Chunk) → IsAscendin
     → IsAboveAll at (take i chunks)
 before_begun chunks i at d ascending lt begun =
     each_take_from (λ (e : Chunk). e.base + e.length ≤ at) i chunks d (omega (arith, lt))
-    (λ j before. omega (arith, begun, rises_apart 0 chunks j i d ascending before lt))
+    (λ j before. omega (arith, begun, ascending_apart 0 chunks j i d ascending before lt))
 
 -- the chunks up to one that ends at or below a place end at or below it
 pub up_to_ended : (chunks : List Chunk) (k at : ℕ) (d : Chunk) → IsAscending 0 chunks → k ≤ length chunks
@@ -27,7 +27,7 @@ up_to_ended chunks k at d ascending le ended =
     each_take_from (λ (e : Chunk). e.base + e.length ≤ at) k chunks d le (λ j before.
     let end = ended (omega (arith, before)) in
     elim (cases_lt j (k - 1)) [
-      | inl lt ↦ omega (arith, end, rises_apart 0 chunks j (k - 1) d ascending lt (omega (arith, before, le)))
+      | inl lt ↦ omega (arith, end, ascending_apart 0 chunks j (k - 1) d ascending lt (omega (arith, before, le)))
       | inr last ↦
           let same : j ≡ k - 1 = omega (arith, before, last) in
           subst (λ (n : ℕ). (get_or chunks n d).base + (get_or chunks n d).length ≤ at) (sym same) end
@@ -62,7 +62,7 @@ begun_to chunks k at d ascending le begun =
     omega (
       arith,
       begun (omega (arith, before)),
-      rises_at 0 chunks j (k - 1) d ascending (omega (arith, before)) (omega (arith, before, le)),
+      ascending_at 0 chunks j (k - 1) d ascending (omega (arith, before)) (omega (arith, before, le)),
     ))
 
 -- chunks from one on that begins above a place
@@ -70,7 +70,7 @@ pub begun_above : (chunks : List Chunk) (k at : ℕ) (d : Chunk) → IsAscending
     → BeginAbove at (drop k chunks)
 begun_above chunks k at d ascending above =
     each_drop_from (λ (e : Chunk). at < e.base) k chunks d (λ j from_it lt.
-    omega (arith, above (omega (arith, from_it, lt)), rises_at 0 chunks k j d ascending from_it lt))
+    omega (arith, above (omega (arith, from_it, lt)), ascending_at 0 chunks k j d ascending from_it lt))
 
 -- each chunk from an index on begins above a place where all of them do
 pub later_above : (chunks : List Chunk) (k at j : ℕ) (d : Chunk) → k ≤ j → j < length chunks → BeginAbove at (drop k chunks)
@@ -99,7 +99,7 @@ last_has chunks k base d ascending le to above has =
     let there = ap (λ (e : Chunk). e.base) (get_or_default chunks j d has.0 has.1.1 ∙ has.1.2) ∙ has.2 in
     let before : j < k = has_before chunks k base j d above has.1.1 there in
     let low = last_begun chunks k base d (omega (arith, before)) le to in
-    let rise = rises_at 0 chunks j (k - 1) d ascending (omega (arith, before)) (omega (arith, before, le)) in
+    let rise = ascending_at 0 chunks j (k - 1) d ascending (omega (arith, before)) (omega (arith, before, le)) in
     (omega (arith, before), omega (arith, low, rise, there))
 
 -- the chunk at an index is retired

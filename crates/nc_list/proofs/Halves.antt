@@ -7,7 +7,8 @@ use Rattle.nc_list.specs.Stamps.{AreSince, BeginsAt}
 use Rattle.nc_list.specs.Parts.{HaveSome, IsRow, AreParted, all_of, starts_of}
 use Rattle.nc_list.proofs.EachMember.{each_append, each_take, each_drop, each_map}
 use Rattle.nc_list.proofs.LowerBounds.{since_both, begins_first}
-use Rattle.nc_list.proofs.Pieces.{all_append, starts_append, starts_more, starts_less, starts_get, starts_low, starts_high, starts_long}
+use Rattle.nc_list.proofs.Parting.{starts_before}
+use Rattle.nc_list.proofs.Pieces.{all_append, starts_append, starts_more, starts_less, starts_get, starts_low, starts_high}
 use Rattle.nc_list.proofs.Rows.{begins_all}
 
 -- the starts before a cut, and from it on
@@ -19,16 +20,13 @@ cut_starts parts starts cut n are lt is =
     are ∙ (ap (starts_of 0) (sym (take-append-drop cut parts))
     ∙ (starts_append 0 (take cut parts) (drop cut parts) ∙ ap (λ (m : ℕ). starts_of 0 (take cut parts) ++ starts_of m (drop cut parts)) count))
 
-cut_long : (parts : List (List Chunk)) (cut : ℕ) → cut < length parts → length (starts_of 0 (take cut parts)) ≡ cut
-cut_long parts cut lt = starts_long 0 (take cut parts) ∙ length-take-le cut parts (omega (arith, lt))
-
 -- no start from a cut on is lower than the one at the cut
 pub cut_enough : (parts : List (List Chunk)) (starts : List ℕ) (cut n : ℕ) → starts ≡ starts_of 0 parts → cut < length parts
     → n ≡ get_or starts cut 0 → Each (λ (m : ℕ). n ≤ m) (drop cut starts)
 cut_enough parts starts cut n are lt is =
     subst (Each (λ (m : ℕ). n ≤ m))
     (sym (ap (drop cut) (cut_starts parts starts cut n are lt is)
-    ∙ drop_at (starts_of 0 (take cut parts)) (starts_of (0 + n) (drop cut parts)) cut (cut_long parts cut lt)))
+    ∙ drop_at (starts_of 0 (take cut parts)) (starts_of (0 + n) (drop cut parts)) cut (starts_before parts cut lt)))
     (each_map (λ (m : ℕ). 0 + n ≤ m) (λ (m : ℕ). n ≤ m) (λ m h. omega (arith, h)) (starts_of (0 + n) (drop cut parts))
     (starts_low (0 + n) (drop cut parts)))
 
@@ -70,7 +68,7 @@ row_cut parts starts count first oldest cut n low row pos lt is since =
     let some = some_all (take cut parts) (omega (arith, pos, length-take-le cut parts (omega (arith, lt)))) each in
     record {
       starts_are = ap (take cut) (cut_starts parts starts cut n row.starts_are lt is)
-          ∙ take_at (starts_of 0 (take cut parts)) (starts_of (0 + n) (drop cut parts)) cut (cut_long parts cut lt);
+          ∙ take_at (starts_of 0 (take cut parts)) (starts_of (0 + n) (drop cut parts)) cut (starts_before parts cut lt);
       some = λ _. each;
       count_is = cut_count parts starts cut n row.starts_are lt is;
       begins = begins_front first (all_of (take cut parts)) (all_of (drop cut parts)) some (subst (BeginsAt first) (cut_all parts cut) row.begins);
@@ -86,7 +84,7 @@ row_rest parts starts count first oldest cut n front high row pos lt is begins s
     let have : HaveSome (drop cut parts) = λ _. each in
     record {
       starts_are = ap (map (λ (m : ℕ). m - n)) (ap (drop cut) (cut_starts parts starts cut n row.starts_are lt is)
-          ∙ drop_at (starts_of 0 (take cut parts)) (starts_of (0 + n) (drop cut parts)) cut (cut_long parts cut lt))
+          ∙ drop_at (starts_of 0 (take cut parts)) (starts_of (0 + n) (drop cut parts)) cut (starts_before parts cut lt))
           ∙ starts_less 0 n (drop cut parts);
       some = have;
       count_is = omega (

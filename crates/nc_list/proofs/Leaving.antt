@@ -18,7 +18,7 @@ one_more least c cs true is so = rw is (omega (arith, so))
 one_more least c cs false is so = rw is (omega (arith, so))
 
 -- the chunks that are kept and those that are freed are together as many as all
-kept_and_freed : (least : ℕ) (cs : List Chunk) → length cs ≡ length (kept least cs) + length (freed least cs)
+pub kept_and_freed : (least : ℕ) (cs : List Chunk) → length cs ≡ length (kept least cs) + length (freed least cs)
 kept_and_freed least [] = refl
 kept_and_freed least (c ∷ cs) = one_more least c cs (is_due least c.state) refl (kept_and_freed least cs)
 

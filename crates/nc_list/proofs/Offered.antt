@@ -3,5 +3,6 @@
 pub use Rattle.nc_list.proofs.EachMember.{each_map, each_both, each_get, each_contains, each_set, each_replicate, each_take, each_drop}
 pub use Rattle.nc_list.proofs.EachMember.{each_append, each_from, each_set_but, each_at_set, each_unset, each_middle, each_out, each_in}
 pub use Rattle.nc_list.proofs.EachMember.{each_split}
-pub use Rattle.nc_list.proofs.Ascending.{rises_lower, rises_above, rises_rest, meets_rest}
+pub use Rattle.nc_list.proofs.Ascending.{ascending_lower, ascending_above, ascending_rest, ascending_apart, meets_rest}
+pub use Rattle.nc_list.proofs.Leaving.{kept_and_freed, taken_long}
 pub use Rattle.nc_list.proofs.Taking.{freed_append, kept_append, all_stay, taken_nothing}

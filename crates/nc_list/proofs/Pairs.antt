@@ -1,16 +1,10 @@
 -- Two neighbours in a list, lent apart.
-use Rattle.std.proofs.Common.{◌≡◌, ℕ, suc, ◌+◌, ◌<◌, List, [], ◌∷◌, ◌++◌, length, get_or, set, take, drop, map, sym, ap, ◌∙◌, arith, append-nil}
+use Rattle.std.proofs.Common.{◌≡◌, ℕ, suc, ◌+◌, ◌<◌, List, [], ◌∷◌, ◌++◌, length, get_or, set, take, drop, map, sym, ap, ◌∙◌, arith}
 use Rattle.std.specs.List.{remove}
-use Rattle.std.proofs.lemmas.List.{length-append, length-set, length-take-le, length-drop, take_at, drop_at, take_all, take-take, take_more_set, drop-set-lt, drop-drop, drop_all, map-append, get_or-take, get_or-drop, take-append-drop}
+use Rattle.std.proofs.lemmas.List.{length-append, length-set, length-take-le, length-drop, take_at, drop_at, take_all, take-take, take_more_set, drop-set-lt, drop-drop, map-append, get_or-take, get_or-drop, take-append-drop}
 use Rattle.nc_list.specs.declared.chunk.Chunk.{Chunk}
 use Rattle.nc_list.proofs.Parting.{kept_parts, joined_parts}
 use Rattle.nc_list.proofs.Pieces.{part_is}
-
--- a list written over by one that is as long
-pub written : {X : Type 0} (xs ys : List X) (n : ℕ) → length ys ≡ n → length xs ≡ n → take n (ys ++ drop (length ys) xs) ≡ ys
-written {X = X} xs ys n long was =
-    ap (λ (z : List X). take n (ys ++ z)) (drop_all (length ys) xs (omega (arith, long, was)))
-    ∙ (ap (take n) (append-nil ys) ∙ take_all n ys (omega (arith, long)))
 
 -- a list with two neighbours set is as long as it was
 pub pair_long : {X : Type 0} (xs : List X) (k : ℕ) (p q : X) → k + 1 < length xs
@@ -86,7 +80,7 @@ joined_pair {X = X} f xs front back k n p q lt long is also =
     ap (λ (z : List X). map f (remove (take n (set z k p ++ set back 0 q ++ drop (length (set z k p ++ set back 0 q)) xs)) (k + 1))) is
     ∙ (ap (λ (z : List X). map f (remove (take n (set (take (k + 1) xs) k p ++ set z 0 q
     ++ drop (length (set (take (k + 1) xs) k p ++ set z 0 q)) xs)) (k + 1))) also
-    ∙ (ap (λ (z : List X). map f (remove z (k + 1))) (written xs ys n (pair_long xs k p q lt ∙ long) long)
+    ∙ (ap (λ (z : List X). map f (remove z (k + 1))) (take_at ys (drop (length ys) xs) n (pair_long xs k p q lt ∙ long))
     ∙ (ap (map f) (pair_removed xs k p q lt) ∙ joined_parts f xs k p)))
 
 -- the chunks of the list as it is written back, where both neighbours keep theirs
@@ -99,7 +93,7 @@ unjoined_pair {X = X} f xs front back k n a b p q lt long is also first second s
     ap (λ (z : List X). map f (take n (set z k p ++ set back 0 q ++ drop (length (set z k p ++ set back 0 q)) xs))) is
     ∙ (ap (λ (z : List X). map f (take n (set (take (k + 1) xs) k p ++ set z 0 q
     ++ drop (length (set (take (k + 1) xs) k p ++ set z 0 q)) xs))) also
-    ∙ (ap (map f) (written xs ys n (pair_long xs k p q lt ∙ long) long)
+    ∙ (ap (map f) (take_at ys (drop (length ys) xs) n (pair_long xs k p q lt ∙ long))
     ∙ pair_kept f xs k a b p q lt (first ∙ ap (λ (z : List X). get_or z k a) is) (second ∙ ap (λ (z : List X). get_or z 0 b) also)
     (same ∙ ap f (sym first)) (equal ∙ ap f (sym second))))
 

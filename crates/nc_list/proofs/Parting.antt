@@ -269,7 +269,7 @@ pub not_parted : {X : Type 0} (f : X → List Chunk) (p q : X) (o : Option X) �
     → MatchOption o (f q ≡ f p) (λ (v : X). AreParted (f p) (f q) (f v)) → f q ≡ f p
 not_parted {X = X} f p q o is so = subst (λ (z : Option X). MatchOption z (f q ≡ f p) (λ (v : X). AreParted (f p) (f q) (f v))) is so
 
--- where the others and this one have chunks, all have
+-- where one part and all other parts have chunks, all parts have
 pub others_and_one : (parts : List (List Chunk)) (k : ℕ) → k < length parts → 0 < length (get_or parts k []) → OthersHaveSome parts k
     → HaveSome parts
 others_and_one parts k lt some others = λ several.

@@ -8,7 +8,7 @@ use Rattle.nc_list.specs.Chunks.{IsAscending, IsAboveAll, HasBase, IsNextChunk, 
 use Rattle.nc_list.specs.Stamps.{IsSince, AreSince, BeginsAt}
 use Rattle.nc_list.specs.Parts.{HaveSome, OthersHaveSome, IsRow, IsPut, IsPartFor, BeginAbove, all_of, starts_of}
 use Rattle.nc_list.proofs.EachMember.{each_append, each_take, each_drop, each_get, each_set, each_map, each_in, each_out}
-use Rattle.nc_list.proofs.Ascending.{rises_first, rises_rest, meets_first, meets_rest}
+use Rattle.nc_list.proofs.Ascending.{ascending_first, ascending_rest, meets_first, meets_rest}
 use Rattle.nc_list.proofs.LowerBounds.{all_below, begins_first}
 use Rattle.nc_list.proofs.Pieces.{all_around, all_more, around, around_set, starts_around, starts_more, starts_less, starts_get, starts_low, starts_high, starts_long, some_at, part_is}
 use Rattle.nc_list.proofs.Parting.{starts_at, take_seam, drop_seam, starts_before, starts_many}
@@ -31,11 +31,11 @@ pub all_at : (parts : List (List Chunk)) (k : ℕ) → k < length parts
     → all_of parts ≡ all_of (take k parts) ++ (get_or parts k [] ++ all_of (drop (suc k) parts))
 all_at parts k lt = ap all_of (around parts k [] lt) ∙ all_around (take k parts) (get_or parts k []) (drop (suc k) parts)
 
--- a part's chunks rise
+-- a part's chunks are ascending
 pub rise_here : (parts : List (List Chunk)) (k : ℕ) → k < length parts → IsAscending 0 (all_of parts) → IsAscending 0 (get_or parts k [])
 rise_here parts k lt ascending =
-    rises_first 0 (get_or parts k []) (all_of (drop (suc k) parts))
-    (rises_rest 0 (all_of (take k parts)) (get_or parts k [] ++ all_of (drop (suc k) parts))
+    ascending_first 0 (get_or parts k []) (all_of (drop (suc k) parts))
+    (ascending_rest 0 (all_of (take k parts)) (get_or parts k [] ++ all_of (drop (suc k) parts))
     (subst (IsAscending 0) (all_at parts k lt) ascending))
 
 -- a span that overlaps no chunk of a row overlaps none of a part

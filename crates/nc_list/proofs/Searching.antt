@@ -7,7 +7,7 @@ use Rattle.nc_list.specs.Stamps.{BeginsAt}
 use Rattle.nc_list.specs.Parts.{BeginAbove, HaveSome, all_of}
 use Rattle.nc_list.proofs.EachMember.{each_map}
 use Rattle.nc_list.proofs.Pieces.{around, all_around, part_is, some_at}
-use Rattle.nc_list.proofs.Ascending.{rises_before, rises_behind}
+use Rattle.nc_list.proofs.Ascending.{ascending_before, ascending_behind}
 
 -- chunks before one that begins at or below a place
 before_one : (xs here ys : List Chunk) (first at : ℕ) → IsAscending 0 (xs ++ (here ++ ys)) → 0 < length here → BeginsAt first here
@@ -15,7 +15,7 @@ before_one : (xs here ys : List Chunk) (first at : ℕ) → IsAscending 0 (xs ++
 before_one xs [] ys first at ascending some begins le = absurd (omega (arith, some))
 before_one xs (c ∷ here) ys first at ascending some begins le =
     each_map (λ (d : Chunk). d.base + d.length ≤ c.base) (λ (d : Chunk). d.base + d.length ≤ at) (λ d h. omega (arith, h, le, begins)) xs
-    (rises_before 0 xs c (here ++ ys) ascending)
+    (ascending_before 0 xs c (here ++ ys) ascending)
 
 -- chunks from one on that begins above a place
 from_one : (xs here ys : List Chunk) (first at : ℕ) → IsAscending 0 (xs ++ (here ++ ys)) → 0 < length here → BeginsAt first here
@@ -23,7 +23,7 @@ from_one : (xs here ys : List Chunk) (first at : ℕ) → IsAscending 0 (xs ++ (
 from_one xs [] ys first at ascending some begins lt = absurd (omega (arith, some))
 from_one xs (c ∷ here) ys first at ascending some begins lt =
     each_map (λ (d : Chunk). c.base ≤ d.base) (λ (d : Chunk). at < d.base) (λ d h. omega (arith, h, lt, begins)) (c ∷ (here ++ ys))
-    (rises_behind 0 xs c (here ++ ys) ascending)
+    (ascending_behind 0 xs c (here ++ ys) ascending)
 
 -- at this index is a part that has a chunk, and it begins there
 pub record HasFirst (parts : List (List Chunk)) (k first : ℕ) : Type 0 where

@@ -21,8 +21,8 @@ abbrev pub chunk_of : Inside → Chunk
 chunk_of e = record { base = e.base; length = e.length; state = state_of e.stamp }
 
 -- the entry of a chunk
-abbrev pub entry_of : Chunk → Inside
-entry_of c = record { base = c.base; length = c.length; stamp = stamp_of c.state }
+abbrev pub inside_of : Chunk → Inside
+inside_of c = record { base = c.base; length = c.length; stamp = stamp_of c.state }
 
 -- the stamp comes back
 stamp_back : (stamp : ℕ) {b : Bool} → nat_eq stamp 18446744073709551615 ≡ b → stamp_of (if b then Live else Retired stamp) ≡ stamp
@@ -30,5 +30,5 @@ stamp_back stamp {b = true} is = sym (eqb-true stamp 18446744073709551615 is)
 stamp_back stamp {b = false} is = refl
 
 -- an entry comes back from the chunk that it stands for
-pub entry_back : (e : Inside) → entry_of (chunk_of e) ≡ e
+pub entry_back : (e : Inside) → inside_of (chunk_of e) ≡ e
 entry_back e = ap (λ (s : ℕ). record { base = e.base; length = e.length; stamp = s }) (stamp_back e.stamp refl)

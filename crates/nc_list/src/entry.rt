@@ -25,11 +25,11 @@ impl Model for Entry {
 
     ghost Value = { Chunk };
 
-    ghost use Rattle.nc_list.specs.Entries.{chunk_of, entry_of, entry_back};
+    ghost use Rattle.nc_list.specs.Entries.{chunk_of, inside_of, entry_back};
 
     ghost view = { chunk_of };
 
-    ghost inverse = { entry_of };
+    ghost inverse = { inside_of };
 
     ghost inverse_ok = { λ a h. entry_back a };
 }

@@ -16,6 +16,10 @@ pub added_all : {T E : Type 0} (r : Result T E) (new old bytes : List ℕ) → n
 added_all (Ok x) new old bytes e = e
 added_all (Err x) new old bytes e = tt
 
+-- three parts were added, one after another
+pub three_added : (o a b c n1 n2 n3 : List ℕ) → n1 ≡ o ++ a → n2 ≡ n1 ++ b → n3 ≡ n2 ++ c → n3 ≡ o ++ (a ++ (b ++ c))
+three_added o a b c n1 n2 n3 e1 e2 e3 = simp (e3, e2, e1, append_assoc)
+
 -- the bytes so far go on by those that are taken next
 pub moves_front : (all done rest : List ℕ) (n : ℕ) → all ≡ done ++ rest → all ≡ (done ++ take n rest) ++ take (length rest - n) (drop n rest)
 moves_front all done rest n e =

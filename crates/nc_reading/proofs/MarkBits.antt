@@ -1,8 +1,7 @@
 -- The bits that say which of 32 marks are set, and the places between them.
-use Rattle.std.proofs.Common.{◌≡◌, ℕ, ◌%◌, ◌^◌, ◌<◌, Bool, true, false, refl, sym, subst, ap, ◌∙◌, arith, ◌==◌, w32, ◌+◌, cond, ◌≤◌, ◌-◌, inl, inr, ◌/◌, ◌≢◌}
+use Rattle.std.proofs.Common.{◌≡◌, ℕ, ◌%◌, ◌^◌, ◌<◌, Bool, true, false, refl, sym, subst, ap, ◌∙◌, arith, ◌==◌, w32, ◌+◌, cond, ◌≤◌, ◌-◌, inl, inr, ◌≢◌}
 use Rattle.std.proofs.lemmas.Bool.{cases_lt}
 use Rattle.std.specs.Int.{bit_at, trailing_zeros}
-use Rattle.std.proofs.lemmas.Nat.{shr-shr}
 use Rattle.std.proofs.lemmas.Nat.Bits.{bit_at-trailing_zeros}
 
 -- a mark that isn't 0 is that of a test that holds
@@ -10,10 +9,6 @@ pub not_zero : (b : Bool) (bit mark : ℕ) → bit ≡ 0 → (bit == 1) ≡ (mar
 not_zero true bit mark z e m = refl
 not_zero false bit mark z e m =
     absurd (let f : false ≡ true = ap (λ (n : ℕ). n == 1) (sym z) ∙ e ∙ ap (λ (n : ℕ). n == 0) m in cc)
-
--- the bits after the first ones
-pub bit_passed : (n k i : ℕ) → bit_at (n / 2 ^ k) i ≡ bit_at n (k + i)
-bit_passed n k i = ap (λ (q : ℕ). q % 2) (shr-shr n k i)
 
 -- the bits before the lowest one that is set
 pub bit_below : (n i : ℕ) → n ≢ 0 → n < 2 ^ 32 → i < trailing_zeros w32 n → bit_at n i ≡ 0

@@ -82,8 +82,8 @@ abbrev pub to_opcode : ℕ → Form → Head
 to_opcode len form = record { len = len; form = form }
 
 -- the head of an instruction that begins with 0F and this byte
-abbrev pub escaped : ℕ → Head
-escaped second =
+abbrev pub escaped_head : ℕ → Head
+escaped_head second =
     if second == 0x38 then to_opcode 3 (Operand Absent)
     else (if second == 0x3A then to_opcode 3 (Operand Byte)
     else to_opcode 2 (get_or TWO_BYTE second Unknown))
@@ -94,7 +94,7 @@ abbrev pub head_of : List ℕ → Head
 head_of bytes =
     let first = slice_index bytes 0 in
     let second = slice_index bytes 1 in
-    if first == 0x0F then escaped second
+    if first == 0x0F then escaped_head second
     else (if first == 0xC5 && nat_le 0xC0 second then to_opcode 3 (vector_form 1 (slice_index bytes 2))
     else (if first == 0xC4 && nat_le 0xC0 second then to_opcode 4 (vector_form (second % 32) (slice_index bytes 3))
     else (if first == 0x62 && nat_le 0xC0 second then to_opcode 5 (evex_form (second % 16) (slice_index bytes 4))

@@ -71,7 +71,7 @@ fn put(classes: &mut [Class], at: usize, end: usize, states: &States) -> usize
 /// Reads the bundle at a place, and writes its classes if an instruction ends at its end. Returns the place up to which classes are
 /// written.
 #[inline(always)]
-fn read_one(classes: &mut [Class], code: &[u8], at: usize) -> usize
+fn fill_one(classes: &mut [Class], code: &[u8], at: usize) -> usize
     requires start { at % 32 ≡ 0 }
     requires room { at + 32 ≤ length code.now }
     requires each { length classes.old ≡ length code.now }
@@ -83,7 +83,7 @@ fn read_one(classes: &mut [Class], code: &[u8], at: usize) -> usize
 /// Reads the four bundles at a place, and writes the classes of those before the first at whose end no instruction ends. Returns the
 /// place up to which classes are written.
 #[inline(never)]
-fn read_four(classes: &mut [Class], code: &[u8], at: usize) -> usize
+fn fill_four(classes: &mut [Class], code: &[u8], at: usize) -> usize
     requires start { at % 32 ≡ 0 }
     requires room { at + 128 ≤ length code.now }
     requires each { length classes.old ≡ length code.now }
@@ -100,7 +100,7 @@ fn read_four(classes: &mut [Class], code: &[u8], at: usize) -> usize
 /// whose end none ends are all allowed, and their classes are written over as many that are `Inside`. Returns the place up to which
 /// classes are written.
 #[inline(always)]
-pub(crate) fn read_bundles(classes: &mut [Class], code: &[u8], at: usize) -> usize
+pub(crate) fn fill_bundles(classes: &mut [Class], code: &[u8], at: usize) -> usize
     requires bundles { length code.now % 32 ≡ 0 }
     requires within { at < length code.now }
     requires each { length classes.old ≡ length code.now }
@@ -110,7 +110,7 @@ pub(crate) fn read_bundles(classes: &mut [Class], code: &[u8], at: usize) -> usi
         return at;
     }
     if code.len() - at < FOUR {
-        return read_one(classes, code, at);
+        return fill_one(classes, code, at);
     }
-    read_four(classes, code, at)
+    fill_four(classes, code, at)
 }

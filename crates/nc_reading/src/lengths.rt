@@ -8,7 +8,7 @@ ghost use Rattle.std.specs.List.{prefix_len};
 ghost use Rattle.nc_decode.specs.Barred.{leading, among};
 ghost use Rattle.nc_decode.specs.Spelling.{operand_len};
 ghost use Rattle.nc_reading.specs.declared.lengths.Form.TheVariants.{Unknown};
-ghost use Rattle.nc_reading.specs.Lengths.{longest, has, sized, number_size, short_operand_len, operand_size, tail_len, vector_form, evex_form, xop_form, escaped, head_of, at_most, known_length};
+ghost use Rattle.nc_reading.specs.Lengths.{longest, has, sized, number_size, short_operand_len, operand_size, tail_len, vector_form, evex_form, xop_form, escaped_head, head_of, at_most, known_length};
 
 /// The greatest length of an instruction, in bytes.
 const LONGEST: usize = 15;
@@ -325,8 +325,8 @@ fn xop_form(map: u8) -> Form
 }
 
 /// The head of an instruction that begins with 0F and this byte.
-fn escaped(second: u8) -> Head
-    ensures value { result ≡ escaped second }
+fn escaped_head(second: u8) -> Head
+    ensures value { result ≡ escaped_head second }
     ensures some { 1 ≤ result.len }
     ensures small { result.len ≤ 3 }
 {
@@ -348,7 +348,7 @@ fn head_of(rest: &[u8]) -> Head
 {
     let second = byte_at(rest, 1);
     match byte_at(rest, 0) {
-        0x0F => escaped(second),
+        0x0F => escaped_head(second),
         0xC5 if second >= 0xC0 => Head {
             len: 3,
             form: vector_form(1, byte_at(rest, 2)),

@@ -3,10 +3,10 @@
 ghost use Rattle.std.specs.Prelude.{◌≡◌, ◌≤◌, ◌<◌, ◌+◌, ◌-◌, ◌%◌, ◌^◌, ◌++◌, ℕ, List, length, replicate, IfOk, IfSome};
 ghost use Rattle.nc_decode.specs.Spelling.{IsAtFront};
 ghost use Rattle.nc_reading.specs.declared.class.Class.{Class};
-ghost use Rattle.nc_reading.specs.Reading.{extent, masked_by, class_of, later_class, step_classes, Finds, IsStep, HasClasses};
+ghost use Rattle.nc_reading.specs.Reading.{extent, masked_by, class_of, step_classes, Finds, IsStep, HasClasses};
 
 use crate::class::Class;
-use crate::fast_path::read_bundles;
+use crate::fast_path::fill_bundles;
 use crate::lengths::known_len;
 use nc_decode::{BUNDLE, DecodeFault, Instr, decode};
 use std::alloc::{AllocError, Global};
@@ -176,7 +176,7 @@ fn fill_classes(classes: &mut [Class], code: &[u8])
     let mut at = 0usize;
     let mut masked = None;
     while at < code.len() {
-        let end = read_bundles(classes, code, at);
+        let end = fill_bundles(classes, code, at);
         if end > at {
             masked = None;
             at = end;

@@ -6,7 +6,7 @@ use Rattle.std.proofs.lemmas.Bool.{cases_lt}
 use Rattle.std.proofs.lemmas.Option.{slice_get-get_or}
 use Rattle.std.proofs.lemmas.List.{length-replicate, get_or-replicate}
 use Rattle.nc_vet.specs.Chunk.{MarkedChunk, Piece}
-use Rattle.nc_text.specs.MarkedText.{MarkedText, with_span, without_marks}
+use Rattle.nc_text.specs.MarkedText.{with_span}
 use Rattle.nc_text.specs.Ready.{GetsReady}
 use Rattle.nc_text.proofs.Offered.{get_or-with_span_in, get_or-with_span_below, get_or-with_span_above}
 use Rattle.nc_gens.specs.Rule.{generation_raised}
@@ -15,12 +15,13 @@ use Rattle.nc_list.specs.declared.chunk.Chunk.{Chunk}
 use Rattle.nc_list.specs.declared.chunk.ChunkState.{ChunkState}
 use Rattle.nc_list.specs.declared.chunk.ChunkState.TheVariants.{Live, Retired}
 use Rattle.nc_list.specs.Chunks.{IsAscending, FitsAt, Meets}
-use Rattle.nc_list.proofs.Offered.{each_map, rises_above}
+use Rattle.nc_list.proofs.Offered.{each_map, ascending_above}
 use Rattle.nc_acts.specs.declared.acts.Act.TheVariants.{Look}
 use Rattle.nc_acts.specs.Log.{only_acts, log_of_create, log_of_delete}
 use Rattle.nc_region.specs.Region.{Region, IsLive, IsCreated, live_chunk}
 use Rattle.nc_region.specs.Patch.{IsModified, log_of_modify}
 use Rattle.nc_region.specs.Deletion.{HasLive, IsDeleted, IsReclaimed, freed, kept, unmarked, unmarkings}
+use Rattle.nc_region.proofs.deleting.Due.{unmarked_bytes}
 use Rattle.nc_region.proofs.deleting.Deleted.{deleted_is}
 use Rattle.nc_acts.proofs.Offered.{told_logged, acts_back}
 
@@ -78,7 +79,7 @@ fits_somewhere from base len (d ∷ rest) ascending free =
               (
                 le,
                 each_map (λ (e : Chunk). d.base + d.length ≤ e.base) (λ (e : Chunk). base + len ≤ e.base)
-                    (λ e h. omega (arith, h, le)) rest (rises_above (d.base + d.length) rest ascending.1),
+                    (λ e h. omega (arith, h, le)) rest (ascending_above (d.base + d.length) rest ascending.1),
               ),
             ),
           )
@@ -208,11 +209,6 @@ reclaimed_region old keeper =
       keeper = keeper;
       logged = old.logged ++ only_acts (Look ∷ unmarkings (freed least old.chunks));
     }
-
--- unmarking changes no byte
-unmarked_bytes : (marked : MarkedText) (chunks : List Chunk) → (unmarked marked chunks).bytes ≡ marked.bytes
-unmarked_bytes marked [] = refl
-unmarked_bytes marked (c ∷ rest) = unmarked_bytes (without_marks marked c.base c.length) rest
 
 -- a look can be followed by a reclaim
 pub reclaimed_exists : (old : Region) (keeper : KeeperState) → HasLooked old.keeper keeper

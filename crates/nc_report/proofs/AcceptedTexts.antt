@@ -8,7 +8,7 @@ use Rattle.nc_output.specs.declared.detail.Style.{Style}
 use Rattle.nc_report.specs.Outside.{OutsideRow, AreCalls, rows_text}
 use Rattle.nc_report.specs.Report.{ok_text, end_of, accepted_text, ReportsAccepted}
 use Rattle.nc_report.specs.machinery.Found.{HasInstructions, AddsCalls, AddsAccepted}
-use Rattle.nc_report.proofs.Appended.{three_added}
+use Rattle.nc_output.proofs.Offered.{three_added}
 
 -- an accepted source is reported
 pub accepted : (chunk : MarkedChunk) (s : Style) (name old out : List ℕ) → AddsAccepted old out s name chunk → old ≡ []

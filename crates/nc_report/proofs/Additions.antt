@@ -3,7 +3,7 @@ use Rattle.std.proofs.Common.{◌≡◌, ℕ, Bool, List, [], ◌++◌, take, dr
 use Rattle.std.specs.List.{flat_map, list_all}
 use Rattle.std.specs.Io.KnownBytes.{Appends}
 use Rattle.std.proofs.KnownBytes.{Appends-trans, Appends-nil}
-use Rattle.nc_vet.proofs.Offered.{flat_map-append}
+use Rattle.std.proofs.lemmas.List.Concat.{flat_map-append}
 use Rattle.nc_output.proofs.Offered.{all_both, adds_both}
 use Rattle.nc_output.specs.Shown.{is_shown, detail_line, AreDetails}
 use Rattle.nc_report.specs.Report.{HasWritten, HasBegun}

@@ -3,7 +3,7 @@ use Rattle.std.proofs.Common.{◌≡◌, ◌≢◌, ℕ, ◌+◌, ◌<◌, ◌�
 use Rattle.std.specs.List.Sorted.{IsNonDecreasing, IsPermutation}
 use Rattle.std.proofs.lemmas.List.{take-append-drop, length-drop, get_or-drop, flat_map_more}
 use Rattle.std.proofs.lemmas.List.Sorted.{IsNonDecreasingBy-drop}
-use Rattle.nc_vet.proofs.Offered.{flat_map-append}
+use Rattle.std.proofs.lemmas.List.Concat.{flat_map-append}
 use Rattle.nc_vet.specs.Chunk.{Piece, code_of, AreSpelled}
 use Rattle.nc_output.specs.declared.detail.Format.{Format}
 use Rattle.nc_report.specs.Outside.{OutsideRow, AscendFrom, all_sent, row_text}

@@ -1,14 +1,15 @@
 -- The text about the places of a chunk, one place after the other.
 use Rattle.std.proofs.Common.{◌≡◌, ℕ, ◌+◌, ◌-◌, ◌≤◌, cond, List, [], ◌∷◌, ◌++◌, length, refl, sym, subst, ◌∙◌, ap, append_assoc, append-nil, Option, arith, codes, ◌==◌}
+use Rattle.std.specs.Prelude.{option_to_list}
 use Rattle.std.specs.List.{flat_map, range_with_len}
-use Rattle.nc_vet.proofs.Offered.{flat_map-append}
+use Rattle.std.proofs.lemmas.List.Concat.{flat_map-append}
 use Rattle.nc_vet.specs.declared.fault.VetFault.{VetFault}
 use Rattle.nc_output.specs.declared.detail.Format.{Format}
 use Rattle.nc_output.specs.declared.detail.Format.TheVariants.{Text, Json}
 use Rattle.nc_reading.specs.declared.class.Class.{Class}
 use Rattle.nc_reading.specs.Reading.{HasClasses}
 use Rattle.nc_report.specs.Objects.{NoMembers}
-use Rattle.nc_report.specs.Further.{fault_at, listed, others_at, others_to}
+use Rattle.nc_report.specs.Further.{fault_at, others_at, others_to}
 use Rattle.nc_report.specs.Totals.{counts_to}
 use Rattle.nc_report.specs.Report.{heading, Shows, ShowsOne, Opens, ReportsEach, ReportsOthers, counts_text}
 use Rattle.nc_output.specs.Adds.{Adds}
@@ -75,10 +76,10 @@ reported_more f base limit code classes own k a b t u =
 
 -- the text about a place is that about the fault there, if it isn't the chunk's own
 pub reported_there : (f : Format) (base limit : ℕ) (code : List ℕ) (classes : List Class) (own k : ℕ) (found other : Option VetFault) (out new : List ℕ)
-    → found ≡ fault_at base limit code classes k → listed other ≡ cond (k == own) [] (listed found) → Adds out new (ReportsEach f (listed other))
+    → found ≡ fault_at base limit code classes k → option_to_list other ≡ cond (k == own) [] (option_to_list found) → Adds out new (ReportsEach f (option_to_list other))
     → Adds out new (ReportsEach f (others_at base limit code classes own k))
 reported_there f base limit code classes own k found other out new is only a =
-    subst (λ (fs : List VetFault). Adds out new (ReportsEach f fs)) (only ∙ ap (λ (x : Option VetFault). cond (k == own) [] (listed x)) is) a
+    subst (λ (fs : List VetFault). Adds out new (ReportsEach f fs)) (only ∙ ap (λ (x : Option VetFault). cond (k == own) [] (option_to_list x)) is) a
 
 -- a further fault as an object
 pub also_object : (old new : List ℕ) (fault : VetFault) → Adds old new (ReportsObject (codes ",") fault) → Adds old new (ReportsEach Json (fault ∷ []))
@@ -97,10 +98,10 @@ ReportsFirst f base limit code classes fault own text =
     (first each : List ℕ) × Opens f fault first × ReportsEach f (others_to base limit code classes own (length code)) each × (text ≡ first ++ each)
 
 -- the beginning with the text about each fault, and the numbers, are the whole text about other faults
-pub others_reported : (f : Format) (limit base : ℕ) (code : List ℕ) (classes : List Class) (fault : VetFault) (own : ℕ) → HasClasses code classes
+pub others_reported : (f : Format) (base limit : ℕ) (code : List ℕ) (classes : List Class) (fault : VetFault) (own : ℕ) → HasClasses code classes
     → (a b : List ℕ) → ReportsFirst f base limit code classes fault own a → ReportsLast f base limit code classes b
     → ReportsOthers f base limit code fault own (a ++ b)
-others_reported f limit base code classes fault own h a b (first, each, o, t, is) (last, d, e) = record {
+others_reported f base limit code classes fault own h a b (first, each, o, t, is) (last, d, e) = record {
   steps = h.steps;
   reading = h.reading;
   first = first;
@@ -120,8 +121,8 @@ none_shown Text = no_details
 none_shown Json = NoMembers
 
 -- the text about each fault can be completed to the whole text about other faults
-pub others_completed : (f : Format) (limit base : ℕ) (code : List ℕ) (classes : List Class) (fault : VetFault) (own : ℕ) → HasClasses code classes
+pub others_completed : (f : Format) (base limit : ℕ) (code : List ℕ) (classes : List Class) (fault : VetFault) (own : ℕ) → HasClasses code classes
     → (a : List ℕ) → ReportsFirst f base limit code classes fault own a → (more : List ℕ) × ReportsOthers f base limit code fault own (a ++ more)
-others_completed f limit base code classes fault own h a t =
+others_completed f base limit code classes fault own h a t =
     let last = counts_text f (counts_to base limit code classes (length code)) ++ [] in
-    (last, others_reported f limit base code classes fault own h a last t ([], none_shown f, refl))
+    (last, others_reported f base limit code classes fault own h a last t ([], none_shown f, refl))

@@ -8,7 +8,6 @@ mod SentOutside
 mod ObjectTexts
 mod JsonShown
 mod CountedRuns
-mod Appended
 mod BitCounts
 mod OneWay
 mod CountedFaults

@@ -1,27 +1,13 @@
 -- Code is read in one way only.
-use Rattle.std.proofs.Common.{◌≡◌, ◌≢◌, ℕ, ◌+◌, ◌-◌, ◌%◌, Bool, true, false, List, [], ◌∷◌, ◌++◌, take, drop, refl, sym, subst, ◌∙◌, ap, append_assoc, MatchOption, Option, Some, None}
+use Rattle.std.proofs.Common.{◌≡◌, ◌≢◌, ℕ, ◌+◌, ◌-◌, ◌%◌, Bool, true, false, List, [], ◌∷◌, take, drop, refl, sym, subst, ◌∙◌, ap, MatchOption, Option, Some, None}
 use Rattle.nc_decode.specs.declared.instruction.Instr.{Instr}
-use Rattle.nc_decode.specs.Spelling.{Spells, IsAtFront, IsProperFront}
+use Rattle.nc_decode.specs.Spelling.{IsAtFront}
 use Rattle.nc_decode.specs.Transfers.{is_indirect}
-use Rattle.nc_decode.proofs.Offered.{prefix_free}
 use Rattle.nc_reading.specs.declared.steps.Found.{Found}
 use Rattle.nc_reading.specs.declared.steps.Found.TheVariants.{Sound, Bare, Crosses, NotPermitted}
 use Rattle.nc_reading.specs.declared.steps.Step.{Step}
 use Rattle.nc_reading.specs.Reading.{Finds, IsStep, ReadsFrom, masked_by, extent, IsReadOneWay}
-use Rattle.nc_vet.proofs.Offered.{one_at_front}
-
--- the second of two lists whose parts are none is none
-last_none : (xs ys : List ℕ) → xs ++ ys ≡ [] → ys ≡ []
-last_none [] ys e = e
-last_none (x ∷ xs) ys e = absurd cc
-
--- where an instruction is at the front, the bytes aren't the beginning of a longer one
-not_both : (window : List ℕ) (i : Instr) → IsAtFront window i → IsProperFront window → ⊥
-not_both window i f p =
-    p.some (last_none f.rest p.more
-    (prefix_free f.front (f.rest ++ p.more) i p.instr f.spells
-    (subst (λ (z : List ℕ). Spells z p.instr)
-    (ap (λ (z : List ℕ). z ++ p.more) f.parts ∙ append_assoc f.front f.rest p.more) p.spells)))
+use Rattle.nc_vet.proofs.Offered.{one_at_front, none_cut}
 
 -- an instruction that may follow what is masked isn't one that may not
 not_bare : (window : List ℕ) (masked : Option ℕ) (i j : Instr) → IsAtFront window i → (is_indirect i.flow ≡ true → masked ≡ Some i.reg)
@@ -34,14 +20,14 @@ not_bare window masked i j f paired g ind none =
 same_found : (window : List ℕ) (masked : Option ℕ) (f g : Found) → Finds window masked f → Finds window masked g → f ≡ g
 same_found window masked (Sound i) (Sound j) h k = ap Sound (one_at_front window i j h.0 k.0)
 same_found window masked (Sound i) Bare h k = absurd (not_bare window masked i k.0 h.0 h.1 k.1 k.2 k.3)
-same_found window masked (Sound i) Crosses h k = absurd (not_both window i h.0 k)
+same_found window masked (Sound i) Crosses h k = absurd (none_cut window i h.0 k)
 same_found window masked (Sound i) NotPermitted h k = absurd (k.0 i h.0)
 same_found window masked Bare (Sound i) h k = absurd (not_bare window masked i h.0 k.0 k.1 h.1 h.2 h.3)
 same_found window masked Bare Bare h k = refl
-same_found window masked Bare Crosses h k = absurd (not_both window h.0 h.1 k)
+same_found window masked Bare Crosses h k = absurd (none_cut window h.0 h.1 k)
 same_found window masked Bare NotPermitted h k = absurd (k.0 h.0 h.1)
-same_found window masked Crosses (Sound i) h k = absurd (not_both window i k.0 h)
-same_found window masked Crosses Bare h k = absurd (not_both window k.0 k.1 h)
+same_found window masked Crosses (Sound i) h k = absurd (none_cut window i k.0 h)
+same_found window masked Crosses Bare h k = absurd (none_cut window k.0 k.1 h)
 same_found window masked Crosses Crosses h k = refl
 same_found window masked Crosses NotPermitted h k = absurd (k.1 h)
 same_found window masked NotPermitted (Sound i) h k = absurd (h.0 i k.0)

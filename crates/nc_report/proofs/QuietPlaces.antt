@@ -1,5 +1,6 @@
 -- Places that have no fault, by their class and their byte alone.
 use Rattle.std.proofs.Common.{◌≡◌, ℕ, zero, suc, ◌+◌, ◌-◌, ◌<◌, ◌≤◌, Bool, true, false, List, [], ◌∷◌, ◌++◌, length, drop, get_or, cond, refl, sym, subst, ◌∙◌, ap, slice_index, not, ◌==◌, get_or-drop, append-nil, Option, Some, None, arith, inl, inr}
+use Rattle.std.specs.Prelude.{option_to_list}
 use Rattle.std.proofs.lemmas.Bool.{not-true, cond_both, and_left}
 use Rattle.nc_decode.specs.declared.instruction.Instr.{Instr}
 use Rattle.nc_decode.specs.Spelling.{Spells, IsAtFront}
@@ -11,7 +12,7 @@ use Rattle.nc_vet.specs.declared.fault.VetFault.TheVariants as vet
 use Rattle.nc_reading.specs.declared.class.Class.{Class}
 use Rattle.nc_reading.specs.declared.class.Class.TheVariants.{Inside, Skipped, Entry, Second, NotPermitted, Crosses, Bare}
 use Rattle.nc_reading.specs.Quiet.{is_quiet}
-use Rattle.nc_report.specs.Further.{may_go, has_bad_target, fault_by, fault_at, listed, others_at, others_to}
+use Rattle.nc_report.specs.Further.{may_go, has_bad_target, fault_by, fault_at, others_at, others_to}
 use Rattle.nc_report.specs.Totals.{counts_to}
 use Rattle.nc_report.specs.machinery.CountedFault.{counted}
 use Rattle.nc_report.proofs.CountedFaults.{counts_more}
@@ -64,7 +65,7 @@ AreFaultless base limit code classes k next = (j : ℕ) → k ≤ j → j < next
 -- a place without a fault has no further fault
 none_at : (base limit : ℕ) (code : List ℕ) (classes : List Class) (own k : ℕ) → fault_at base limit code classes k ≡ None
     → others_at base limit code classes own k ≡ []
-none_at base limit code classes own k e = cond_both (k == own) _ _ (λ (z : List VetFault). z ≡ []) (λ _. refl) (λ _. ap listed e)
+none_at base limit code classes own k e = cond_both (k == own) _ _ (λ (z : List VetFault). z ≡ []) (λ _. refl) (λ _. ap option_to_list e)
 
 -- what each of some places keeps, all of them keep
 kept_on : {X : Type 0} (f : ℕ → X) (k n : ℕ) → ((j : ℕ) → k ≤ j → j < k + n → f (j + 1) ≡ f j) → f (k + n) ≡ f k

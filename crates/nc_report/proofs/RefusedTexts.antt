@@ -38,9 +38,9 @@ brief old new s base name fault is e = record {
 }
 
 -- nothing more is reported unless it is asked for
-pub none_asked : (s : Style) (limit base : ℕ) (code : List ℕ) (fault : VetFault) → s.detail ≢ detail.All
+pub none_asked : (s : Style) (base limit : ℕ) (code : List ℕ) (fault : VetFault) → s.detail ≢ detail.All
     → ReportsMore s.detail s.format base limit code fault []
-none_asked s limit base code fault other = none s.detail other
+none_asked s base limit code fault other = none s.detail other
   where
     none : (d : Detail) → d ≢ detail.All → ReportsMore d s.format base limit code fault []
     none Brief n = refl
@@ -53,10 +53,10 @@ abbrev pub ReportsOpen : ℕ → ℕ → Style → List ℕ → List ℕ → Lis
 ReportsOpen base limit s name code text = ReportsRefused base limit s name code (text ++ end_of s.format)
 
 -- the text on a fault, and what is reported further about it, are such a text
-pub open_text : (limit base : ℕ) (s : Style) (name code : List ℕ) (fault : VetFault) → HasFault base limit code fault → fault ≢ OutOfMemory
+pub open_text : (base limit : ℕ) (s : Style) (name code : List ℕ) (fault : VetFault) → HasFault base limit code fault → fault ≢ OutOfMemory
     → (a b : List ℕ) → ReportsFault s.detail s.format base name fault a → ReportsMore s.detail s.format base limit code fault b
     → ReportsOpen base limit s name code (a ++ b)
-open_text limit base s name code fault h real a b f m = record {
+open_text base limit s name code fault h real a b f m = record {
   fault = fault;
   has = h;
   real = real;
@@ -68,18 +68,18 @@ open_text limit base s name code fault h real a b f m = record {
 }
 
 -- the text on a fault was added, and then what is reported further about it
-pub reported_open : (limit base : ℕ) (s : Style) (name code old out kept : List ℕ) (fault : VetFault) (before after : Option (List ℕ))
+pub reported_open : (base limit : ℕ) (s : Style) (name code old out kept : List ℕ) (fault : VetFault) (before after : Option (List ℕ))
     → HasFault base limit code fault → (fault ≢ OutOfMemory) × Adds old out (ReportsFault s.detail s.format base name fault)
     → WritesOn before after out kept (ReportsMore s.detail s.format base limit code fault)
     → WritesOn before after old kept (ReportsOpen base limit s name code)
-reported_open limit base s name code old out kept fault before after h f w =
-    writes_after before after old out kept _ _ _ (open_text limit base s name code fault h f.0) f.1 w
+reported_open base limit s name code old out kept fault before after h f w =
+    writes_after before after old out kept _ _ _ (open_text base limit s name code fault h f.0) f.1 w
 
--- the end was added
+-- the end of a report was added
 pub end_added : (s : Style) (kept all : List ℕ) → all ≡ kept ++ end_of s.format → Adds kept all (λ text. text ≡ end_of s.format)
 end_added s kept all e = record { text = end_of s.format; says = refl; added = e }
 
--- with its end the text is whole
-pub whole : (limit base : ℕ) (s : Style) (name code a b : List ℕ) → ReportsOpen base limit s name code a → b ≡ end_of s.format
+-- a report that lacks only its end is whole with it
+pub whole : (base limit : ℕ) (s : Style) (name code a b : List ℕ) → ReportsOpen base limit s name code a → b ≡ end_of s.format
     → ReportsRefused base limit s name code (a ++ b)
-whole limit base s name code a b t e = subst (λ (z : List ℕ). ReportsRefused base limit s name code (a ++ z)) (sym e) t
+whole base limit s name code a b t e = subst (λ (z : List ℕ). ReportsRefused base limit s name code (a ++ z)) (sym e) t

@@ -1,6 +1,6 @@
 -- The faults that the reading of a refused chunk finds.
-use Rattle.std.specs.Prelude.{ℕ, ◌+◌, ◌-◌, ◌%◌, Bool, true, false, not, ◌==◌, ◌&&◌, nat_le, nat_lt, List, [], ◌∷◌, length, drop}
-use Rattle.std.specs.Prelude.{get_or, Option, Some, None, if◌then◌else◌}
+use Rattle.std.specs.Prelude.{ℕ, ◌+◌, ◌-◌, ◌%◌, Bool, true, false, not, ◌==◌, ◌&&◌, nat_le, nat_lt, List, [], length, drop}
+use Rattle.std.specs.Prelude.{get_or, Option, Some, None, option_to_list, if◌then◌else◌}
 use Rattle.std.specs.List.{flat_map, range_with_len}
 use Rattle.nc_decode.specs.declared.instruction.Instr.{Instr}
 use Rattle.nc_decode.specs.Front.{first_instruction}
@@ -50,14 +50,9 @@ is_begun Inside = false
 is_begun Skipped = false
 is_begun _ = true
 
--- a list of the fault, if there is one
-abbrev pub listed : Option VetFault → List VetFault
-listed None = []
-listed (Some fault) = fault ∷ []
-
 -- the faults at a place of the code, at most one; none at `own`, the place of the chunk's own fault
 abbrev pub others_at : ℕ → ℕ → List ℕ → List Class → ℕ → ℕ → List VetFault
-others_at base limit code classes own k = if k == own then [] else listed (fault_at base limit code classes k)
+others_at base limit code classes own k = if k == own then [] else option_to_list (fault_at base limit code classes k)
 
 -- the faults at the first `count` places, except that at `own`
 abbrev pub others_to : ℕ → ℕ → List ℕ → List Class → ℕ → ℕ → List VetFault

@@ -1,9 +1,10 @@
 //! The faults that the reading of a refused chunk finds.
 
-ghost use Rattle.std.specs.Prelude.{◌≡◌, ◌<◌, ◌+◌, ◌^◌, length, get_or};
+ghost use Rattle.std.specs.Prelude.{◌≡◌, ◌<◌, ◌+◌, ◌^◌, drop, length, get_or};
 ghost use Rattle.nc_decode.specs.Front.{first_instruction};
 ghost use Rattle.nc_report.specs.Further.{is_open, is_begun, may_go, has_bad_target, fault_by, fault_at};
 
+use crate::judged::Judged;
 use nc_decode::{decode, is_bundle_start};
 use nc_reading::Class;
 use nc_vet::VetFault;
@@ -34,28 +35,30 @@ pub(crate) fn is_begun(class: Class) -> bool
 }
 
 /// A direct transfer may target this address.
-fn may_go(base: u32, limit: u32, classes: &[Class], to: u32) -> bool
-    requires { base + length classes.now < 2 ^ 32 }
-    ensures { result ≡ may_go base limit classes.now to }
+fn may_go(judged: &Judged<'_>, classes: &[Class], to: u32) -> bool
+    requires { judged.now.base + length classes.now < 2 ^ 32 }
+    ensures { result ≡ may_go judged.now.base judged.now.limit classes.now to }
 {
+    let base = judged.base;
     if base <= to && to < base + classes.len() as u32 {
         is_open(class_at(classes, (to - base) as usize))
     } else {
-        is_bundle_start(to) && to < limit
+        is_bundle_start(to) && to < judged.limit
     }
 }
 
-/// The instruction at the front of these bytes, which begin at this address, is a direct transfer to an address that it may
-/// not target.
-fn has_bad_target(base: u32, limit: u32, classes: &[Class], rest: &[u8], at: u32) -> bool
-    requires span { base + length classes.now < 2 ^ 32 }
-    requires fits { at + length rest.now < 2 ^ 32 }
-    ensures { result ≡ has_bad_target base limit classes.now at (first_instruction rest.now) }
+/// The instruction at a place of the code is a direct transfer to an address that it may not target.
+fn has_bad_target(judged: &Judged<'_>, classes: &[Class], k: usize) -> bool
+    requires span { judged.now.base + length judged.now.code.now < 2 ^ 32 }
+    requires each { length classes.now ≡ length judged.now.code.now }
+    requires within { k < length judged.now.code.now }
+    ensures { result ≡ has_bad_target judged.now.base judged.now.limit classes.now (judged.now.base + k)
+        (first_instruction (drop k judged.now.code.now)) }
 {
-    let Ok(instr) = decode(rest) else {
+    let Ok(instr) = decode(&judged.code[k..]) else {
         return false;
     };
-    instr.flow.is_direct() && !may_go(base, limit, classes, instr.target(at))
+    instr.flow.is_direct() && !may_go(judged, classes, instr.target(judged.base + k as u32))
 }
 
 /// The fault at an address, by the class of its byte.
@@ -73,20 +76,13 @@ fn fault_by(class: Class, bad_target: bool, at: u32) -> Option<VetFault>
 }
 
 /// The fault at a place of the code, if there is one.
-pub(crate) fn fault_at(
-    base: u32,
-    limit: u32,
-    code: &[u8],
-    classes: &[Class],
-    k: usize,
-) -> Option<VetFault>
-    requires span { base + length code.now < 2 ^ 32 }
-    requires each { length classes.now ≡ length code.now }
-    requires within { k < length code.now }
-    ensures { result ≡ fault_at base limit code.now classes.now k }
+pub(crate) fn fault_at(judged: &Judged<'_>, classes: &[Class], k: usize) -> Option<VetFault>
+    requires span { judged.now.base + length judged.now.code.now < 2 ^ 32 }
+    requires each { length classes.now ≡ length judged.now.code.now }
+    requires within { k < length judged.now.code.now }
+    ensures { result ≡ fault_at judged.now.base judged.now.limit judged.now.code.now classes.now k }
 {
-    let at = base + k as u32;
     let class = class_at(classes, k);
-    let bad_target = class == Class::Entry && has_bad_target(base, limit, classes, &code[k..], at);
-    fault_by(class, bad_target, at)
+    let bad_target = class == Class::Entry && has_bad_target(judged, classes, k);
+    fault_by(class, bad_target, judged.base + k as u32)
 }

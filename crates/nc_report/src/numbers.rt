@@ -2,7 +2,7 @@
 
 ghost use Rattle.std.specs.Prelude.{◌≡◌, ◌≤◌, ◌+◌, ◌++◌, if◌then◌else◌, OnOk, length};
 ghost use Rattle.nc_output.specs.Verdicts.{address_digits};
-ghost use Rattle.nc_report.specs.machinery.Texts.{all_of};
+ghost use Rattle.nc_report.specs.machinery.Texts.{texts_joined};
 
 use std::alloc::AllocError;
 
@@ -15,7 +15,7 @@ pub(crate) fn push_text(out: &mut Vec<u8>, text: &[u8]) -> Result<(), AllocError
 
 /// Adds texts, one after the other.
 pub(crate) fn push_all(out: &mut Vec<u8>, texts: &[&[u8]]) -> Result<(), AllocError>
-    ensures { OnOk result (out.new.items ≡ out.old.items ++ all_of texts.now) }
+    ensures { OnOk result (out.new.items ≡ out.old.items ++ texts_joined texts.now) }
 {
     for text in texts {
         out.extend_from_slice(text)?;

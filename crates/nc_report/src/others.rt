@@ -1,9 +1,9 @@
 //! The other faults of a refused chunk, found by one reading of all of it.
 
-ghost use Rattle.std.specs.Prelude.{◌≡◌, ◌++◌, ◌∷◌, [], ◌+◌, ◌%◌, ◌<◌, ◌^◌, ℕ, List, length, take, ◌==◌, if◌then◌else◌, IfOk, IfErr, OnOk, OnErr};
+ghost use Rattle.std.specs.Prelude.{◌≡◌, ◌++◌, ◌∷◌, [], ◌+◌, ◌%◌, ◌<◌, ◌^◌, ℕ, List, length, take, ◌==◌, if◌then◌else◌, IfOk, IfErr, OnOk, OnErr, option_to_list};
 ghost use Rattle.std.specs.Io.KnownBytes.{Appends};
 ghost use Rattle.nc_vet.specs.Faults.{HasGoodSpan};
-ghost use Rattle.nc_report.specs.Further.{listed, others_to};
+ghost use Rattle.nc_report.specs.Further.{others_to};
 ghost use Rattle.nc_report.specs.Totals.{counts_to};
 ghost use Rattle.nc_report.specs.Report.{heading, Opens, ReportsEach, ReportsOthers, HasBegun};
 ghost use Rattle.nc_output.specs.Adds.{Adds};
@@ -67,7 +67,7 @@ fn push_also(
 
 /// The fault at a place, if it isn't the chunk's own.
 fn other_than(own: usize, k: usize, found: Option<VetFault>) -> Option<VetFault>
-    ensures { listed result ≡ (if k == own then [] else listed found) }
+    ensures { option_to_list result ≡ (if k == own then [] else option_to_list found) }
 {
     if k == own { None } else { found }
 }
@@ -86,7 +86,7 @@ fn push_place(
     requires whole { length judged.now.code.now % 32 ≡ 0 }
     requires each { length classes.now ≡ length judged.now.code.now }
     requires within { k < length judged.now.code.now }
-    ensures { OnOk result (Adds out.old.items out.new.items (ReportsEach format (listed other))) }
+    ensures { OnOk result (Adds out.old.items out.new.items (ReportsEach format (option_to_list other))) }
 {
     match other {
         Some(fault) => {
@@ -140,7 +140,7 @@ fn write_places<W: Write>(
     let mut counts = NO_FAULTS;
     let mut k = 0;
     while k < judged.code.len() {
-        let found = fault_at(judged.base, judged.limit, judged.code, classes, k);
+        let found = fault_at(judged, classes, k);
         match push_place(out, judged, classes, k, other_than(own, k, found), format) {
             Ok(()) => {}
             Err(_) => return Err(ReportFault::OutOfMemory),

@@ -11,7 +11,7 @@ ghost use Rattle.nc_report.specs.Report.{ReportsAccepted, ReportsFault, ReportsM
 ghost use Rattle.nc_report.specs.Report.{HasWritten, HasBegun};
 ghost use Rattle.nc_output.specs.Adds.{Adds};
 ghost use Rattle.nc_report.specs.machinery.Added.{After, WritesOn, IsOfWriting};
-ghost use Rattle.nc_report.specs.machinery.Found.{IsPlaced, AddsCalls, AddsAccepted};
+ghost use Rattle.nc_report.specs.machinery.Found.{IsPlaceIfAny, AddsCalls, AddsAccepted};
 
 use crate::advice::words_without_place;
 use crate::counting::count_instructions;
@@ -196,7 +196,7 @@ fn push_explained(
     fault: VetFault,
     format: Format,
 ) -> Result<(), AllocError>
-    requires { IsPlaced judged.now.base judged.now.code.now (place_of fault) }
+    requires { IsPlaceIfAny judged.now.base judged.now.code.now (place_of fault) }
     ensures { OnOk result (Adds out.old.items out.new.items (Shows format)) }
 {
     let Some(at) = place_of(fault) else {
@@ -217,7 +217,7 @@ fn push_refused(
     fault: VetFault,
     style: Style,
 ) -> Result<(), AllocError>
-    requires { IsPlaced judged.now.base judged.now.code.now (place_of fault) }
+    requires { IsPlaceIfAny judged.now.base judged.now.code.now (place_of fault) }
     ensures { OnOk result ((fault ≢ OutOfMemory)
         × Adds out.old.items out.new.items (ReportsFault style.detail style.format judged.now.base name.now fault)) }
 {

@@ -71,7 +71,7 @@ pub record IsNotPatched (at : ℕ) (bytes : List ℕ) (old : Script) (reply : Li
   pub same : new ≡ old
 
 -- a live chunk is deleted: it is retired, and its stamp is the next generation
-pub record IsRetired (base : ℕ) (old : Script) (reply : List ℕ) (new : Script) : Type 0 where
+pub record RetiresLive (base : ℕ) (old : Script) (reply : List ℕ) (new : Script) : Type 0 where
   pub live : ListsLive old.chunks base
   pub room : old.generation < 2 ^ 62
   pub reply_is : reply ≡ with_line_end (stamp_reply (old.generation + 1))
@@ -115,7 +115,7 @@ abbrev pub Serves : Request → Script → List ℕ → Script → Type 0
 Serves (Create base bytes) old reply new =
     IsAdded base bytes old reply new ⊎ (IsFaulted base bytes old reply new ⊎ IsCrowdedOut base bytes old reply new)
 Serves (Modify at bytes) old reply new = IsPatched at bytes old reply new ⊎ IsNotPatched at bytes old reply new
-Serves (Delete base) old reply new = IsRetired base old reply new ⊎ IsNotDeleted base old reply new
+Serves (Delete base) old reply new = RetiresLive base old reply new ⊎ IsNotDeleted base old reply new
 Serves (CheckIn seat) old reply new = IsCheckedIn seat old reply new ⊎ IsNoSeat seat old reply new
 Serves (Leave seat) old reply new = HasLeft seat old reply new ⊎ IsNoSeat seat old reply new
 Serves Reclaim old reply new = IsFreed old reply new

@@ -62,9 +62,9 @@ walk_in (start ∷ choices) = option_and_then (λ a. option_map (Walk a) (addres
 walk_in [] = None
 
 -- the request made by the words after `chunk`: an address
-abbrev pub chunk_in : List (List ℕ) → Option Request
-chunk_in (at ∷ []) = option_map (λ a. Ask (ChunkAt a)) (address_in at)
-chunk_in _ = None
+abbrev pub chunk_at_in : List (List ℕ) → Option Request
+chunk_at_in (at ∷ []) = option_map (λ a. Ask (ChunkAt a)) (address_in at)
+chunk_at_in _ = None
 
 -- this request, if no words follow its own
 abbrev pub single_in : Request → List (List ℕ) → Option Request
@@ -86,7 +86,7 @@ request_of (word ∷ words) =
     else if is_word word (codes "leave") then of_seat_in Leave words
     else if is_word word (codes "reclaim") then single_in Reclaim words
     else if is_word word (codes "walk") then walk_in words
-    else if is_word word (codes "chunk") then chunk_in words
+    else if is_word word (codes "chunk") then chunk_at_in words
     else ask_in word words
 
 -- the request made by a line; a line that is too long or has no such form makes none, and is a bad line

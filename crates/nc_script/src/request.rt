@@ -5,7 +5,7 @@ ghost use Rattle.std.specs.Option.{option_copied, option_map};
 ghost use Rattle.nc_lines.specs.Lines.{words_in};
 ghost use Rattle.nc_lines.specs.Words.{words_after};
 ghost use Rattle.nc_script.specs.Requests.{request_in, create_in, modify_in, delete_in, of_seat_in, walk_in};
-ghost use Rattle.nc_script.specs.Requests.{addresses_in, chunk_in};
+ghost use Rattle.nc_script.specs.Requests.{addresses_in, chunk_at_in};
 ghost use Rattle.nc_script.specs.Requests as spec;
 ghost use Rattle.nc_script.specs.machinery.Shown.{shown};
 
@@ -88,7 +88,7 @@ fn leave_of(text: &[u8]) -> Option<Request>
 
 /// The request made by the text after `chunk`.
 fn chunk_of(text: &[u8]) -> Option<Request>
-    ensures { option_map shown result ≡ chunk_in (words_in text.now) }
+    ensures { option_map shown result ≡ chunk_at_in (words_in text.now) }
 {
     match address_of(text) {
         Some(at) => Some(Request::Ask {

@@ -1,11 +1,11 @@
 -- What a text is seen as, after a change of its table.
 use Rattle.std.proofs.Common.{◌≡◌, ℕ, ◌+◌, ◌-◌, ◌*◌, ◌/◌, ◌%◌, ◌<◌, ◌≤◌, Bool, true, false, suc, zero, List, ◌∷◌, ◌++◌}
 use Rattle.std.proofs.Common.{map, length, get_or, take, drop, replicate, None, arith, ◌⊎◌, refl, sym, ap, subst, ◌∙◌, inl}
-use Rattle.std.proofs.Common.{inr, append-nil, min}
+use Rattle.std.proofs.Common.{inr, min}
 use Rattle.std.specs.Option.{is_some}
 use Rattle.std.proofs.lemmas.Bool.{cases_lt}
 use Rattle.std.proofs.lemmas.Bool.Decides.{nat_tests}
-use Rattle.std.proofs.lemmas.List.{drop_all, take_all, ext_get_or, get_or-replicate, get_or_past, length-replicate}
+use Rattle.std.proofs.lemmas.List.{take_at, ext_get_or, get_or-replicate, get_or_past, length-replicate}
 use Rattle.std.proofs.lemmas.List.FromFn.{length-map-range_with_len, get_or-map-range_with_len}
 use Rattle.nc_decode.specs.Bundles.{IsLawfulLimit}
 use Rattle.nc_decode.specs.declared.instruction.Mark.{Mark}
@@ -16,12 +16,6 @@ use Rattle.nc_text.specs.Marks.{IsClosed, mark_at}
 use Rattle.nc_text.specs.MarkedText.{MarkedText, IsText, unused_mark, unused_text}
 use Rattle.nc_text.specs.Ready.{TextState, IsReady, AreReady, GetsReady, SharesPage, unmade_pages}
 use Rattle.nc_text.proofs.Tables.{same_all, made_at, unused_mark_on}
-
--- a list that was lent whole and came back as long
-pub whole_slice : {X : Type 0} → (new old : List X) (n : ℕ) → n ≡ length old → length new ≡ length old
-    → take n (new ++ drop (length new) old) ≡ new
-whole_slice new old n e long =
-    ap (λ xs. take n (new ++ xs)) (drop_all (length new) old (omega arith)) ∙ (ap (take n) (append-nil new) ∙ take_all n new (omega arith))
 
 -- a text has as many bytes as places
 pub bytes_long : (pages : List Slot) (size : ℕ) → length (text_of pages size).marked.bytes ≡ size
@@ -141,7 +135,7 @@ pub changed : {old lent : List Slot} {size : ℕ} {now : TextState} → IsLent o
 changed {old = old} {size = size} is new n bytes marks made many as_many bytes_are marks_are made_is closed =
     let long : length new ≡ length old = as_many ∙ ap (λ (ps : List Slot). length ps) is.loan in
     let marked = ap (λ (t : TextState). t.marked) (state_is _ _ _ _ made made bytes_are marks_are refl) in
-    subst (λ (ps : List Slot). IsSeenAs ps size (state (both bytes marks) made)) (sym (whole_slice new old n many long)) record {
+    subst (λ (ps : List Slot). IsSeenAs ps size (state (both bytes marks) made)) (sym (take_at new (drop (length new) old) n (long ∙ sym many))) record {
       marked = marked;
       made = made_is;
       whole = record {

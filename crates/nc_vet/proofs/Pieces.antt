@@ -3,6 +3,7 @@ use Rattle.std.proofs.Common.{◌≡◌, ℕ, ◌+◌, ◌-◌, ◌%◌, ◌<◌
 use Rattle.std.proofs.Common.{inl, inr, append_assoc, append-nil}
 use Rattle.std.specs.Prelude.{IsTrue}
 use Rattle.std.proofs.lemmas.List.{length-append, length-replicate}
+use Rattle.std.proofs.lemmas.List.Concat.{flat_map-append}
 use Rattle.std.proofs.Math.Seq.{drop-append_seam, take-append-add}
 use Rattle.nc_decode.specs.declared.instruction.Instr.{Instr}
 use Rattle.nc_decode.specs.declared.instruction.Mark.{Mark}
@@ -12,7 +13,7 @@ use Rattle.nc_decode.specs.Transfers.{is_indirect}
 use Rattle.nc_decode.proofs.Offered.{spells_some}
 use Rattle.nc_vet.specs.Chunk.{Piece, code_of, place, AreSpelled, AreSound, FollowsMask, instr_marks, marks_of, MarkedChunk, IsValid}
 use Rattle.nc_vet.specs.machinery.Steps.{HasReadAll}
-use Rattle.nc_vet.proofs.Splits.{split_none, split_push, flat_map-append}
+use Rattle.nc_vet.proofs.Splits.{split_none, split_push}
 
 -- the bytes of instructions and of more after them
 pub code_of-append : (xs ys : List Piece) → code_of (xs ++ ys) ≡ code_of xs ++ code_of ys

@@ -9,7 +9,7 @@ use Rattle.std.proofs.lemmas.Nat.Bits.{bit_at-zero, bit_at-lt, bit_at_or}
 use Rattle.nc_decode.specs.declared.bundle.Bundle.{Bundle}
 use Rattle.nc_decode.specs.Bits.{no_bits}
 use Rattle.nc_vet.specs.machinery.Judged.{IsGoodEnd, AreJudged}
-use Rattle.nc_vet.specs.machinery.Lists.{IsListed, AreBelow, HasAdded, AreListed, AreApart}
+use Rattle.nc_vet.specs.machinery.Lists.{IsListed, AreBelow, HasAdded, AreListed, AreEndsApart}
 
 -- zeros are below a bound
 pub zeros_below : (n bound : ℕ) → 0 < bound → AreBelow bound (replicate n 0)
@@ -126,7 +126,7 @@ listed_two bundles old new count start n bits first second h all m k ge lt k-lt 
 
 -- bundles whose transfers are listed are judged by the entries
 pub judged_by : (base limit : ℕ) (code : List ℕ) (bundles : List Bundle) (list : List ℕ) (count start end : ℕ) → end ≤ length bundles
-    → AreApart bundles → AreListed bundles list count start end
+    → AreEndsApart bundles → AreListed bundles list count start end
     → ((i : ℕ) → i < count → IsGoodEnd base limit code bundles (get_or list i 0)) → AreJudged base limit code bundles start
     → AreJudged base limit code bundles end
 judged_by base limit code bundles list count start end within apart listed good judged n lt = elim (cases_lt n start) [

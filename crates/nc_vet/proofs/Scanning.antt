@@ -4,7 +4,7 @@ use Rattle.std.proofs.Common.{drop, get_or, Option, Some, None, refl, sym, subst
 use Rattle.std.proofs.Common.{nat_lt, nat_le, All, le-leb, ltb-true, lt-ltb, leb-true, eq-eqb}
 use Rattle.std.specs.Prelude.{IsTrue}
 use Rattle.std.specs.Int.{w8, w32, cast_signed, from_le_bytes}
-use Rattle.std.proofs.lemmas.Bool.{cases_lt, eqb-false}
+use Rattle.std.proofs.lemmas.Bool.{cases_lt, eqb-false, false_from_ne_true}
 use Rattle.std.proofs.lemmas.List.{length-drop, length-take-le, take-append-drop, drop_more, get_or-take, get_or-drop}
 use Rattle.std.proofs.lemmas.List.{get_or_append_left, get_or-append_right, get_or-replicate}
 use Rattle.nc_decode.specs.declared.automaton.TheConstants.{STATES, END, AFTER_PAIR}
@@ -222,18 +222,13 @@ displaced code S b at le r d =
 
 -- ---- its marks
 
--- a test that can't hold
-not_true : (b : Bool) → (b ≡ true → ⊥) → b ≡ false
-not_true true h = absurd (h refl)
-not_true false h = refl
-
 -- a mark by the states is plain where an instruction begins that is no second half
 plain_by : (S : ℕ → ℕ) (code : List ℕ) (k : ℕ) → second S k ≡ false → END ≤ state_before S k → mark_by S code k ≡ Plain
 plain_by S code k e low = rw (e, le-leb END (state_before S k) low) refl
 
 -- a mark by the states is none where no instruction begins
 unmarked_by : (S : ℕ → ℕ) (code : List ℕ) (k : ℕ) → second S k ≡ false → state_before S k < END → mark_by S code k ≡ Unmarked
-unmarked_by S code k e low = rw (e, not_true (nat_le END (state_before S k)) (λ h. omega (arith, leb-true END (state_before S k) h, low))) refl
+unmarked_by S code k e low = rw (e, false_from_ne_true (nat_le END (state_before S k)) (λ h. omega (arith, leb-true END (state_before S k) h, low))) refl
 
 -- a mark by the states is that of a second half where one begins
 after_by : (S : ℕ → ℕ) (code : List ℕ) (k : ℕ) → second S k ≡ true → mark_by S code k ≡ After (get_or code (k + 1) 0 % 8)
@@ -277,7 +272,7 @@ first_mark code to S b at a le lt inner begins ended r =
           cond_is_true (is_indirect r.instr.flow) (After r.instr.reg) Plain (r.ends.indirect ∙ is) ∙ ap (λ (x : ℕ). After x) reg
           ∙ sym (after_by S code b sec))
       | inr other ↦
-          (let none : second S b ≡ false = not_true (second S b)
+          (let none : second S b ≡ false = false_from_ne_true (second S b)
           (λ e. (let w = second_only code to S b at b a le lt inner ended r (omega arith) le e in
           absurd (let f : true ≡ false = sym (eq-eqb (S at) AFTER_PAIR w.2) ∙ other in cc))) in
           cond_is_false (is_indirect r.instr.flow) (After r.instr.reg) Plain (r.ends.indirect ∙ other)
@@ -288,7 +283,7 @@ first_mark code to S b at a le lt inner begins ended r =
 later_mark : (code : List ℕ) (to : ℕ) (S : ℕ → ℕ) (b at k : ℕ) → AreStates code to S → b ≤ at → at < to → AllInside S b at → END ≤ S at
     → (r : Read code S b at) → b < k → k ≤ at → Unmarked ≡ mark_by S code k
 later_mark code to S b at k a le lt inner ended r lo hi =
-    let none : second S k ≡ false = not_true (second S k) (λ e. absurd
+    let none : second S k ≡ false = false_from_ne_true (second S k) (λ e. absurd
     (omega (arith, (second_only code to S b at k a le lt inner ended r (omega (arith, lo)) hi e).0, lo))) in
     let not_first : k % 32 ≢ 0 = λ z. omega (arith, z, r.inside, lo, hi) in
     let low : state_before S k < END = omega (arith, before_inner S k not_first, inner (k - 1) (omega (arith, lo)) (omega (arith, lo, hi))) in

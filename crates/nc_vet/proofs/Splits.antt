@@ -1,6 +1,5 @@
 -- Lists that are parted at an element.
-use Rattle.std.proofs.Common.{◌≡◌, List, [], ◌∷◌, ◌++◌, refl, ap, ◌∙◌, sym, inl, inr, ◌⊎◌, append_assoc}
-use Rattle.std.specs.List.{flat_map}
+use Rattle.std.proofs.Common.{◌≡◌, List, [], ◌∷◌, ◌++◌, refl, inl, inr, ◌⊎◌}
 
 -- an empty list has no element
 pub split_none : {A : Type 0} (before after : List A) (q : A) → [] ≡ before ++ q ∷ after → ⊥
@@ -34,11 +33,6 @@ split_last {A} (x ∷ xs) (b ∷ before) y q e =
     let t : xs ++ y ∷ [] ≡ before ++ q ∷ [] = cc in
     let w = split_last xs before y q t in
     (rw (h, w.0) refl, w.1)
-
--- what is made of each element, one after the other, parts with the list
-pub flat_map-append : {A B : Type 0} (f : A → List B) (xs ys : List A) → flat_map f (xs ++ ys) ≡ flat_map f xs ++ flat_map f ys
-flat_map-append f [] ys = refl
-flat_map-append f (x ∷ xs) ys = ap (λ zs. f x ++ zs) (flat_map-append f xs ys) ∙ sym (append_assoc (f x) (flat_map f xs) (flat_map f ys))
 
 -- of two elements of a list, one is before the other, or they stand at one place
 pub split_two : {A : Type 0} (before after others rest : List A) (p q : A) → before ++ p ∷ after ≡ others ++ q ∷ rest

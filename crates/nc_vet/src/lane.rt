@@ -61,7 +61,7 @@ impl Lane {
     }
 }
 
-/// The states of the bundle at place `at`.
+/// The states of the bundle at place `at`, the offset of its first byte in the code. All of the bundle is in the code.
 #[inline(always)]
 pub fn run_one(code: &[u8], at: usize) -> States
     requires room { at + 32 ≤ length code.now }
@@ -90,7 +90,7 @@ pub(crate) fn run_two(code: &[u8], at: usize) -> (States, States)
     (a.states, b.states)
 }
 
-/// The states of the four bundles at these places.
+/// The states of the four bundles at these places, the offsets of their first bytes in the code. All of each bundle is in the code.
 ///
 /// The bundles are read in lock step. Each state depends on the one before, so a lane mostly waits, and four of them take little
 /// longer than one.

@@ -6,7 +6,7 @@ ghost use Rattle.byteorder.specs.Endian.{little_number};
 ghost use Rattle.nc_decode.specs.declared.bundle.Bundle.{Bundle};
 ghost use Rattle.nc_decode.specs.Bits.{starts_instruction, is_second, no_bits};
 ghost use Rattle.nc_vet.specs.machinery.Judged.{short_to, near_to, IsGood, IsGoodEnd, AreJudged, AreStarts};
-ghost use Rattle.nc_vet.specs.machinery.Lists.{HasAdded, AreBelow, AreListed, AreApart};
+ghost use Rattle.nc_vet.specs.machinery.Lists.{HasAdded, AreBelow, AreListed, AreEndsApart};
 
 use crate::transfers::{both, judged_from, short_target};
 use byteorder::{ByteOrder, LittleEndian};
@@ -248,7 +248,7 @@ fn judged_by_lists(alloc: Global, base: u32, limit: u32, code: &[u8], bundles: &
     requires each { length code.now ≡ 32 * length bundles.now }
     requires fits { base + length code.now < 2 ^ 32 }
     requires some { 0 < length bundles.now }
-    requires apart { AreApart bundles.now }
+    requires apart { AreEndsApart bundles.now }
     ensures judged { AreJudged base limit code.now bundles.now result }
     ensures within { result ≤ length bundles.now }
 {
@@ -279,7 +279,7 @@ pub(crate) fn judged_bundles(
 ) -> usize
     requires each { length code.now ≡ 32 * length bundles.now }
     requires fits { base + length code.now < 2 ^ 32 }
-    requires apart { AreApart bundles.now }
+    requires apart { AreEndsApart bundles.now }
     ensures judged { AreJudged base limit code.now bundles.now result }
     ensures within { result ≤ length bundles.now + 1 }
 {

@@ -13,7 +13,7 @@ use Rattle.nc_work.specs.declared.work.Done.{Done}
 use Rattle.nc_work.specs.Answers.{AnswersJob, FitsPlace, AreDone, AreAnswers}
 
 -- what holds of each place holds after one of them has changed
-set_each : {X : Type 0} (P : ℕ → X → Type 0) (xs : List X) (i : ℕ) (y d : X) → ((k : ℕ) → P k (get_or xs k d)) → P i y → (k : ℕ)
+pub set_each : {X : Type 0} (P : ℕ → X → Type 0) (xs : List X) (i : ℕ) (y d : X) → ((k : ℕ) → P k (get_or xs k d)) → P i y → (k : ℕ)
     → P k (get_or (set xs i y) k d)
 set_each P [] i y d h p k = h k
 set_each P (x ∷ xs) zero y d h p zero = p
@@ -26,8 +26,8 @@ pub answers_set : (jobs : List Job) (answers : List (Option (Result Marks VetFau
     → AreAnswers jobs answers → FitsPlace jobs at answer → AreAnswers jobs (set answers at answer)
 answers_set jobs answers at answer h p = record { each = set_each (FitsPlace jobs) answers at answer None h.each p }
 
--- where no place has an answer, none has a wrong one
-none_at : (answers : List (Option (Result Marks VetFault))) → All (λ a. a ≡ None) answers → (k : ℕ) → get_or answers k None ≡ None
+-- where each place is empty, so is the one at any number
+pub none_at : {X : Type 0} (places : List (Option X)) → All (λ a. a ≡ None) places → (k : ℕ) → get_or places k None ≡ None
 none_at [] none k = refl
 none_at (a ∷ rest) none zero = none zero None (omega arith)
 none_at (a ∷ rest) none (suc k) = none_at rest (λ j d below. none (suc j) d (omega (arith, below))) k
@@ -66,20 +66,20 @@ pub done_head : (jobs : List Job) (all : List Done) (one : Done) (rest : List Do
 done_head jobs all one rest e h = All-head (λ (d : Done). FitsPlace jobs d.job (Some d.answer)) one rest
     (subst (λ (z : List Done). All (λ d. FitsPlace jobs d.job (Some d.answer)) z) e h.each)
 
--- the other answers of a worker's list are those on their jobs
+-- the answers of a worker's list behind the first are those on their jobs
 pub done_tail : (jobs : List Job) (all : List Done) (one : Done) (rest : List Done) → all ≡ one ∷ rest
     → AreDone jobs all → AreDone jobs rest
 done_tail jobs all one rest e h = record { each = All-rest (λ (d : Done). FitsPlace jobs d.job (Some d.answer)) one rest all e h.each }
 
 -- the next of a list's elements, where n of them have been taken
-pub record IsNextChunk {X : Type 0} (xs : List X) (n : ℕ) (x : X) (rest : List X) : Type 0 where
+pub record IsNextElement {X : Type 0} (xs : List X) (n : ℕ) (x : X) (rest : List X) : Type 0 where
   pub below : n < length xs
   pub here : slice_get xs n ≡ Some x
   pub front : take (suc n) xs ≡ take n xs ++ x ∷ []
   pub behind : rest ≡ drop (suc n) xs
 
 -- the first of the elements that are left is the next one
-pub next_of : {X : Type 0} (xs : List X) (n : ℕ) (x : X) (rest : List X) → drop n xs ≡ x ∷ rest → IsNextChunk xs n x rest
+pub next_of : {X : Type 0} (xs : List X) (n : ℕ) (x : X) (rest : List X) → drop n xs ≡ x ∷ rest → IsNextElement xs n x rest
 next_of [] zero x rest e = absurd (cc)
 next_of [] (suc n) x rest e = absurd (cc)
 next_of (y ∷ ys) zero x rest e = record { below = omega arith; here = cc; front = cc; behind = cc }
@@ -88,7 +88,7 @@ next_of (y ∷ ys) (suc n) x rest e =
     record { below = omega (arith, r.below); here = r.here; front = ap (λ (z : List _). y ∷ z) r.front; behind = r.behind }
 
 -- the first of the elements that are left, known by an equation, is the next one
-pub next_at : {X : Type 0} (xs left rest : List X) (n : ℕ) (x : X) → left ≡ drop n xs → left ≡ x ∷ rest → IsNextChunk xs n x rest
+pub next_at : {X : Type 0} (xs left rest : List X) (n : ℕ) (x : X) → left ≡ drop n xs → left ≡ x ∷ rest → IsNextElement xs n x rest
 next_at xs left rest n x at e = next_of xs n x rest (sym at ∙ e)
 
 -- what the workers' lists hold once they are read out of the slice again

@@ -66,10 +66,10 @@ abbrev pub second_numbers : KeeperNumbers
 second_numbers = generation_raised (first_keeper_numbers 1)
 
 -- the world after the events of a deletion
-stage_deleted : (limit base len : ℕ) (now : State) (marks : List Mark) (w : World)
+stage_deleted : (base len limit : ℕ) (now : State) (marks : List Mark) (w : World)
     → Stage limit (first_keeper_numbers 1) (seat_in now) w
     → Stage limit second_numbers (seat_in now) (world_after w (delete_events marks base len))
-stage_deleted limit base len now marks w s =
+stage_deleted base len limit now marks w s =
     let front = stage_of_text limit (first_keeper_numbers 1) (seat_in now) w (delete_front marks base len)
     (delete_front_text marks base len) s in
     subst (λ (z : List Event). Stage limit second_numbers (seat_in now) (world_after w z)) (sym (delete_parts marks base len))
@@ -122,7 +122,7 @@ stage_then v before marks path s =
     subst (Stage v.limit second_numbers (seat_in (last_of (start_of v) path)))
     (sym (after_append (first_world v.limit 1) before (gone_and_deleted v path marks)
     ∙ after_append (world_after (first_world v.limit 1) before) (map (Steps 0) path) (delete_events marks v.base (length v.code))))
-    (stage_deleted v.limit v.base (length v.code) (last_of (start_of v) path) marks
+    (stage_deleted v.base (length v.code) v.limit (last_of (start_of v) path) marks
     (world_after (world_after (first_world v.limit 1) before) (map (Steps 0) path))
     (stage_gone v.limit (first_keeper_numbers 1) (start_of v) w path s))
 

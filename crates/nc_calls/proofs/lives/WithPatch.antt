@@ -1,5 +1,5 @@
 -- A chunk's life with a patch.
-use Rattle.std.proofs.Common.{◌≡◌, ℕ, zero, suc, ◌+◌, ◌-◌, ◌≤◌, List, [], ◌∷◌, ◌++◌, length, replicate}
+use Rattle.std.proofs.Common.{◌≡◌, ℕ, ◌+◌, ◌-◌, ◌≤◌, List, [], ◌∷◌, ◌++◌, length, replicate}
 use Rattle.std.proofs.Common.{arith, refl, ◌∙◌, sym, ap, subst}
 use Rattle.std.specs.Prelude.{Contains}
 use Rattle.std.proofs.lemmas.List.{length-replicate}
@@ -27,12 +27,8 @@ use Rattle.nc_calls.proofs.lives.OneSeat.{Stage, stage_of_text, seat_in}
 use Rattle.nc_calls.proofs.lives.LastTurns.{with_live, Ended, Begun, ended}
 use Rattle.nc_calls.proofs.lives.FirstTurn.{creation_events, stage_created, fresh, same_created, creation_turn, creation_is_turn}
 use Rattle.nc_calls.proofs.lives.FirstTurn.{lies_in, bytes_back, marks_back}
+use Rattle.nc_calls.proofs.RetiredSpans.{one_is}
 use Rattle.nc_calls.proofs.lives.WithoutPatch.{HasLives, history_of, life_of, same_keeper}
-
--- the only chunk of a list
-only_one : (x c : Chunk) → Contains (x ∷ []) c → x ≡ c
-only_one x c (zero, lt, is) = is
-only_one x c (suc k, lt, is) = absurd (omega (arith, lt))
 
 -- the patch lies in the chunk
 patch_lies : (v : MarkedChunk) (keeper : KeeperState) (created : Region) (at : ℕ) (bytes : List ℕ) → IsValid v
@@ -41,7 +37,7 @@ patch_lies : (v : MarkedChunk) (keeper : KeeperState) (created : Region) (at : �
 patch_lies v keeper created at bytes valid is lawful =
     let held = lawful.1.1 in
     let chunks : created.chunks ≡ live_chunk v ∷ [] = ap (λ (r : Region). r.chunks) (same_created v keeper created is) in
-    let same : live_chunk v ≡ lawful.1.0 = only_one (live_chunk v) lawful.1.0
+    let same : live_chunk v ≡ lawful.1.0 = one_is (live_chunk v) lawful.1.0
     (subst (λ (z : List Chunk). Contains z lawful.1.0) chunks held.0) in
     let base = ap (λ (c : Chunk). c.base) same in
     let long = ap (λ (c : Chunk). c.length) same in (

@@ -1,13 +1,13 @@
 -- An instruction with a prefix, and one that masks a register, goes on to the next.
 use Rattle.std.proofs.Common.{◌≡◌, ◌≢◌, ℕ, ◌<◌, Bool, true, false, List, [], ◌∷◌, ◌++◌, get_or, Option, Some, None, ◌==◌, ◌&&◌, cond, refl}
-use Rattle.std.proofs.Common.{sym, subst, ◌∙◌, ap, arith, inl, inr, Contains, append_assoc}
+use Rattle.std.proofs.Common.{sym, subst, ◌∙◌, ap, arith, inl, inr, Contains, append_assoc, not}
 use Rattle.std.specs.Prelude.{option_to_list, slice_index, IfSome}
 use Rattle.nc_decode.specs.declared.instruction.Flow.{Flow}
 use Rattle.nc_decode.specs.declared.instruction.Flow.TheVariants.{Next, Branch, Jump, Call, IndirectJump, IndirectCall, Stop}
 use Rattle.nc_decode.specs.Rows.{Row, PrefixRow, rows, prefix_rows, within, reg_of}
 use Rattle.nc_decode.specs.Rows.{first_rows, later_rows, first_prefix_rows, later_prefix_rows}
 use Rattle.nc_decode.specs.Spelling.{Parts, spelled, IsOperand, AreParts, Allows, masks_of}
-use Rattle.nc_decode.proofs.opcodes.EntriesMatchRows.{each_below, each, same, not}
+use Rattle.nc_decode.proofs.opcodes.EntriesMatchRows.{each_below, each, same}
 use Rattle.nc_decode.proofs.BoolTests.{both, both_made, not_is, same_made, true_or_false, each_below-at, each-Contains, chosen_true}
 use Rattle.nc_decode.proofs.BoolTests.{chosen_false}
 use Rattle.nc_decode.proofs.fronts.Masks.{masks_begin}

@@ -1,6 +1,6 @@
 -- No spelling is barred.
 use Rattle.std.proofs.Common.{◌≡◌, ℕ, ◌+◌, Bool, true, false, List, [], ◌∷◌, ◌++◌, Some, Result, Ok, Err, ◌==◌, ◌&&◌, ◌||◌, refl, sym}
-use Rattle.std.proofs.Common.{subst, ◌∙◌, ap, inl, inr, eqb-true, append-nil}
+use Rattle.std.proofs.Common.{subst, ◌∙◌, ap, inl, inr, eqb-true, append-nil, not}
 use Rattle.std.specs.List.{list_any, list_all}
 use Rattle.nc_decode.specs.declared.instruction.DecodeFault.{DecodeFault}
 use Rattle.nc_decode.specs.declared.instruction.DecodeFault.TheVariants.{NotPermitted}
@@ -15,11 +15,11 @@ use Rattle.nc_decode.specs.machinery.Shapes.{forms_of, permits, entry_shape, sha
 use Rattle.nc_decode.specs.machinery.Shapes.{prefixed_shape, prefix_of}
 use Rattle.nc_decode.specs.Spelling.{spelled, Spells}
 use Rattle.nc_decode.specs.Barred.{overrides, leading, barred_opcodes, barred_escaped, among, first_passes, opens_barred, IsBarred}
-use Rattle.nc_decode.proofs.opcodes.EntriesMatchRows.{prefix_byte, permits_at, each, coded_plain, each_prefix, not, implies}
+use Rattle.nc_decode.proofs.opcodes.EntriesMatchRows.{prefix_byte, permits_at, each, coded_plain, each_prefix, implies}
 use Rattle.nc_decode.proofs.BoolTests.{true_or_false, both, not_is, implied, chosen_true, chosen_false, cond_true, cond_false, either}
 use Rattle.nc_decode.proofs.opcodes.PermittedIsListed.{permits_is, each_prefix-at}
 use Rattle.nc_decode.proofs.reading.EntryReads.{entry_read}
-use Rattle.nc_decode.proofs.reading.PrefixAndOpcode.{plain_is, prefix_is, prefixed_reads, plain_reads}
+use Rattle.nc_decode.proofs.reading.PrefixAndOpcode.{plain_is, prefix_is, prefixed_reads, plain_reads, far_plain}
 use Rattle.nc_decode.proofs.reading.SpelledIsRead.{parts_read}
 
 -- an opcode that no prefix permits
@@ -167,11 +167,6 @@ barred_refused p n (o ∷ rest) d s h =
 escape_plain : prefix_of 0x0F ≡ Unprefixed
 unfolding prefix_of
 escape_plain = refl
-
--- FF is no prefix
-far_plain : prefix_of 0xFF ≡ Unprefixed
-unfolding prefix_of
-far_plain = refl
 
 -- no barred beginning is a prefix
 barred_plain : (o : ℕ) (rest : List ℕ) → opens_barred (o ∷ rest) ≡ true → prefix_of o ≡ Unprefixed

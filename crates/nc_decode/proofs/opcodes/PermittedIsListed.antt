@@ -1,6 +1,6 @@
 -- What an entry permits is listed, and what is listed an entry permits.
 use Rattle.std.proofs.Common.{◌≡◌, ℕ, zero, suc, ◌<◌, Bool, true, false, List, [], ◌∷◌, Some, ◌==◌, ◌&&◌, refl, arith, filter, Contains}
-use Rattle.std.proofs.Common.{eqb-true, eq-eqb}
+use Rattle.std.proofs.Common.{eqb-true, eq-eqb, not}
 use Rattle.std.specs.Prelude.{IfSome}
 use Rattle.nc_decode.specs.declared.entry.Entry.{Entry}
 use Rattle.nc_decode.specs.declared.entry.Prefix.{Prefix}
@@ -8,7 +8,7 @@ use Rattle.nc_decode.specs.declared.entry.Prefix.TheVariants.{Absent as Unprefix
 use Rattle.nc_decode.specs.machinery.Entries.{opcode_entry}
 use Rattle.nc_decode.specs.Rows.{Place, anywhere, register, memory, Row, PrefixRow, rows, prefix_rows, within, is_at, reg_of, mod_of}
 use Rattle.nc_decode.specs.machinery.Shapes.{forms_of, escapes, permits, prefix_of}
-use Rattle.nc_decode.proofs.opcodes.EntriesMatchRows.{each_below, some, same, not, implies, each_prefix, each_form, lists, lines_of, line_lists}
+use Rattle.nc_decode.proofs.opcodes.EntriesMatchRows.{each_below, some, same, implies, each_prefix, each_form, lists, lines_of, line_lists}
 use Rattle.nc_decode.proofs.opcodes.EntriesMatchRows.{line_form, prefix_byte, allowed_form, allowed_bare, place_at, permits_at, fits_form}
 use Rattle.nc_decode.proofs.opcodes.EntriesMatchRows.{fits_bare, agrees, sound_form, sound_prefix, sound_at, sound_escaped, sound_bare, rows_of}
 use Rattle.nc_decode.proofs.opcodes.EntriesMatchRows.{permits_form, permits_prefix, complete_at, complete, coded_plain}

@@ -1,9 +1,9 @@
 -- The bytes that may stand as opcodes with no prefix before them.
-use Rattle.std.proofs.Common.{◌≡◌, ℕ, ◌<◌, Bool, true, false, List, ◌∷◌, ◌==◌, ◌&&◌, refl}
+use Rattle.std.proofs.Common.{◌≡◌, ℕ, ◌<◌, Bool, true, false, List, ◌∷◌, ◌==◌, ◌&&◌, refl, not}
 use Rattle.nc_decode.specs.declared.entry.Prefix.TheVariants.{Absent as Unprefixed}
 use Rattle.nc_decode.specs.machinery.Entries.{opcode_entry}
 use Rattle.nc_decode.specs.machinery.Shapes.{prefix_of, forms_of, entry_shape, shape_of}
-use Rattle.nc_decode.proofs.opcodes.EntriesMatchRows.{each_below, not, coded_plain}
+use Rattle.nc_decode.proofs.opcodes.EntriesMatchRows.{each_below, coded_plain}
 use Rattle.nc_decode.proofs.BoolTests.{each_below-at, chosen_false, both, not_is}
 use Rattle.nc_decode.proofs.reading.PrefixAndOpcode.{plain_is, header_read}
 

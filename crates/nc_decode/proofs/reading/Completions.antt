@@ -1,6 +1,6 @@
 -- What is cut short can be completed.
 use Rattle.std.proofs.Common.{◌≡◌, ℕ, zero, suc, ◌+◌, ◌<◌, Bool, true, false, List, [], ◌∷◌, ◌++◌, Result, Ok, Err, ◌==◌, ◌&&◌, cond, refl}
-use Rattle.std.proofs.Common.{◌∙◌, arith, inl, inr, nat_lt, ltb-true}
+use Rattle.std.proofs.Common.{◌∙◌, arith, inl, inr, nat_lt, ltb-true, not}
 use Rattle.std.specs.Result.{is_ok}
 use Rattle.nc_decode.specs.declared.instruction.DecodeFault.{DecodeFault}
 use Rattle.nc_decode.specs.declared.instruction.DecodeFault.TheVariants.{Truncated, NotPermitted}
@@ -13,7 +13,7 @@ use Rattle.nc_decode.specs.Rows.{mod_of, reg_of}
 use Rattle.nc_decode.specs.machinery.Shapes.{forms_of, permits, has_sib, sized_operand, ◌>>=◌, operand_shape, entry_shape, shape_of}
 use Rattle.nc_decode.specs.machinery.Shapes.{escapes, escaped_shape, opcode_shape, prefixed_shape, prefix_of}
 use Rattle.nc_decode.specs.Spelling.{operand_len}
-use Rattle.nc_decode.proofs.opcodes.EntriesMatchRows.{permits_at, each_below, each_prefix, some, not}
+use Rattle.nc_decode.proofs.opcodes.EntriesMatchRows.{permits_at, each_below, each_prefix, some}
 use Rattle.nc_decode.proofs.BoolTests.{true_or_false, each_below-at, both, not_is, chosen_true, chosen_false, cond_is_true, cond_is_false}
 use Rattle.nc_decode.proofs.BoolTests.{cond_true, cond_false}
 use Rattle.nc_decode.proofs.opcodes.PermittedIsListed.{permits_is, each_prefix-at}

@@ -1,8 +1,8 @@
 -- The length of an operand, and lists taken apart.
-use Rattle.std.proofs.Common.{◌≡◌, ℕ, suc, ◌+◌, ◌<◌, ◌≤◌, Bool, true, false, List, [], ◌∷◌, ◌++◌, length, take, drop, Option, Some, None}
+use Rattle.std.proofs.Common.{◌≡◌, ℕ, suc, ◌+◌, ◌<◌, ◌≤◌, Bool, true, false, List, [], ◌∷◌, ◌++◌, length, take, drop}
 use Rattle.std.proofs.Common.{Result, Ok, Err, ◌==◌, ◌&&◌, refl, sym, ◌∙◌, ap, arith, inl, inr, append_assoc, ltb-false, nat_lt, All}
 use Rattle.std.proofs.Common.{length-take, add-one}
-use Rattle.std.specs.Prelude.{slice_index, IfSome}
+use Rattle.std.specs.Prelude.{slice_index}
 use Rattle.std.proofs.Math.Seq.{take-append-add, take-add}
 use Rattle.std.proofs.lemmas.List.{get_or_default, get_or-take}
 use Rattle.nc_decode.specs.declared.instruction.DecodeFault.{DecodeFault}
@@ -100,8 +100,3 @@ all_front bytes n fits k d lt =
     let in_n : k < n = omega (arith, length-take n bytes) in
     let in_bytes : k < length bytes = omega (arith, length-take n bytes) in
     rw (get_or-take n bytes k d in_n, get_or_default bytes k d 0 in_bytes) (fits k)
-
--- what holds of an optional number, one after the other
-pub mapped : (o : Option ℕ) (P Q : ℕ → Type 0) → ((b : ℕ) → P b → Q b) → IfSome o P → IfSome o Q
-mapped None P Q f h = tt
-mapped (Some b) P Q f h = f b h

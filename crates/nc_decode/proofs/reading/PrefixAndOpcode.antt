@@ -174,17 +174,22 @@ bare_read : (p : Prefix) (n o : ℕ) (rest : List ℕ) → (o == 0x0F) ≡ false
 unfolding opcode_shape
 bare_read p n o rest is_not = rw is_not refl
 
+-- FF is no prefix
+pub far_plain : prefix_of 0xFF ≡ Unprefixed
+unfolding prefix_of
+far_plain = refl
+
 -- a byte that is no prefix is read as an opcode
-first_unprefixed : (o : ℕ) (rest : List ℕ) → prefix_of o ≡ Unprefixed → shape_of (o ∷ rest) ≡ opcode_shape Unprefixed 0 (o ∷ rest)
+pub plain_shape : (o : ℕ) (rest : List ℕ) → prefix_of o ≡ Unprefixed → shape_of (o ∷ rest) ≡ opcode_shape Unprefixed 0 (o ∷ rest)
 unfolding shape_of prefixed_shape
-first_unprefixed o rest is = rw is refl
+plain_shape o rest is = rw is refl
 
 -- prefix and opcode are read, and the entry reads the rest
 pub header_read : (p : Prefix) (escaped : Bool) (o : ℕ) (rest : List ℕ) → Stands p escaped o
     → shape_of (header p escaped o ++ rest) ≡ entry_shape p (length (header p escaped o)) (opcode_entry escaped o) rest
 unfolding shape_of prefixed_shape prefix_of
 header_read Unprefixed true o rest h = escaped_read Unprefixed 0 o rest refl
-header_read Unprefixed false o rest h = first_unprefixed o rest (h.no_prefix refl) ∙ bare_read Unprefixed 0 o rest (h.no_escape refl)
+header_read Unprefixed false o rest h = plain_shape o rest (h.no_prefix refl) ∙ bare_read Unprefixed 0 o rest (h.no_escape refl)
 header_read Word true o rest h = escaped_read Word 1 o rest refl
 header_read Word false o rest h = bare_read Word 1 o rest (h.no_escape refl)
 header_read Repeat true o rest h = escaped_read Repeat 1 o rest (h.escape refl)

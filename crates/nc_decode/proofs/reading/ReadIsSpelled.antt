@@ -4,6 +4,7 @@ use Rattle.std.proofs.Common.{◌&&◌, ◌||◌, refl, sym, subst, ◌∙◌, a
 use Rattle.std.proofs.Math.Seq.{drop-append_seam, take-append-add}
 use Rattle.std.specs.Prelude.{option_to_list, IsTrue, ℤ}
 use Rattle.std.proofs.lemmas.List.{length-take-le, length-append, length-drop, take-append-drop}
+use Rattle.std.proofs.lemmas.Option.{IfSome_then}
 use Rattle.nc_decode.specs.declared.instruction.Instr.{Instr}
 use Rattle.nc_decode.specs.declared.instruction.Flow.{Flow}
 use Rattle.nc_decode.specs.declared.entry.Entry.{Entry}
@@ -21,7 +22,7 @@ use Rattle.nc_decode.proofs.reading.PrefixAndOpcode.{code, header, begins}
 use Rattle.nc_decode.proofs.opcodes.PermittedIsListed.{listed_form, listed_bare, place_is, permits_is}
 use Rattle.nc_decode.proofs.opcodes.RowAndEntry.{agreed_is, same_rel, same_reg, no_reg}
 use Rattle.nc_decode.proofs.reading.EntryReads.{IsBytes, shape_alone, formed_shape, entry_read}
-use Rattle.nc_decode.proofs.reading.OperandLengths.{sized_is, front_is, all_front, mapped}
+use Rattle.nc_decode.proofs.reading.OperandLengths.{sized_is, front_is, all_front}
 
 -- an instruction by its fields
 abbrev instr : ℕ → Flow → ℤ → ℕ → Option ℕ → Instr
@@ -98,7 +99,7 @@ formed_spells p escaped o modrm tail k o-lt modrm-lt fits operand permitted size
       opcode = r.opcode;
       operand = (l.0.2, omega (arith, w.1, w.2, front_len), l.0.3, place);
       number = length-take-le j (drop w.0 tail) long_drop ∙ sym a.number;
-      prefix = mapped (prefix_byte p) _ _ (λ b v. (
+      prefix = IfSome_then (prefix_byte p) l.1 (λ b v. (
         v.0,
         v.1.listed,
         record {
@@ -107,7 +108,7 @@ formed_spells p escaped o modrm tail k o-lt modrm-lt fits operand permitted size
           opcode = v.1.opcode;
           operand = λ _. (v.2, place_is v.0.place (mod_of modrm) mod-lt ∙ v.3);
         },
-      )) l.1;
+      ));
       bytes = subst (λ (xs : List ℕ). All (λ b. b < 256) xs) whole (all_front bytes (n + k + j) fits);
     } in
     record {
@@ -177,7 +178,7 @@ bare_spells p escaped o rest o-lt fits operand some_form long =
       opcode = r.opcode;
       operand = l.0.2;
       number = length-take-le j rest long_rest ∙ sym a.number;
-      prefix = mapped (prefix_byte p) _ _ (λ b v. (
+      prefix = IfSome_then (prefix_byte p) l.1 (λ b v. (
         v.0,
         v.1.listed,
         record {
@@ -186,7 +187,7 @@ bare_spells p escaped o rest o-lt fits operand some_form long =
           opcode = v.1.opcode;
           operand = λ t. absurd (operand_free row l.0.2 t);
         },
-      )) l.1;
+      ));
       bytes = subst (λ (xs : List ℕ). All (λ b. b < 256) xs) whole (all_front bytes (n + j) fits);
     } in
     record {

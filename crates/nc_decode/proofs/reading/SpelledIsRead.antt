@@ -5,6 +5,7 @@ use Rattle.std.proofs.Math.Seq.{drop-append_seam, drop-append-add}
 use Rattle.std.specs.Prelude.{slice_index, IfSome}
 use Rattle.std.proofs.lemmas.Bool.{cases_lt}
 use Rattle.std.proofs.lemmas.List.{get_or_past, take_at}
+use Rattle.std.proofs.lemmas.Option.{IfSome_then}
 use Rattle.nc_decode.specs.declared.entry.Entry.{Entry}
 use Rattle.nc_decode.specs.declared.entry.Shape.{Shape}
 use Rattle.nc_decode.specs.declared.entry.Prefix.{Prefix}
@@ -19,7 +20,6 @@ use Rattle.nc_decode.proofs.opcodes.PermittedIsListed.{IsLine, AllowsForm, Allow
 use Rattle.nc_decode.proofs.opcodes.PermittedIsListed.{operand_is}
 use Rattle.nc_decode.proofs.opcodes.RowAndEntry.{agreed_is, same_rel, same_reg}
 use Rattle.nc_decode.proofs.reading.EntryReads.{IsBytes, shape_alone, formed_shape}
-use Rattle.nc_decode.proofs.reading.OperandLengths.{mapped}
 use Rattle.nc_decode.proofs.reading.ReadIsSpelled.{instr_at, instr_same, bytes_of_rest, opcode_is_byte, flow_bare, no_register}
 use Rattle.nc_decode.proofs.reading.SpellingParts.{Allowed, prefix_at, stands, header_spelled, spelled_len, entry_formed, entry_alone, sized_front}
 
@@ -85,12 +85,12 @@ read_formed q p modrm tail r fit is operand =
     let e : Entry = opcode_entry q.row.escaped q.opcode in
     let n : ℕ = length (header p q.row.escaped q.opcode) in
     let allowed : AllowsForm p q.row.escaped q.opcode (reg_of modrm) (mod_of modrm == 3) =
-    mapped (prefix_byte p) (Allowed q) _ (λ b v. (
+    IfSome_then (prefix_byte p) {P = (Allowed q)} (subst (λ (x : Option ℕ). IfSome x (Allowed q)) (sym is) fit.prefix) (λ b v. (
       v.0,
       line_from q b v,
       (form_from q modrm b v form.0 first m-lt).0,
       (form_from q modrm b v form.0 first m-lt).1,
-    )) (subst (λ (x : Option ℕ). IfSome x (Allowed q)) (sym is) fit.prefix) in
+    )) in
     let f = permitted_form p q.row q.opcode (reg_of modrm) (mod_of modrm == 3) fit.listed o-lt reg-lt fit.opcode form.0 form.2
     (sym (place_is q.row.place (mod_of modrm) mod-lt) ∙ form.3) allowed in
     let a = agreed_is p (opcode_entry q.row.escaped q.opcode) (reg_of modrm) q.row f.1.agreed in
@@ -139,8 +139,7 @@ read_bare q p r fit is operand =
     let o-lt = opcode-lt q p fit is in
     let none : q.row.operand ≡ false = subst (λ xs. IsOperand q.row xs) operand fit.operand in
     let allowed : AllowsBare p q.row.escaped q.opcode =
-    mapped (prefix_byte p) (Allowed q) _ (λ b v. (v.0, line_from q b v))
-    (subst (λ (x : Option ℕ). IfSome x (Allowed q)) (sym is) fit.prefix) in
+    IfSome_then (prefix_byte p) {P = (Allowed q)} (subst (λ (x : Option ℕ). IfSome x (Allowed q)) (sym is) fit.prefix) (λ b v. (v.0, line_from q b v)) in
     let f = permitted_bare p q.row q.opcode fit.listed o-lt fit.opcode none allowed in
     let a = agreed_is p (opcode_entry q.row.escaped q.opcode) 0 q.row f.0.agreed in
     let has : (opcode_entry q.row.escaped q.opcode).operand ≡ false = operand_is q.row q.opcode fit.listed o-lt fit.opcode ∙ none in

@@ -5,6 +5,7 @@ use Rattle.std.specs.List.{range_with_len}
 use Rattle.std.proofs.lemmas.Bool.{ne_eqb}
 use Rattle.std.proofs.lemmas.List.{length-map}
 use Rattle.std.proofs.lemmas.List.FromFn.{get_or-map-range_with_len, length-range_with_len}
+use Rattle.std.proofs.lemmas.Nat.{shr-shr}
 use Rattle.std.proofs.lemmas.Nat.Bits.{bit_at-suc, bit_at_lowest, bit_at_cat_low}
 use Rattle.nc_decode.specs.declared.bundle.Bundle.{Bundle}
 use Rattle.nc_decode.specs.declared.instruction.Mark.{Mark}
@@ -36,3 +37,7 @@ length-marks_in code bundles = length-map (range_with_len 0 (length code)) (mark
 pub marks_in-at : (code : List ℕ) (bundles : List Bundle) (k : ℕ) (d : Mark) → k < length code
     → get_or (marks_in code bundles) k d ≡ mark_by_bits code bundles k
 marks_in-at code bundles k d lt = get_or-map-range_with_len (mark_by_bits code bundles) 0 (length code) k k d lt (omega arith)
+
+-- the bits after the first ones
+pub bit_passed : (n k i : ℕ) → bit_at (n / 2 ^ k) i ≡ bit_at n (k + i)
+bit_passed n k i = ap (λ (q : ℕ). q % 2) (shr-shr n k i)

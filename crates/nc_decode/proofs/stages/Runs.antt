@@ -1,6 +1,6 @@
 -- Runs of the automaton read instructions.
 use Rattle.std.proofs.Common.{◌≡◌, ℕ, suc, ◌+◌, ◌-◌, ◌<◌, ◌≤◌, Bool, true, false, List, [], ◌∷◌, ◌++◌, Option, Some, None, Ok, length, drop}
-use Rattle.std.proofs.Common.{refl, sym, subst, ◌∙◌, ap, arith, inl, inr, ◌⊎◌, ◌==◌, ◌&&◌, nat_lt, ltb-true, All, eqb-true}
+use Rattle.std.proofs.Common.{refl, sym, subst, ◌∙◌, ap, arith, inl, inr, ◌⊎◌, ◌==◌, ◌&&◌, nat_lt, ltb-true, All, eqb-true, not}
 use Rattle.std.specs.Prelude.{IfSome, IsTrue, slice_index}
 use Rattle.std.specs.Int.{w8, w32, cast_signed, from_le_bytes}
 use Rattle.std.proofs.lemmas.List.{take_all}
@@ -10,7 +10,7 @@ use Rattle.nc_decode.specs.Automaton.{next_state, masked_at, LeadsToEnd, Ends, R
 use Rattle.nc_decode.specs.machinery.Reading.{reading}
 use Rattle.nc_decode.specs.Spelling.{Spells, masks_of}
 use Rattle.nc_decode.specs.Transfers.{is_direct, is_indirect}
-use Rattle.nc_decode.proofs.opcodes.EntriesMatchRows.{each_below, not}
+use Rattle.nc_decode.proofs.opcodes.EntriesMatchRows.{each_below}
 use Rattle.nc_decode.proofs.BoolTests.{each_below-at, both, not_is}
 use Rattle.nc_decode.proofs.reading.SpelledIsRead.{bytes_from_all}
 use Rattle.nc_decode.proofs.reading.Readings.{reading_spells}

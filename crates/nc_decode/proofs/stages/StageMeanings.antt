@@ -1,7 +1,7 @@
 -- What the bytes after an instruction's begin say at each stage of the automaton, and that one more byte leads on.
 use Rattle.std.proofs.Common.{◌≡◌, ◌≢◌, ℕ, zero, suc, ◌+◌, ◌-◌, ◌%◌, ◌<◌, ◌≤◌, Bool, true, false, List, [], ◌∷◌, ◌++◌, Option, Some}
 use Rattle.std.proofs.Common.{Result, Ok, Err, length, drop, get_or, refl, sym, ◌∙◌, ap, arith, inl, inr, ◌==◌, ◌&&◌, eqb-true, nat_lt}
-use Rattle.std.proofs.Common.{append_assoc, append-nil}
+use Rattle.std.proofs.Common.{append_assoc, append-nil, not}
 use Rattle.std.specs.Prelude.{if◌then◌else◌, slice_index}
 use Rattle.std.specs.Int.{w8, w32, cast_signed, from_le_bytes}
 use Rattle.std.proofs.lemmas.Bool.{eqb-false}
@@ -21,7 +21,6 @@ use Rattle.nc_decode.specs.machinery.Shapes.{◌>>=◌, forms_of, coded_len, per
 use Rattle.nc_decode.specs.machinery.Shapes.{escaped_shape, opcode_shape, shape_of}
 use Rattle.nc_decode.specs.Spelling.{operand_len}
 use Rattle.nc_decode.specs.Transfers.{is_direct, is_indirect}
-use Rattle.nc_decode.proofs.opcodes.EntriesMatchRows.{not}
 use Rattle.nc_decode.proofs.BoolTests.{both, true_or_false, cond_is_true, cond_is_false}
 use Rattle.nc_decode.proofs.reading.ReadIsSpelled.{instr_at}
 use Rattle.nc_decode.proofs.reading.Readings.{reads_whole}

@@ -1,6 +1,6 @@
 -- One more byte leads from stage to stage.
 use Rattle.std.proofs.Common.{◌≡◌, ◌≢◌, ℕ, ◌+◌, ◌-◌, ◌%◌, ◌<◌, ◌≤◌, Bool, true, false, List, [], ◌∷◌, ◌++◌, Option, Some, None, Result, Ok}
-use Rattle.std.proofs.Common.{Err, length, refl, sym, subst, ◌∙◌, ap, arith, inl, inr, ◌==◌, ◌&&◌, eqb-true}
+use Rattle.std.proofs.Common.{Err, length, refl, sym, subst, ◌∙◌, ap, arith, inl, inr, ◌==◌, ◌&&◌, eqb-true, not}
 use Rattle.std.specs.Prelude.{if◌then◌else◌, IfSome}
 use Rattle.std.proofs.lemmas.Bool.Decides.{nat_tests}
 use Rattle.std.proofs.lemmas.List.{length_push}
@@ -19,10 +19,11 @@ use Rattle.nc_decode.specs.Rows.{reg_of}
 use Rattle.nc_decode.specs.machinery.Shapes.{prefix_of, forms_of, coded_len, permits, flow_of, reg_if, sized_operand, operand_shape}
 use Rattle.nc_decode.specs.machinery.Shapes.{entry_shape, escapes, escaped_shape, opcode_shape, prefixed_shape, shape_of}
 use Rattle.nc_decode.specs.Transfers.{is_direct, is_indirect}
-use Rattle.nc_decode.proofs.opcodes.EntriesMatchRows.{each_below, coded_kind, not, each_prefix}
+use Rattle.nc_decode.proofs.opcodes.EntriesMatchRows.{each_below, coded_kind, each_prefix}
 use Rattle.nc_decode.proofs.BoolTests.{both, not_is, true_or_false, either, chosen_true, chosen_false, cond_is_true, cond_is_false}
 use Rattle.nc_decode.proofs.BoolTests.{each_below-at}
 use Rattle.nc_decode.proofs.reading.EntryReads.{shape_alone}
+use Rattle.nc_decode.proofs.reading.PrefixAndOpcode.{far_plain, plain_shape}
 use Rattle.nc_decode.proofs.opcodes.PermittedIsListed.{each_prefix-at}
 use Rattle.nc_decode.proofs.reading.SpellingParts.{entry_alone}
 use Rattle.nc_decode.proofs.stages.Stages.{paired, Stage, dead, prefixed, escaped, operand, masking, mask_number, transfer_after_mask, sib}
@@ -238,11 +239,6 @@ escaped_meant o p pre b lt shapes = after_opcode_meant o p (opcode_entry true b)
 
 -- ---- an instruction begins
 
--- the shape of bytes with no prefix
-plain_shapes : (b : ℕ) (rest : List ℕ) → prefix_of b ≡ Unprefixed → shape_of (b ∷ rest) ≡ opcode_shape Unprefixed 0 (b ∷ rest)
-unfolding shape_of prefixed_shape
-plain_shapes b rest e = ap (λ (p : Prefix). prefixed_shape p (b ∷ rest) rest) e
-
 -- after 83, ModRM of any form and one byte of a number are waited for
 mask_operand : (o : Option ℕ) → Meant o (opcode Unprefixed 0x83) (0x83 ∷ []) → WaitsForOperand 0xFFFF 1 1 (0x83 ∷ [])
 unfolding opcode_entry forms_of coded_len
@@ -256,7 +252,7 @@ transfer_operand o m = m
 -- the first byte where it is no prefix
 first_unprefixed : (o : Option ℕ) (b : ℕ) → b < 256 → prefix_of b ≡ Unprefixed → Meant o (unprefixed Unprefixed b) (b ∷ [])
 first_unprefixed o b lt e =
-    let m = opcode_meant o Unprefixed [] b lt (λ rest. plain_shapes b rest e) in
+    let m = opcode_meant o Unprefixed [] b lt (λ rest. plain_shape b rest e) in
     elim (true_or_false (b == 0x83)) [
       | inl mask ↦
           (let is : b ≡ 0x83 = eqb-true b 0x83 mask in
@@ -277,11 +273,6 @@ unprefixed_meant o b lt Repeat e = (refl, λ rest. ap (λ (p : Prefix). prefixed
 unprefixed_meant o b lt RepeatNot e = (refl, λ rest. ap (λ (p : Prefix). prefixed_shape p (b ∷ rest) rest) e)
 unprefixed_meant o b lt Lock e = (refl, λ rest. ap (λ (p : Prefix). prefixed_shape p (b ∷ rest) rest) e)
 
--- FF is no prefix
-goal_plain : prefix_of 0xFF ≡ Unprefixed
-unfolding prefix_of
-goal_plain = refl
-
 -- the first byte of an instruction
 pub begun_meant : (o : Option ℕ) (b : ℕ) → b < 256 → IfSome o (λ r. r < 8) → Meant o (begun o b) (b ∷ [])
 begun_meant None b lt small = unprefixed_meant None b lt (prefix_of b) refl
@@ -290,7 +281,7 @@ begun_meant (Some r) b lt small =
       | inl far ↦
           (let is : b ≡ 0xFF = eqb-true b 0xFF far in
           let m = transfer_operand (Some r) (opcode_meant (Some r) Unprefixed [] 0xFF (omega arith)
-          (λ rest. plain_shapes 0xFF rest goal_plain)) in
+          (λ rest. plain_shape 0xFF rest far_plain)) in
           rw far (ap (λ (x : ℕ). x ∷ []) is, small, refl, subst (λ (x : ℕ). WaitsForOperand 0x4343 0 0 (x ∷ [])) (sym is) m))
       | inr other ↦ rw other (unprefixed_meant (Some r) b lt (prefix_of b) refl)
     ]

@@ -5,7 +5,7 @@ use Rattle.std.proofs.lemmas.List.{drop_all, append-nil, length-map, map-append,
 use Rattle.nc_acts.specs.declared.acts.Entry.{Entry}
 use Rattle.nc_entries.specs.declared.act.NcAct.{NcAct}
 use Rattle.nc_entries.specs.Shown.{entry_of, over}
-use Rattle.nc_entries.specs.Written.{HasWritten}
+use Rattle.nc_entries.specs.Written.{HoldsLog}
 
 -- an element written behind the first ones of a buffer is one more of them
 pub over_more : {X : Type 0} (xs start : List X) (y : X) → length xs < length (over xs start)
@@ -18,8 +18,8 @@ over_more {X} (x ∷ xs) [] y lt =
 over_more (x ∷ xs) (s ∷ rest) y lt = ap (λ z. x ∷ z) (over_more xs rest y (omega (arith, lt)))
 
 -- an entry written behind the first ones of a buffer is one more of them
-pub write_one : (start now : List NcAct) (count : ℕ) (log : List Entry) (a : Entry) → HasWritten start now count log → count < length now
-    → HasWritten start (set now count (entry_of a)) (count + 1) (log ++ a ∷ [])
+pub write_one : (start now : List NcAct) (count : ℕ) (log : List Entry) (a : Entry) → HoldsLog start now count log → count < length now
+    → HoldsLog start (set now count (entry_of a)) (count + 1) (log ++ a ∷ [])
 write_one start now count log a h lt =
     let long : length (map entry_of log) ≡ count = length-map log entry_of ∙ sym h.counted in
     record {

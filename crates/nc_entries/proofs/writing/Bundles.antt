@@ -12,7 +12,7 @@ use Rattle.nc_acts.specs.Log.{only_acts}
 use Rattle.nc_region.proofs.Offered.{is_start_false}
 use Rattle.nc_entries.specs.declared.act.NcAct.{NcAct}
 use Rattle.nc_entries.specs.Shown.{act_of}
-use Rattle.nc_entries.specs.Written.{Adds}
+use Rattle.nc_entries.specs.Written.{AddsEntries}
 use Rattle.nc_entries.specs.machinery.Writing.{HasPutUpTo}
 use Rattle.nc_entries.proofs.writing.PutLists.{puts_within}
 use Rattle.nc_entries.proofs.writing.WriteSteps.{put_none, put_next, pass_next, put_all, next_fits, adds_both}
@@ -104,12 +104,12 @@ part_next chosen inner base at n bytes others initial from acts now count m long
     let all = put_all inner at others acts count 32 now m (sym long) more in
     let first : List Act = puts_where chosen base (take (32 * n) bytes) in
     let last : List Act = puts_where inner at others in
-    let added : Adds initial from now m (only_acts first ++ only_acts last) =
+    let added : AddsEntries initial from now m (only_acts first ++ only_acts last) =
     adds_both initial acts now from count m (only_acts first) (only_acts last) h.written all.written in
     let entries : only_acts (puts_where chosen base (take (32 * (n + 1)) bytes)) ≡ only_acts first ++ only_acts last =
     ap (λ (z : List Act). only_acts z) both ∙ map-append Did first last in
     record {
       len = all.len ∙ h.len;
       counted = omega (arith, all.counted, h.counted, ap (λ (z : List Act). length z) both, length-append first last);
-      written = subst (λ (z : List Entry). Adds initial from now m z) (sym entries) added;
+      written = subst (λ (z : List Entry). AddsEntries initial from now m z) (sym entries) added;
     }

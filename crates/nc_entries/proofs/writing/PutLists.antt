@@ -2,21 +2,11 @@
 use Rattle.std.proofs.Common.{◌≡◌, ℕ, suc, ◌+◌, ◌<◌, ◌≤◌, Bool, true, false, cond, List, [], ◌∷◌, ◌++◌, length, get_or, take, drop, refl, ap}
 use Rattle.std.proofs.Common.{arith, sym, subst, ◌∙◌}
 use Rattle.std.specs.Prelude.{not}
-use Rattle.std.proofs.lemmas.List.{append-nil, take_more, length-take-le, take-append-drop, length-append}
+use Rattle.std.proofs.lemmas.List.{take-append-drop, length-append}
 use Rattle.nc_acts.specs.declared.acts.Act.{Act}
 use Rattle.nc_acts.specs.declared.acts.Act.TheVariants.{Put}
-use Rattle.nc_region.proofs.Offered.{puts_append}
+use Rattle.nc_acts.proofs.Offered.{puts_append, next_put}
 use Rattle.nc_acts.specs.Acts.{puts_where}
-
--- the puts of one more byte of some
-pub puts_more : (chosen : ℕ → Bool) (at : ℕ) (bytes : List ℕ) (i : ℕ) → i < length bytes
-    → puts_where chosen at (take (i + 1) bytes)
-    ≡ puts_where chosen at (take i bytes) ++ cond (chosen (at + i)) (Put (at + i) (get_or bytes i 0) ∷ []) []
-puts_more chosen at bytes i lt =
-    let here : length (take i bytes) ≡ i = length-take-le i bytes (omega (arith, lt)) in
-    ap (puts_where chosen at) (take_more bytes i 0 lt)
-    ∙ (puts_append chosen at (take i bytes) (get_or bytes i 0 ∷ [])
-    ∙ ap (λ (n : ℕ). puts_where chosen at (take i bytes) ++ cond (chosen (at + n)) (Put (at + n) (get_or bytes i 0) ∷ []) []) here)
 
 -- the first bytes have no more puts than all
 pub puts_within : (chosen : ℕ → Bool) (at : ℕ) (bytes : List ℕ) (i : ℕ)
@@ -55,21 +45,6 @@ puts_same f g at (x ∷ rest) h =
     ap (λ (b : Bool). cond b (Put at x ∷ puts_where f (at + 1) rest) (puts_where f (at + 1) rest)) here
     ∙ ap (λ (z : List Act). cond (g at) (Put at x ∷ z) z) more
 
--- a byte at a place that passes is put
-pub put_in : (chosen : ℕ → Bool) (at : ℕ) (bytes : List ℕ) (i : ℕ) → i < length bytes → chosen (at + i) ≡ true
-    → puts_where chosen at (take (i + 1) bytes) ≡ puts_where chosen at (take i bytes) ++ Put (at + i) (get_or bytes i 0) ∷ []
-put_in chosen at bytes i lt is =
-    puts_more chosen at bytes i lt
-    ∙ ap (λ (b : Bool). puts_where chosen at (take i bytes) ++ cond b (Put (at + i) (get_or bytes i 0) ∷ []) []) is
-
--- a byte at a place that doesn't pass isn't put
-pub put_out : (chosen : ℕ → Bool) (at : ℕ) (bytes : List ℕ) (i : ℕ) → i < length bytes → chosen (at + i) ≡ false
-    → puts_where chosen at (take (i + 1) bytes) ≡ puts_where chosen at (take i bytes)
-put_out chosen at bytes i lt is =
-    puts_more chosen at bytes i lt
-    ∙ (ap (λ (b : Bool). puts_where chosen at (take i bytes) ++ cond b (Put (at + i) (get_or bytes i 0) ∷ []) []) is
-    ∙ append-nil (puts_where chosen at (take i bytes)))
-
 -- there is room for the put of a byte at a place that passes
 pub put_fits : (chosen : ℕ → Bool) (at : ℕ) (bytes : List ℕ) (i from room : ℕ) → i < length bytes → chosen (at + i) ≡ true
     → from + length (puts_where chosen at bytes) ≤ room → from + length (puts_where chosen at (take i bytes)) < room
@@ -78,6 +53,6 @@ put_fits chosen at bytes i from room lt is fits =
       arith,
       fits,
       puts_within chosen at bytes (i + 1),
-      ap (λ (z : List Act). length z) (put_in chosen at bytes i lt is),
+      ap (λ (z : List Act). length z) (next_put chosen at bytes i lt is),
       length-append (puts_where chosen at (take i bytes)) (Put (at + i) (get_or bytes i 0) ∷ []),
     )

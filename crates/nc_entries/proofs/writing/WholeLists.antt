@@ -13,13 +13,13 @@ use Rattle.nc_acts.specs.Log.{only_acts, log_of_create, log_of_delete}
 use Rattle.nc_entries.specs.declared.act.NcAct.{NcAct}
 use Rattle.nc_entries.specs.Shown.{entry_of}
 use Rattle.nc_entries.specs.Standing.{AreMarksAt}
-use Rattle.nc_entries.specs.Written.{HasWritten, Adds}
+use Rattle.nc_entries.specs.Written.{HoldsLog, AddsEntries}
 use Rattle.nc_entries.specs.machinery.Writing.{HasPutUpTo, mark_if, marks_if}
 use Rattle.nc_entries.proofs.writing.PutLists.{puts_of_both, puts_same}
 use Rattle.nc_entries.proofs.writing.WriteSteps.{put_all, adds_one, adds_both}
 
 -- nothing is written yet
-none_written : (acts : List NcAct) → HasWritten acts acts 0 []
+none_written : (acts : List NcAct) → HoldsLog acts acts 0 []
 none_written acts = record { buffer = refl; counted = refl }
 
 -- each byte of a chunk is put once
@@ -37,7 +37,7 @@ both_of_delete marks base len =
 pub record WroteFirst (chosen : ℕ → Bool) (base : ℕ) (bytes : List ℕ) (acts now : List NcAct) (count : ℕ) : Type 0 where
   pub len : length now ≡ length acts
   pub counted : count ≡ length (puts_where chosen base bytes)
-  pub written : Adds acts 0 now count (only_acts (puts_where chosen base bytes))
+  pub written : AddsEntries acts 0 now count (only_acts (puts_where chosen base bytes))
 
 pub first_written : (chosen : ℕ → Bool) (base : ℕ) (bytes : List ℕ) (acts now : List NcAct) (n count : ℕ) → n ≡ length bytes
     → HasPutUpTo chosen base bytes acts 0 n now count → WroteFirst chosen base bytes acts now count
@@ -47,7 +47,7 @@ first_written chosen base bytes acts now n count e h =
 
 -- an entry is added with those that are added after it
 then_entry : (acts next last : List NcAct) (n m k : ℕ) (a : Entry) (rest : List Entry) → next ≡ set acts n (entry_of a) → m ≡ n + 1
-    → n < length acts → Adds next m last k rest → Adds acts n last k (a ∷ rest)
+    → n < length acts → AddsEntries next m last k rest → AddsEntries acts n last k (a ∷ rest)
 then_entry acts next last n m k a rest e f lt more =
     adds_both acts next last n m k (a ∷ []) rest (rw (e, f) (adds_one acts n a lt)) more
 
@@ -56,7 +56,7 @@ pub creation_written : (base : ℕ) (code : List ℕ) (acts acts1 acts2 acts3 ac
     → HasPutUpTo is_inside base code acts 0 (length code) acts1 n1 → acts2 ≡ set acts1 n1 (entry_of Serialized) → n2 ≡ n1 + 1
     → acts3 ≡ set acts2 n2 (entry_of (Did (MarkSpan base (length code)))) → n3 ≡ n2 + 1
     → HasPutUpTo is_start base code acts3 n3 (length code) acts4 n4 → length code + 2 ≤ length acts
-    → HasWritten acts acts4 (length code + 2) (log_of_create base code)
+    → HoldsLog acts acts4 (length code + 2) (log_of_create base code)
 creation_written base code acts acts1 acts2 acts3 acts4 n1 n2 n3 n4 h1 e2 m2 e3 m3 h4 room =
     let both = both_of_create base code in
     let one = first_written is_inside base code acts acts1 (length code) n1 refl h1 in
@@ -65,13 +65,13 @@ creation_written base code acts acts1 acts2 acts3 acts4 n1 n2 n3 n4 h1 e2 m2 e3 
     let lt1 : n1 < length acts1 = omega (arith, one.len, one.counted, room, both) in
     let lt2 : n2 < length acts2 = omega (arith, one.len, one.counted, room, both, m2, long2) in
     let starts : List Entry = only_acts (puts_where is_start base code) in
-    let marked : Adds acts2 n2 acts4 n4 (Did (MarkSpan base (length code)) ∷ starts) =
+    let marked : AddsEntries acts2 n2 acts4 n4 (Did (MarkSpan base (length code)) ∷ starts) =
     then_entry acts2 acts3 acts4 n2 n3 n4 (Did (MarkSpan base (length code))) starts e3 m3 lt2 rest.written in
     let serialized = then_entry acts1 acts2 acts4 n1 n2 n4 Serialized (Did (MarkSpan base (length code)) ∷ starts) e2 m2 lt1 marked in
-    let all : HasWritten acts acts4 n4 (log_of_create base code) =
+    let all : HoldsLog acts acts4 n4 (log_of_create base code) =
     adds_both acts acts1 acts4 0 n1 n4 (only_acts (puts_where is_inside base code)) (Serialized ∷ Did (MarkSpan base (length code)) ∷ starts)
     one.written serialized acts [] (none_written acts) in
-    subst (λ (n : ℕ). HasWritten acts acts4 n (log_of_create base code)) {x = n4} {y = length code + 2}
+    subst (λ (n : ℕ). HoldsLog acts acts4 n (log_of_create base code)) {x = n4} {y = length code + 2}
     (omega (arith, rest.counted, m2, m3, one.counted, both)) all
 
 -- a place is marked by a chunk's marks as by those of the text in which they stand
@@ -95,7 +95,7 @@ pub deletion_written : (marks : ℕ → Mark) (text : List Mark) (base len : ℕ
     → acts2 ≡ set acts1 n1 (entry_of Serialized) → n2 ≡ n1 + 1
     → HasPutUpTo (marks_if false marks base) base (replicate {A = ℕ} len 244) acts2 n2 len acts3 n3
     → acts4 ≡ set acts3 n3 (entry_of (Did Bump)) → len + 2 ≤ length acts → AreMarksAt text base len marks
-    → HasWritten acts acts4 (len + 2) (log_of_delete text base len)
+    → HoldsLog acts acts4 (len + 2) (log_of_delete text base len)
 deletion_written marks text base len acts acts1 acts2 acts3 acts4 n1 n2 n3 h1 e2 m2 h3 e4 room stand =
     let bytes : List ℕ = replicate {A = ℕ} len 244 in
     let ones : List Act = puts_where (marks_if true marks base) base bytes in
@@ -108,15 +108,15 @@ deletion_written marks text base len acts acts1 acts2 acts3 acts4 n1 n2 n3 h1 e2
     let many : n3 ≡ len + 1 = omega (arith, rest.counted, m2, one.counted, both) in
     let lt1 : n1 < length acts1 = omega (arith, one.len, one.counted, room, both) in
     let lt3 : n3 < length acts3 = omega (arith, many, rest.len, long2, one.len, room) in
-    let last : Adds acts3 n3 acts4 (n3 + 1) (Did Bump ∷ []) = rw e4 (adds_one acts3 n3 (Did Bump) lt3) in
+    let last : AddsEntries acts3 n3 acts4 (n3 + 1) (Did Bump ∷ []) = rw e4 (adds_one acts3 n3 (Did Bump) lt3) in
     let stops = adds_both acts2 acts3 acts4 n2 n3 (n3 + 1) (only_acts others) (Did Bump ∷ []) rest.written last in
     let serialized = then_entry acts1 acts2 acts4 n1 n2 (n3 + 1) Serialized (only_acts others ++ Did Bump ∷ []) e2 m2 lt1 stops in
-    let all : HasWritten acts acts4 (n3 + 1) (only_acts ones ++ (Serialized ∷ (only_acts others ++ Did Bump ∷ []))) =
+    let all : HoldsLog acts acts4 (n3 + 1) (only_acts ones ++ (Serialized ∷ (only_acts others ++ Did Bump ∷ []))) =
     adds_both acts acts1 acts4 0 n1 (n3 + 1) (only_acts ones) (Serialized ∷ (only_acts others ++ Did Bump ∷ [])) one.written serialized acts []
     (none_written acts) in
     let same : only_acts ones ++ (Serialized ∷ (only_acts others ++ Did Bump ∷ [])) ≡ log_of_delete text base len =
     ap (λ (z : List Act). only_acts z ++ (Serialized ∷ (only_acts others ++ Did Bump ∷ []))) (same_stops true marks text base len stand)
     ∙ ap (λ (z : List Act). only_acts (puts_where (is_marked_at text) base bytes) ++ (Serialized ∷ (only_acts z ++ Did Bump ∷ [])))
     (same_stops false marks text base len stand) in
-    subst (λ (n : ℕ). HasWritten acts acts4 n (log_of_delete text base len)) {x = n3 + 1} {y = len + 2} (omega (arith, many))
-    (subst (λ (z : List Entry). HasWritten acts acts4 (n3 + 1) z) same all)
+    subst (λ (n : ℕ). HoldsLog acts acts4 n (log_of_delete text base len)) {x = n3 + 1} {y = len + 2} (omega (arith, many))
+    (subst (λ (z : List Entry). HoldsLog acts acts4 (n3 + 1) z) same all)

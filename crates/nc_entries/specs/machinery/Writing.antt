@@ -7,7 +7,7 @@ use Rattle.nc_acts.specs.Acts.{puts_where, is_mark}
 pub use Rattle.nc_acts.specs.Acts.{starts_if}
 use Rattle.nc_acts.specs.Log.{only_acts}
 use Rattle.nc_entries.specs.declared.act.NcAct.{NcAct}
-use Rattle.nc_entries.specs.Written.{HasWritten}
+use Rattle.nc_entries.specs.Written.{HoldsLog}
 
 -- The first n of these bytes have been examined, and the puts of those at places that pass the test follow the entries that
 -- the buffer had at first.
@@ -15,8 +15,8 @@ pub record HasPutUpTo (chosen : ℕ → Bool) (at : ℕ) (bytes : List ℕ) (ini
     : Type 0 where
   pub len : length acts ≡ length initial
   pub counted : count ≡ from + length (puts_where chosen at (take n bytes))
-  pub written : (start : List NcAct) (log : List Entry) → HasWritten start initial from log
-      → HasWritten start acts count (log ++ only_acts (puts_where chosen at (take n bytes)))
+  pub written : (start : List NcAct) (log : List Entry) → HoldsLog start initial from log
+      → HoldsLog start acts count (log ++ only_acts (puts_where chosen at (take n bytes)))
 
 -- a mark that stands for a state, or one that stands for none
 abbrev pub mark_if : Bool → Mark → Bool

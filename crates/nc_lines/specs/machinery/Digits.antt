@@ -3,13 +3,13 @@ use Rattle.std.specs.Prelude.{◌≡◌, ◌<◌, ◌≤◌, ◌*◌, ◌+◌, �
 use Rattle.hex.specs.Hex.{decode_pairs, hex_digit_value, ◌>>=◌}
 
 -- the entry for this value of a digit; 256 for a byte that is none
-abbrev pub entry_of : Option ℕ → ℕ
-entry_of (Some value) = value
-entry_of None = 256
+abbrev pub digit_entry : Option ℕ → ℕ
+digit_entry (Some value) = value
+digit_entry None = 256
 
 -- each byte's entry is that of its value as a digit
 abbrev pub AreDigitValues : List ℕ → Type 0
-AreDigitValues values = (c : ℕ) → c < 256 → slice_index values c ≡ entry_of (hex_digit_value c)
+AreDigitValues values = (c : ℕ) → c < 256 → slice_index values c ≡ digit_entry (hex_digit_value c)
 
 -- the value of a byte as a digit by the arithmetic of a lane, above 15 where it is none
 abbrev pub lane_value : ℕ → ℕ

@@ -58,7 +58,7 @@ AnswersKept answers old new before after held left line (Err BadSeats) = ⊥
 AnswersKept answers old new before after held left line (Err BadWorkers) = ⊥
 
 -- exactly the answers to these lines were given, in order, and written but for their last bytes, which are held back
-pub record IsHeld {S : Type 0} (answers : S → List ℕ → List ℕ → S → Type 0) (old new : S) (before after : Option (List ℕ))
+pub record IsHeldBack {S : Type 0} (answers : S → List ℕ → List ℕ → S → Type 0) (old new : S) (before after : Option (List ℕ))
     (held : List ℕ) (lines : List (List ℕ)) : Type 0 where
   pub reply : List ℕ
   pub runs : AnswersLines answers old lines (reply ++ held) new
@@ -73,7 +73,7 @@ pub record KeepsUp {S : Type 0} (answers : S → List ℕ → List ℕ → S →
   pub closed : AreOpen lines
   pub open_part : IsOpen part
   pub is_kept : kept ≡ kept_of part
-  pub answered : IsHeld answers start now before after held lines
+  pub answered : IsHeldBack answers start now before after held lines
 
 -- `KeepsUp` after a call that may fail. On a failure, `IsBegun` or `IsCutShort` holds whatever bytes would have followed.
 abbrev pub Feeds : {S T : Type 0} → (S → List ℕ → List ℕ → S → Type 0) → S → Option (List ℕ) → List ℕ → S → Option (List ℕ) → List ℕ

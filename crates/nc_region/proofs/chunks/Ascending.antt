@@ -3,17 +3,17 @@ use Rattle.std.proofs.Common.{◌≡◌, ℕ, zero, suc, ◌+◌, ◌<◌, ◌�
 use Rattle.std.proofs.lemmas.List.Elements.{Contains-append_right}
 use Rattle.nc_list.specs.declared.chunk.Chunk.{Chunk}
 use Rattle.nc_list.specs.Chunks.{IsNextChunk}
-use Rattle.nc_list.proofs.Offered.{each_map, each_append, each_contains, rises_above, rises_rest, meets_rest}
+use Rattle.nc_list.proofs.Offered.{each_map, each_append, each_contains, ascending_above, ascending_rest, meets_rest}
 use Rattle.nc_region.specs.Each.{Each}
 use Rattle.nc_region.specs.Region.{IsInChunk, IsAscending, IsAboveAll, Meets}
 
--- each chunk that rises from a place lies above it
-pub rises_get : (from : ℕ) (chunks : List Chunk) (k : ℕ) (d : Chunk) → IsAscending from chunks → k < length chunks
+-- each of the chunks that ascend from a place lies above it
+pub ascending_get : (from : ℕ) (chunks : List Chunk) (k : ℕ) (d : Chunk) → IsAscending from chunks → k < length chunks
     → from ≤ (get_or chunks k d).base
-rises_get from [] k d ascending lt = absurd (omega arith)
-rises_get from (c ∷ rest) zero d ascending lt = ascending.0
-rises_get from (c ∷ rest) (suc k) d ascending lt =
-    omega (arith, ascending.0, rises_get (c.base + c.length) rest k d ascending.1 (omega arith))
+ascending_get from [] k d ascending lt = absurd (omega arith)
+ascending_get from (c ∷ rest) zero d ascending lt = ascending.0
+ascending_get from (c ∷ rest) (suc k) d ascending lt =
+    omega (arith, ascending.0, ascending_get (c.base + c.length) rest k d ascending.1 (omega arith))
 
 -- where each chunk lies beside a span, none overlaps it
 beside_all : (base len : ℕ) (chunks : List Chunk) → Each (λ (d : Chunk). base < d.base + d.length → d.base < base + len → ⊥) chunks
@@ -35,7 +35,7 @@ above_all_free base len chunks above =
 behind_next : (at : ℕ) (chunks : List Chunk) (c : Chunk) → IsAscending 65536 chunks → (n : IsNextChunk chunks at c)
     → Each (λ (d : Chunk). c.base + c.length ≤ d.base) n.after
 behind_next at chunks c ascending n =
-    rises_above (c.base + c.length) n.after (rises_rest 65536 n.before (c ∷ n.after) (subst (IsAscending 65536) n.parts ascending)).1
+    ascending_above (c.base + c.length) n.after (ascending_rest 65536 n.before (c ∷ n.after) (subst (IsAscending 65536) n.parts ascending)).1
 
 -- the next chunk of a place is in the list
 pub next_contained : (at : ℕ) (chunks : List Chunk) (c : Chunk) → IsNextChunk chunks at c → Contains chunks c

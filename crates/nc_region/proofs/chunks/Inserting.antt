@@ -30,12 +30,12 @@ each_insert : {X : Type 0} (P : X → Type 0) (xs : List X) (k : ℕ) (x : X) �
     → Each P (insert xs k x)
 each_insert P xs k x p front back = each_append P (take k xs) (x ∷ drop k xs) front (p, back)
 
--- ascending chunks that all begin at or above an address rise from it
+-- ascending chunks that all begin at or above an address ascend from it
 ascending_from : (from to : ℕ) (chunks : List Chunk) → IsAscending from chunks → IsBelowAll to chunks → IsAscending to chunks
 ascending_from from to [] ascending below = tt
 ascending_from from to (c ∷ rest) ascending below = (below.0, ascending.1)
 
--- a list with a chunk inserted rises
+-- a list with a chunk inserted is ascending
 ascending_insert : (from : ℕ) (chunks : List Chunk) (k : ℕ) (c : Chunk) → IsAscending from chunks → from ≤ c.base
     → IsAboveAll c.base (take k chunks) → IsBelowAll (c.base + c.length) (drop k chunks) → IsAscending from (insert chunks k c)
 ascending_insert from chunks zero c ascending low above below = (low, ascending_from from (c.base + c.length) chunks ascending below)

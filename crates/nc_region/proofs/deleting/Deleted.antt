@@ -23,8 +23,8 @@ use Rattle.nc_acts.specs.Log.{Logs, log_of_delete}
 use Rattle.nc_region.specs.Deletion.{IsDeleted}
 use Rattle.nc_region.specs.Region.{Region, IsLive, IsInChunk, IsAscending, HoldsValid, IsRegion}
 use Rattle.nc_region.proofs.chunks.AgreesOutside.{AgreesOutside, LiesBeside, still_holds}
-use Rattle.nc_region.proofs.patching.Runs.{apart_by_index}
 use Rattle.nc_acts.proofs.Offered.{place_of, Before, Within, Behind, span_within, span_before, span_behind}
+use Rattle.nc_list.proofs.Offered.{ascending_apart}
 use Rattle.nc_acts.proofs.Offered.{told_logged, deleted_acts}
 
 -- one chunk of an ascending list put in place of another of the same span
@@ -97,10 +97,10 @@ others_beside : (old : MarkedText) (chunks : List Chunk) (k : ℕ) (c : Chunk) �
     → get_or chunks k c ≡ c → (i : ℕ) → i < length chunks → i ≢ k → LiesBeside c (get_or chunks i c)
 others_beside old chunks k c ascending inside here i lt other =
     ⊎_elim
-    (λ (before : i < k). inl (omega (arith, apart_by_index 65536 chunks c ascending i k before inside, ap (λ (x : Chunk). x.base) here)))
+    (λ (before : i < k). inl (omega (arith, ascending_apart 65536 chunks i k c ascending before inside, ap (λ (x : Chunk). x.base) here)))
     (λ (from : k ≤ i). inr (omega (
       arith,
-      apart_by_index 65536 chunks c ascending k i
+      ascending_apart 65536 chunks k i c ascending
           (⊎_elim (λ (l : k < i). l) (λ (e : i ≤ k). absurd (other (omega (arith, e, from)))) (cases_lt k i)) lt,
       ap (λ (x : Chunk). x.base + x.length) here,
     )))
@@ -150,9 +150,9 @@ same_index chunks i k c ascending some here there is =
     let long = each_get (λ (d : Chunk). 0 < d.length) chunks i c here some in
     let long' = each_get (λ (d : Chunk). 0 < d.length) chunks k c there some in
     ⊎_elim
-    (λ (before : i < k). absurd (omega (arith, apart_by_index 65536 chunks c ascending i k before there, is, long)))
+    (λ (before : i < k). absurd (omega (arith, ascending_apart 65536 chunks i k c ascending before there, is, long)))
     (λ (from : k ≤ i). ⊎_elim
-    (λ (behind : k < i). absurd (omega (arith, apart_by_index 65536 chunks c ascending k i behind here, is, long')))
+    (λ (behind : k < i). absurd (omega (arith, ascending_apart 65536 chunks k i c ascending behind here, is, long')))
     (λ (to : i ≤ k). omega (arith, from, to)) (cases_lt k i))
     (cases_lt i k)
 

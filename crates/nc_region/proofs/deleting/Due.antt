@@ -1,5 +1,5 @@
 -- The chunks that are due, and what a reclaim leaves.
-use Rattle.std.proofs.Common.{◌++◌, ◌≡◌, ℕ, suc, ◌+◌, ◌≤◌, Bool, true, false, List, [], ◌∷◌, length}
+use Rattle.std.proofs.Common.{◌++◌, ◌≡◌, ℕ, ◌+◌, ◌≤◌, Bool, true, List, [], ◌∷◌, length}
 use Rattle.std.proofs.Common.{arith, refl, ◌∙◌, ap, subst}
 use Rattle.nc_text.specs.MarkedText.{MarkedText, without_marks}
 use Rattle.nc_list.specs.declared.chunk.Chunk.{Chunk}
@@ -25,18 +25,6 @@ due_dead least (Retired stamp) is live = live
 pub unmarked_bytes : (marked : MarkedText) (done : List Chunk) → (unmarked marked done).bytes ≡ marked.bytes
 unmarked_bytes marked [] = refl
 unmarked_bytes marked (d ∷ done) = unmarked_bytes (without_marks marked d.base d.length) done
-
--- with one more chunk, due or not, the kept and the freed ones are still as many as all
-one_more : (least : ℕ) (c : Chunk) (rest : List Chunk) (b : Bool) → is_due least c.state ≡ b
-    → length (kept least rest) + length (freed least rest) ≡ length rest
-    → length (kept least (c ∷ rest)) + length (freed least (c ∷ rest)) ≡ suc (length rest)
-one_more least c rest true is e = rw is (omega (arith, e))
-one_more least c rest false is e = rw is (omega (arith, e))
-
--- the chunks that are kept and those that are freed are together as many as all
-pub kept_and_freed : (least : ℕ) (chunks : List Chunk) → length (kept least chunks) + length (freed least chunks) ≡ length chunks
-kept_and_freed least [] = refl
-kept_and_freed least (c ∷ rest) = one_more least c rest (is_due least c.state) refl (kept_and_freed least rest)
 
 -- a list of chunks below a limit is no longer than the places there
 pub few : (limit from : ℕ) (chunks : List Chunk) → IsAscending from chunks → Each (λ (c : Chunk). HasGoodSpan c.base limit c.length) chunks

@@ -3,7 +3,7 @@ use Rattle.std.proofs.Common.{ℕ, ◌+◌, ◌≤◌, List, [], ◌∷◌, ◌+
 use Rattle.nc_text.specs.Places.{limit_of}
 use Rattle.nc_text.specs.MarkedText.{MarkedText, without_marks}
 use Rattle.nc_list.specs.declared.chunk.Chunk.{Chunk}
-use Rattle.nc_list.proofs.Offered.{each_map, each_both, each_middle, each_out, each_in, rises_lower, rises_above}
+use Rattle.nc_list.proofs.Offered.{each_map, each_both, each_middle, each_out, each_in, ascending_lower, ascending_above}
 use Rattle.nc_acts.specs.Chunks.{HasGoodSpan}
 use Rattle.nc_region.specs.Each.{Each}
 use Rattle.nc_region.specs.Quiet.{RetiredSpan, IsQuiet}
@@ -13,20 +13,20 @@ use Rattle.nc_region.proofs.events.Unmarking.{shut_if_quiet, MayFree, freed_with
 use Rattle.nc_region.proofs.deleting.QuietSpans.{quiet_chunks}
 use Rattle.nc_acts.proofs.Offered.{place_of, Before, Within, Behind}
 
--- a list rises without one of its chunks
-rises_without : (from : ℕ) (before after : List Chunk) (c : Chunk) → IsAscending from (before ++ c ∷ after)
+-- a list is ascending without one of its chunks
+ascending_without : (from : ℕ) (before after : List Chunk) (c : Chunk) → IsAscending from (before ++ c ∷ after)
     → IsAscending from (before ++ after)
-rises_without from [] after c ascending = rises_lower from (c.base + c.length) after (omega (arith, ascending.0)) ascending.1
-rises_without from (b ∷ before) after c ascending = (ascending.0, rises_without (b.base + b.length) before after c ascending.1)
+ascending_without from [] after c ascending = ascending_lower from (c.base + c.length) after (omega (arith, ascending.0)) ascending.1
+ascending_without from (b ∷ before) after c ascending = (ascending.0, ascending_without (b.base + b.length) before after c ascending.1)
 
 -- in an ascending list the other chunks lie beside each one
 lie_beside : (from : ℕ) (before after : List Chunk) (c : Chunk) → IsAscending from (before ++ c ∷ after)
     → Each (LiesBeside c) (before ++ after)
 lie_beside from [] after c ascending = each_map (λ (d : Chunk). c.base + c.length ≤ d.base) (LiesBeside c) (λ d h. inr h) after
-    (rises_above (c.base + c.length) after ascending.1)
+    (ascending_above (c.base + c.length) after ascending.1)
 lie_beside from (b ∷ before) after c ascending = (
   inl (each_middle (λ (d : Chunk). b.base + b.length ≤ d.base) before after c
-      (rises_above (b.base + b.length) (before ++ c ∷ after) ascending.1)),
+      (ascending_above (b.base + b.length) (before ++ c ∷ after) ascending.1)),
   lie_beside (b.base + b.length) before after c ascending.1,
 )
 
@@ -82,7 +82,7 @@ region_freed marked before after c region dead =
         closed =
             freed_closed marked (span_of c) f;
       };
-      ascending = rises_without 65536 before after c region.ascending;
+      ascending = ascending_without 65536 before after c region.ascending;
       placed = each_out (λ (d : Chunk). HasGoodSpan d.base (limit_of marked.bytes) d.length) before after c region.placed;
       live =
           each_both (LiesBeside c) (λ (d : Chunk). IsLive d.state → HoldsValid marked d) (λ (d : Chunk). IsLive d.state

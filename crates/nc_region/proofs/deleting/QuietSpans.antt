@@ -10,7 +10,7 @@ use Rattle.nc_text.proofs.Offered.{no_step_from_stop, step_borrowed, marked_with
 use Rattle.nc_list.specs.declared.chunk.Chunk.{Chunk}
 use Rattle.nc_list.specs.declared.chunk.ChunkState.{ChunkState}
 use Rattle.nc_list.specs.declared.chunk.ChunkState.TheVariants.{Live, Retired}
-use Rattle.nc_list.proofs.Offered.{each_map, each_both, rises_above}
+use Rattle.nc_list.proofs.Offered.{each_map, each_both, ascending_above}
 use Rattle.nc_acts.specs.Chunks.{HasGoodSpan, IsClosedChunk}
 use Rattle.nc_region.specs.Each.{Each}
 use Rattle.nc_region.specs.Quiet.{RetiredSpan, IsQuiet, with_retired, retired_spans, AreQuiet}
@@ -57,7 +57,7 @@ retired_free : (from : ℕ) (chunks : List Chunk) → IsAscending from chunks
     → Each (λ (r : Chunk). (IsLive r.state → ⊥) → (at : ℕ) → IsInChunk r at → IsFree chunks at) chunks
 retired_free from [] ascending = tt
 retired_free from (c ∷ rest) ascending =
-    let above = rises_above (c.base + c.length) rest ascending.1 in (
+    let above = ascending_above (c.base + c.length) rest ascending.1 in (
       λ dead at inside. (
         λ live here. dead live,
         each_map (λ (d : Chunk). c.base + c.length ≤ d.base) (λ (d : Chunk). IsLive d.state

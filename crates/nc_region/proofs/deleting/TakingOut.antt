@@ -1,6 +1,6 @@
 -- Taking the chunks that are due out of the list, and unmarking them.
 use Rattle.std.proofs.Common.{◌≡◌, ℕ, suc, ◌+◌, ◌<◌, Bool, true, false, not, cond, List, [], ◌∷◌, ◌++◌, length, refl, sym, ap, ◌∙◌, subst}
-use Rattle.std.proofs.Common.{arith, append_assoc, append-nil, length-append, get_or, take, drop, drop-cons}
+use Rattle.std.proofs.Common.{arith, append_assoc, append-nil, get_or, take, drop, drop-cons}
 use Rattle.std.proofs.Math.Seq.{take-suc}
 use Rattle.std.proofs.lemmas.List.{map-append}
 use Rattle.nc_text.specs.MarkedText.{MarkedText, without_marks}
@@ -18,7 +18,7 @@ use Rattle.nc_region.specs.Region.{IsRegion}
 use Rattle.nc_region.specs.machinery.Freeing.{AreTakenOut, AreUnmarked, AreFreed, AllFreed}
 use Rattle.nc_region.proofs.events.Unmarking.{MayFree}
 use Rattle.nc_region.proofs.deleting.Freed.{span_of, dead_is_quiet, frees, region_freed}
-use Rattle.nc_region.proofs.deleting.Due.{due_dead, kept_and_freed}
+use Rattle.nc_region.proofs.deleting.Due.{due_dead}
 use Rattle.nc_acts.proofs.Offered.{logs_none, logs_acts}
 
 -- ---- spans that are unmarked
@@ -197,19 +197,6 @@ freed_taken least old new taken t =
     ∙ ap (λ (z : List Chunk). taken ++ z)
     (sym (ap (λ (z : List Chunk). freed least z) t.now
     ∙ (freed_append least (kept least t.front) t.back ∙ ap (λ (z : List Chunk). z ++ freed least t.back) (freed_kept least t.front))))))
-
--- the list is shorter by the chunks that were taken
-pub taken_shorter : (least : ℕ) (old new taken : List Chunk) → AreTaken least old new taken → length new + length taken ≡ length old
-taken_shorter least old new taken t =
-    omega (
-      arith,
-      ap (λ (z : List Chunk). length z) t.was,
-      length-append t.front t.back,
-      ap (λ (z : List Chunk). length z) t.now,
-      length-append (kept least t.front) t.back,
-      ap (λ (z : List Chunk). length z) t.taken_are,
-      kept_and_freed least t.front,
-    )
 
 -- where no chunk is taken, none is due afterwards
 pub none_due : (least : ℕ) (old new taken : List Chunk) → AreTaken least old new taken → taken ≡ [] → freed least new ≡ []

@@ -48,11 +48,6 @@ pub record Keeps (w : World) : Type 0 where
   pub bounds : length w.keeper.bounds ≡ length w.seats
   pub seats : SeatsKeep w w.marked.marks w.retired w.keeper.generation
 
--- what follows from P for each holds of what is there where P does
-pub if_map : {X : Type 0} (o : Option X) (P Q : X → Type 0) → ((x : X) → P x → Q x) → IfSome o P → IfSome o Q
-if_map None P Q f h = tt
-if_map (Some x) P Q f h = f x h
-
 -- where there is nothing, any property holds of what is there
 pub if_none : {X : Type 0} (o : Option X) (P : X → Type 0) → o ≡ None → IfSome o P
 if_none {X} o P is = subst (λ (z : Option X). IfSome z P) (sym is) tt

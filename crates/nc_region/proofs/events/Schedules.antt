@@ -3,6 +3,7 @@ use Rattle.std.proofs.Common.{◌≡◌, ℕ, ◌<◌, false, All, List, [], ◌
 use Rattle.std.specs.Prelude.{IfSome}
 use Rattle.std.proofs.lemmas.List.{length-replicate, get_or-replicate}
 use Rattle.std.proofs.lemmas.List.Elements.{All-nil, All-from_get_or}
+use Rattle.std.proofs.lemmas.Option.{IfSome_then}
 use Rattle.nc_decode.specs.Bundles.{IsLawfulLimit}
 use Rattle.nc_text.specs.Machine.{IsSafe}
 use Rattle.nc_text.proofs.Offered.{IsKnown, safe_if_known, new_is_text}
@@ -14,7 +15,7 @@ use Rattle.nc_region.specs.schedules.World.{IsUsable, AllStandSafe, NoneIsWithin
 use Rattle.nc_region.specs.schedules.Events.{Event, Steps, Enters, Exits, Takes, Sees, Stores, Leaves, Puts, Serializes, Marks, Bumps, Retires, Frees}
 use Rattle.nc_region.specs.schedules.Events.{Looks}
 use Rattle.nc_region.specs.schedules.Events.{IsAllowed, after, world_after, AreAllowed}
-use Rattle.nc_region.proofs.events.Invariant.{Keeps, SeatKeeps, if_map}
+use Rattle.nc_region.proofs.events.Invariant.{Keeps, SeatKeeps}
 use Rattle.nc_region.proofs.events.Seeing.{only_as_it_stands}
 use Rattle.nc_region.proofs.events.ThreadEvents.{keeps_steps, keeps_enters, keeps_exits, keeps_takes, keeps_sees, keeps_stores, keeps_leaves}
 use Rattle.nc_region.proofs.events.WriterEvents.{keeps_puts, keeps_serializes, keeps_marks, keeps_bumps, keeps_retires, keeps_frees, keeps_looks}
@@ -99,8 +100,10 @@ keeps_reached limit seats events lawful allowed = keeps_all (first_world limit s
 pub stand_safe : (w : World) → Keeps w → AllStandSafe w
 stand_safe w keeps =
     All-from_get_or (λ (seat : Seat). IfSome seat.inside (λ now. (view : List ℕ) → IsViewOf w view → IsSafe view now)) w.seats first_seat
-    (λ k lt. if_map (seat_at w k).inside (IsKnown w.marked.marks) (λ now. (view : List ℕ) → IsViewOf w view → IsSafe view now)
-    (λ now known view v. safe_if_known view w.marked.marks (keeps.closed view v) now known) (keeps.seats k lt).stands)
+    (λ k lt. IfSome_then (seat_at w k).inside
+    {P = (IsKnown w.marked.marks)}
+    {Q = (λ now. (view : List ℕ) → IsViewOf w view → IsSafe view now)}
+    (keeps.seats k lt).stands (λ now known view v. safe_if_known view w.marked.marks (keeps.closed view v) now known))
 
 -- after every event of an allowed schedule each thread stands on a safe state
 pub safe_after : (limit seats : ℕ) (events later : List Event) → IsLawfulLimit limit

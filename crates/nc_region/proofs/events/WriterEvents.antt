@@ -6,8 +6,10 @@ use Rattle.std.proofs.lemmas.Bool.{false≢true}
 use Rattle.std.proofs.lemmas.Bool.Decides.{eqb_tells, nat_tests}
 use Rattle.std.proofs.lemmas.List.{length-set, get_or-set_same, get_or-set_other, take-append-drop}
 use Rattle.std.proofs.lemmas.List.Elements.{All-weaker, All-cons, All-filter, All-contains, All-contains_itself, All-from_get_or, filter_passes}
+use Rattle.std.proofs.lemmas.Option.{IfSome_then}
 use Rattle.nc_decode.specs.declared.instruction.Mark.{Mark}
 use Rattle.nc_decode.specs.declared.instruction.Mark.TheVariants.{Unmarked, Plain, After}
+use Rattle.nc_decode.proofs.Offered.{not_is}
 use Rattle.nc_text.specs.Machine.{State}
 use Rattle.nc_text.specs.Marks.{Admits, mark_at}
 use Rattle.nc_text.specs.MarkedText.{MarkedText, with_marks, with_span, StaysOrPlain}
@@ -15,7 +17,7 @@ use Rattle.nc_text.proofs.Offered.{IsKnown, length-with_span}
 use Rattle.nc_region.specs.schedules.Spans.{RetiredSpan, IsWithin, IsShut}
 use Rattle.nc_region.specs.schedules.World.{World, Seat, first_seat, seat_at, IsViewOf, IsWhole, AreApart, IsUsable, is_same_span, NoneIsWithin}
 use Rattle.nc_region.specs.schedules.Events.{Puts, Serializes, Marks, Bumps, Retires, Frees, Looks, IsAllowed, after, new_span}
-use Rattle.nc_region.proofs.events.Invariant.{Keeps, SeatKeeps, OthersApart, CameBefore, if_map, some_at, none_is_some}
+use Rattle.nc_region.proofs.events.Invariant.{Keeps, SeatKeeps, OthersApart, CameBefore, some_at, none_is_some}
 use Rattle.nc_region.proofs.events.Unmarking.{MayFree, freed_marks, freed_long, freed_stays, freed_closed, freed_shut}
 use Rattle.nc_region.proofs.events.Seeing.{as_it_stands, serialized_view}
 
@@ -115,7 +117,10 @@ keeps_marks w at marks keeps allowed =
           let s = keeps.seats k lt in
           seat_moves w.marked.marks (with_marks w.marked at marks).marks w.retired w.retired w.keeper.generation w.keeper.generation
           (slice_index w.keeper.bounds k) (seat_at w k) (omega arith)
-          (if_map (seat_at w k).inside (IsKnown w.marked.marks) (IsKnown (with_marks w.marked at marks).marks) still s.stands) s.early s;
+          (IfSome_then (seat_at w k).inside
+          {P = (IsKnown w.marked.marks)}
+          {Q = (IsKnown (with_marks w.marked at marks).marks)}
+          s.stands still) s.early s;
     }
 
 -- the world's invariant stays when the generation grows
@@ -139,17 +144,12 @@ all_two : {X : Type 0} (P Q R : X → Type 0) (xs : List X) → ((x : X) → P x
 all_two {X} P Q R xs f ps qs =
     All-weaker (Contains xs) R (λ x has. f x (All-contains P xs x ps has) (All-contains Q xs x qs has)) xs (All-contains_itself xs)
 
--- what isn't true is false
-not_true : (b : Bool) → not b ≡ true → b ≡ false
-not_true true is = absurd (false≢true is)
-not_true false is = refl
-
 -- spans that are apart are so both ways
 apart_sym : (one other : RetiredSpan) → AreApart one other → AreApart other one
 apart_sym one other apart = elim apart [ inl below ↦ inr below | inr above ↦ inl above ]
 
 -- a span is the same as itself
-same_as_itself : (span : RetiredSpan) → is_same_span span span ≡ true
+pub same_as_itself : (span : RetiredSpan) → is_same_span span span ≡ true
 same_as_itself span = grind (arith, nat_tests)
 
 -- a span apart from the others joins them
@@ -189,10 +189,11 @@ keeps_retires w base len keeps allowed =
           let s = keeps.seats k lt in
           seat_moves w.marked.marks w.marked.marks w.retired (new_span w base len ∷ w.retired) w.keeper.generation
           (w.keeper.generation + 1) (slice_index w.keeper.bounds k) (seat_at w k) (omega arith) s.stands
-          (if_map (seat_at w k).inside (CameBefore (seat_at w k).pass.since w.retired)
-          (CameBefore (seat_at w k).pass.since (new_span w base len ∷ w.retired))
-          (λ now came. All-cons (λ (span : RetiredSpan). IsWithin span now.place → (seat_at w k).pass.since < span.stamp)
-          (new_span w base len) w.retired (λ within. omega (arith, s.since)) came) s.early)
+          (IfSome_then (seat_at w k).inside
+          {P = (CameBefore (seat_at w k).pass.since w.retired)}
+          {Q = (CameBefore (seat_at w k).pass.since (new_span w base len ∷ w.retired))}
+          s.early (λ now came. All-cons (λ (span : RetiredSpan). IsWithin span now.place → (seat_at w k).pass.since < span.stamp)
+          (new_span w base len) w.retired (λ within. omega (arith, s.since)) came))
           s;
     }
 
@@ -271,10 +272,11 @@ keeps_frees w span keeps allowed =
           (filter (λ other. not (is_same_span span other)) w.retired) w.keeper.generation w.keeper.generation
           (slice_index w.keeper.bounds k) (seat_at w k) (omega arith)
           (known_after w span f (seat_at w k).inside s.stands (seats_are_out w span keeps allowed k lt))
-          (if_map (seat_at w k).inside (CameBefore (seat_at w k).pass.since w.retired)
-          (CameBefore (seat_at w k).pass.since (filter (λ other. not (is_same_span span other)) w.retired))
-          (λ now came. All-filter (λ other. not (is_same_span span other))
-          (λ (other : RetiredSpan). IsWithin other now.place → (seat_at w k).pass.since < other.stamp) w.retired came) s.early)
+          (IfSome_then (seat_at w k).inside
+          {P = (CameBefore (seat_at w k).pass.since w.retired)}
+          {Q = (CameBefore (seat_at w k).pass.since (filter (λ other. not (is_same_span span other)) w.retired))}
+          s.early (λ now came. All-filter (λ other. not (is_same_span span other))
+          (λ (other : RetiredSpan). IsWithin other now.place → (seat_at w k).pass.since < other.stamp) w.retired came))
           s;
     }
 
@@ -340,7 +342,7 @@ others_apart w span keeps has =
     w.retired span keeps.apart has in
     all_two (λ (other : RetiredSpan). not (is_same_span span other) ≡ true) (λ (other : RetiredSpan). is_same_span span other ≡ false → AreApart span other)
     (AreApart span) (filter (λ other. not (is_same_span span other)) w.retired)
-    (λ other kept apart. apart (not_true (is_same_span span other) kept))
+    (λ other kept apart. apart (not_is (is_same_span span other) kept))
     (filter_passes (λ other. not (is_same_span span other)) w.retired)
     (All-filter (λ other. not (is_same_span span other)) (λ (other : RetiredSpan). is_same_span span other ≡ false → AreApart span other)
     w.retired apart_if_other)

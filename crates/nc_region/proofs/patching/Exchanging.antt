@@ -9,7 +9,7 @@ use Rattle.nc_decode.specs.Transfers.{is_direct, is_indirect, target}
 use Rattle.nc_decode.proofs.Offered.{spells_some}
 use Rattle.nc_vet.specs.Chunk.{Piece, MarkedChunk, code_of, place, FollowsMask, IsEntry, IsTarget, IsValid, AreSound, AreTargets, IsLength}
 use Rattle.nc_vet.specs.Chunk.{IsInRange, mark_of, instr_marks, marks_of}
-use Rattle.nc_vet.proofs.Offered.{place-append, marks_of-append}
+use Rattle.nc_vet.proofs.Offered.{place-append, marks_of-append, split_none}
 use Rattle.nc_region.specs.Patch.{GoesOnIndirectly}
 
 -- of a list parted at two elements: they are the same, or one stands before the other
@@ -99,18 +99,13 @@ target_stays base limit before after o n to len same (inr (inl under, start, bel
 target_stays base limit before after o n to len same (inr (inr past, start, below)) =
     inr (inr (omega (arith, past, same_place before after o n len)), start, below)
 
--- no list ends in a piece of its own
-none_here : (m : List Piece) (p : Piece) (rest : List Piece) → [] ≡ m ++ p ∷ rest → ⊥
-none_here [] p rest e = cc
-none_here (x ∷ m) p rest e = cc
-
 -- the mask in front of a further instruction stays
 mask_stays : (before : List Piece) (o n x : Piece) (m : List Piece) (reg : ℕ) → length o.bytes ≡ length n.bytes
     → FollowsMask (before ++ o ∷ x ∷ m) reg → FollowsMask (before ++ n ∷ x ∷ m) reg
 mask_stays before o n x m reg len f =
     elim (where_is before (x ∷ m) f.earlier [] o f.mask f.last) [
       | Here a b c ↦ absurd cc
-      | Earlier k a b ↦ absurd (none_here k o (x ∷ m) b)
+      | Earlier k a b ↦ absurd (split_none k (x ∷ m) o b)
       | Later k a b ↦ record {
         earlier = before ++ n ∷ k;
         mask = f.mask;
@@ -174,8 +169,8 @@ mask_kept before o n reg len masks f =
         masks = masks ∙ (ap (λ (z : Piece). z.instr.masks) b ∙ f.masks);
         together = ap (λ (z : List Piece). place z / 32) a ∙ (f.together ∙ ap (λ (j : ℕ). j / 32) (same_place before [] o n len));
       }
-      | Earlier k a b ↦ absurd (none_here k o [] b)
-      | Later k a b ↦ absurd (none_here k f.mask [] b)
+      | Earlier k a b ↦ absurd (split_none k [] o b)
+      | Later k a b ↦ absurd (split_none k [] f.mask b)
     ]
 
 -- a pair behind the exchanged instruction stays one

@@ -1,12 +1,8 @@
 -- An instruction of a chunk ends at the next marked place of its bundle, or else at the end of the bundle.
-use Rattle.std.proofs.Common.{◌≡◌, ◌≢◌, ℕ, zero, suc, ◌+◌, ◌-◌, ◌*◌, ◌/◌, ◌%◌, ◌^◌, ◌<◌, ◌≤◌, List, ◌∷◌, ◌++◌, length, get_or, replicate}
-use Rattle.std.proofs.Common.{refl, sym, ◌∙◌, ap, arith, append_assoc, ⊎_elim, div-add-mod'}
-use Rattle.std.specs.Int.{bit_at}
+use Rattle.std.proofs.Common.{◌≡◌, ◌≢◌, ℕ, zero, suc, ◌+◌, ◌-◌, ◌%◌, ◌<◌, ◌≤◌, List, ◌∷◌, ◌++◌, length, get_or, replicate}
+use Rattle.std.proofs.Common.{refl, sym, ◌∙◌, ap, arith, append_assoc, ⊎_elim}
 use Rattle.std.proofs.lemmas.Bool.{cases_lt}
-use Rattle.std.proofs.lemmas.Nat.{pow_pos}
-use Rattle.std.proofs.Math.Nat.{mod-lt}
 use Rattle.std.proofs.lemmas.List.{get_or-append-add, get_or_append_left, get_or-replicate, length-replicate}
-use Rattle.std.proofs.lemmas.Nat.Bits.{bit_at_cat_high}
 use Rattle.nc_decode.specs.declared.instruction.Mark.{Mark}
 use Rattle.nc_decode.specs.declared.instruction.Mark.TheVariants.{Unmarked, Plain, After}
 use Rattle.nc_decode.specs.Transfers.{is_indirect}
@@ -19,15 +15,6 @@ use Rattle.nc_list.specs.declared.chunk.Chunk.{Chunk}
 use Rattle.nc_region.specs.machinery.PatchSteps.{Begins}
 use Rattle.nc_region.proofs.patching.Standing.{Standing, lies, standing, next_begins}
 use Rattle.nc_region.proofs.patching.Runs.{some_mark}
-
--- a bit of what is left after some low bits are cut off
-pub bit_behind : (places from k : ℕ) → bit_at places (from + k) ≡ bit_at (places / 2 ^ from) k
-bit_behind places from k =
-    let parts : places / 2 ^ from * 2 ^ from + places % 2 ^ from ≡ places = div-add-mod' places (2 ^ from) in
-    let moved : from + k - from ≡ k = omega arith in
-    ap (λ (n : ℕ). bit_at n (from + k)) (sym parts)
-    ∙ (bit_at_cat_high (places / 2 ^ from) from (places % 2 ^ from) (from + k) (mod-lt places (pow_pos from)) (omega arith)
-    ∙ ap (λ (j : ℕ). bit_at (places / 2 ^ from) j) moved)
 
 -- a mark whose bit isn't set is none
 pub no_mark : (m : Mark) → mark_bit m ≡ 0 → m ≡ Unmarked

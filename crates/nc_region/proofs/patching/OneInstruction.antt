@@ -1,5 +1,5 @@
 -- A patch of a single instruction.
-use Rattle.std.proofs.Common.{◌≡◌, ℕ, ◌-◌, List, [], ◌∷◌, ◌++◌, length, take, drop, Some, refl}
+use Rattle.std.proofs.Common.{◌≡◌, ℕ, ◌-◌, List, [], ◌∷◌, ◌++◌, length, get_or, take, drop, Some, refl}
 use Rattle.std.proofs.Common.{sym, subst, ◌∙◌, ap, arith, append-nil}
 use Rattle.std.specs.Prelude.{IsTrue, ◌↔◌}
 use Rattle.std.proofs.lemmas.List.{length-append, length-take, length-drop, nil_from_length, take_all}
@@ -13,7 +13,9 @@ use Rattle.nc_vet.proofs.Offered.{split_none}
 use Rattle.nc_text.specs.Places.{limit_of}
 use Rattle.nc_text.specs.MarkedText.{MarkedText}
 use Rattle.nc_list.specs.declared.chunk.Chunk.{Chunk}
-use Rattle.nc_region.specs.Patch.{AreBytesOf, IsRun, SparesPair, GoWell, LeavesPairs, KeepsTargets}
+use Rattle.nc_acts.specs.declared.acts.Act.TheVariants.{Put}
+use Rattle.nc_acts.specs.declared.acts.Entry.TheVariants.{Did}
+use Rattle.nc_region.specs.Patch.{AreBytesOf, IsRun, SparesPair, GoWell, LeavesPairs, KeepsTargets, log_of_instruction}
 use Rattle.nc_region.specs.machinery.PatchSteps.{RunsAlong}
 use Rattle.nc_region.proofs.patching.NewInstructions.{none_of_none, parted, spelled_cons}
 use Rattle.nc_region.proofs.patching.Sparing.{same_piece, spares_from, spares_to}
@@ -101,3 +103,9 @@ one_keeps marked c at bytes i r x = (
   λ one. subst (GoWell (IsTarget c.base (limit_of marked.bytes) r.holds.valid.pieces) at) (sym x.news) (one, tt),
   λ all. (subst (GoWell (IsTarget c.base (limit_of marked.bytes) r.holds.valid.pieces) at) x.news all).0,
 )
+
+-- the log of an instruction of one byte
+pub log_of_one : (at : ℕ) (bytes : List ℕ) → length bytes ≡ 1 → log_of_instruction at bytes ≡ Did (Put at (get_or bytes 0 0)) ∷ []
+log_of_one at [] one = absurd (omega (arith, one))
+log_of_one at (byte ∷ []) one = refl
+log_of_one at (byte ∷ next ∷ rest) one = absurd (omega (arith, one))

@@ -18,7 +18,8 @@ use Rattle.nc_region.specs.declared.fault.ModifyFault.{ModifyFault}
 use Rattle.nc_region.specs.declared.fault.ModifyFault.TheVariants.{BadSpan, NotLive, NotPermitted, Boundaries, PairTouched, BadTarget}
 use Rattle.nc_region.proofs.chunks.AgreesOutside.{AgreesOutside, still_holds}
 use Rattle.nc_acts.proofs.Offered.{span_before, span_behind}
-use Rattle.nc_region.proofs.patching.Runs.{apart_by_index, held_same}
+use Rattle.nc_list.proofs.Offered.{ascending_apart}
+use Rattle.nc_region.proofs.patching.Runs.{held_same}
 
 -- a chunk of the list is patched
 pub record Patches (old new : MarkedText) (chunks : List Chunk) (c : Chunk) (at : ℕ) (bytes : List ℕ) : Type 0 where
@@ -66,7 +67,7 @@ region_patched old new chunks c at bytes p =
           (λ (before : k < p.held.0.0). still_holds old new c (get_or chunks k c) a
           (inl (omega (
             arith,
-            apart_by_index 65536 chunks c p.region.ascending k p.held.0.0 before p.held.0.1,
+            ascending_apart 65536 chunks k p.held.0.0 c p.region.ascending before p.held.0.1,
             ap (λ (x : Chunk). x.base) is,
           ))) h)
           (λ (from : p.held.0.0 ≤ k).
@@ -74,7 +75,7 @@ region_patched old new chunks c at bytes p =
           (λ (behind : p.held.0.0 < k). still_holds old new c (get_or chunks k c) a
           (inr (omega (
             arith,
-            apart_by_index 65536 chunks c p.region.ascending p.held.0.0 k behind lt,
+            ascending_apart 65536 chunks p.held.0.0 k c p.region.ascending behind lt,
             ap (λ (x : Chunk). x.base + x.length) is,
           ))) h)
           (λ (to : k ≤ p.held.0.0). (let same : p.held.0.0 ≡ k = omega (arith, from, to) in

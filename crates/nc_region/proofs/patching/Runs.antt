@@ -1,5 +1,5 @@
 -- A run of instructions of a chunk, by what stands from its first one on.
-use Rattle.std.proofs.Common.{◌≡◌, ℕ, ◌+◌, ◌-◌, ◌<◌, ◌≤◌, zero, suc, Bool, true, false, cond, List, [], ◌∷◌, ◌++◌, length, get_or, refl}
+use Rattle.std.proofs.Common.{◌≡◌, ℕ, ◌+◌, ◌-◌, ◌<◌, Bool, true, false, cond, List, [], ◌∷◌, ◌++◌, length, get_or, refl}
 use Rattle.std.proofs.Common.{sym, ◌∙◌, ap, arith}
 use Rattle.std.proofs.lemmas.List.{get_or_default}
 use Rattle.nc_decode.specs.declared.instruction.Mark.{Mark}
@@ -18,7 +18,7 @@ use Rattle.nc_region.specs.machinery.PatchSteps.{Begins, Along, RunsAlong}
 use Rattle.nc_region.proofs.patching.Standing.{all_long, standing}
 use Rattle.nc_region.specs.Each.{Each}
 use Rattle.nc_region.specs.Deletion.{HasLive}
-use Rattle.nc_region.proofs.chunks.Ascending.{rises_get}
+use Rattle.nc_list.proofs.Offered.{ascending_apart}
 
 -- where a place of the chunk is marked, an instruction begins
 pub begins_marked : (marked : MarkedText) (c : Chunk) (at : ℕ) → HoldsValid marked c → IsInChunk c at
@@ -120,16 +120,6 @@ run_marked marked c at new t inside r e =
 
 -- ---- a place lies in one chunk
 
--- a chunk ends at or below each later one
-pub apart_by_index : (from : ℕ) (chunks : List Chunk) (d : Chunk) → IsAscending from chunks → (i j : ℕ) → i < j → j < length chunks
-    → (get_or chunks i d).base + (get_or chunks i d).length ≤ (get_or chunks j d).base
-apart_by_index from [] d ascending i j le lt = absurd (omega arith)
-apart_by_index from (c ∷ rest) d ascending zero zero le lt = absurd (omega arith)
-apart_by_index from (c ∷ rest) d ascending (suc i) zero le lt = absurd (omega arith)
-apart_by_index from (c ∷ rest) d ascending zero (suc j) le lt = rises_get (c.base + c.length) rest j d ascending.1 (omega arith)
-apart_by_index from (c ∷ rest) d ascending (suc i) (suc j) le lt =
-    apart_by_index (c.base + c.length) rest d ascending.1 i j (omega arith) (omega arith)
-
 -- of two live chunks that hold a place none is before the other
 none_before : (chunks : List Chunk) (at : ℕ) (c d : Chunk) → IsAscending 65536 chunks
     → (a : IsHeldBy chunks at c) (b : IsHeldBy chunks at d)
@@ -139,7 +129,7 @@ none_before chunks at c d ascending a b lt =
     let is_d : get_or chunks b.0.0 c ≡ d = get_or_default chunks b.0.0 c d b.0.1 ∙ b.0.2 in
     omega (
       arith,
-      apart_by_index 65536 chunks c ascending a.0.0 b.0.0 lt b.0.1,
+      ascending_apart 65536 chunks a.0.0 b.0.0 c ascending lt b.0.1,
       ap (λ (x : Chunk). x.base + x.length) is_c,
       ap (λ (x : Chunk). x.base) is_d,
       a.2.1,

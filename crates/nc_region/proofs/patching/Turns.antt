@@ -1,6 +1,7 @@
 -- A patch is made one instruction after the other.
-use Rattle.std.proofs.Common.{◌≡◌, ℕ, ◌+◌, ◌-◌, ◌<◌, ◌≤◌, Bool, true, false, cond, List, [], ◌∷◌, ◌++◌, length, get_or, zero, suc, ◌&&◌}
+use Rattle.std.proofs.Common.{◌≡◌, ℕ, ◌+◌, ◌-◌, ◌<◌, ◌≤◌, Bool, true, cond, List, [], ◌∷◌, ◌++◌, length, get_or, drop, zero, suc, ◌&&◌}
 use Rattle.std.proofs.Common.{◌==◌, refl, sym, subst, ◌∙◌, ap, arith, append_assoc, eqb-true}
+use Rattle.std.proofs.lemmas.Bool.{and_parts, eq-eqb}
 use Rattle.std.proofs.lemmas.List.{length-append, get_or_append_left, get_or-append_right, ext_get_or}
 use Rattle.nc_decode.specs.declared.instruction.Instr.{Instr}
 use Rattle.nc_decode.specs.Spelling.{Spells}
@@ -182,10 +183,11 @@ spans_join text at xs ys low fits =
           ∙ sym (span_behind text at (xs ++ ys) (65536 + j) 0 low fits3 (omega (arith, f, both))))
     ]))
 
--- where the conjunction of two tests is true, each of them is
-both_true : (a b : Bool) → (a && b) ≡ true → (a ≡ true) × (b ≡ true)
-both_true true b e = (refl, e)
-both_true false b e = absurd cc
+-- where the first byte stands in the text, bytes do if those behind it do
+pub stands_first : (text : List ℕ) (at : ℕ) (bytes : List ℕ) → 0 < length bytes → byte_at text at ≡ get_or bytes 0 0
+    → stands_there text at bytes ≡ stands_there text (at + 1) (drop 1 bytes)
+stands_first text at [] some first = absurd (omega (arith, some))
+stands_first text at (byte ∷ rest) some first = ap (λ (z : Bool). z && stands_there text (at + 1) rest) (eq-eqb (byte_at text at) byte first)
 
 -- bytes that pass the test that they stand at a place stand there
 pub stands_bytes : (text : List ℕ) (at : ℕ) (bytes : List ℕ) → stands_there text at bytes ≡ true → (k : ℕ) → k < length bytes
@@ -193,10 +195,10 @@ pub stands_bytes : (text : List ℕ) (at : ℕ) (bytes : List ℕ) → stands_th
 stands_bytes text at [] e k lt = absurd (omega arith)
 stands_bytes text at (b ∷ rest) e zero lt =
     let z : at + 0 ≡ at = omega arith in
-    ap (byte_at text) z ∙ eqb-true (byte_at text at) b (both_true (byte_at text at == b) (stands_there text (at + 1) rest) e).0
+    ap (byte_at text) z ∙ eqb-true (byte_at text at) b (and_parts (byte_at text at == b) (stands_there text (at + 1) rest) e).0
 stands_bytes text at (b ∷ rest) e (suc k) lt =
     let z : at + suc k ≡ at + 1 + k = omega arith in
-    ap (byte_at text) z ∙ stands_bytes text (at + 1) rest (both_true (byte_at text at == b) (stands_there text (at + 1) rest) e).1 k
+    ap (byte_at text) z ∙ stands_bytes text (at + 1) rest (and_parts (byte_at text at == b) (stands_there text (at + 1) rest) e).1 k
     (omega arith)
 
 -- bytes that stand there already change nothing

@@ -7,13 +7,12 @@ ghost use Rattle.nc_decode.specs.declared.instruction.Mark.{Mark};
 ghost use Rattle.nc_decode.specs.Front.{first_instruction};
 ghost use Rattle.nc_decode.specs.Transfers.{is_direct, target};
 ghost use Rattle.nc_vet.specs.Chunk.{Piece, IsTarget, mark_of};
-ghost use Rattle.nc_text.specs.Marks.{mark_at};
-ghost use Rattle.nc_text.specs.Places.{instruction_at, limit_of, InRegion};
+ghost use Rattle.nc_text.specs.Places.{instruction_at, limit_of};
 ghost use Rattle.nc_text.specs.MarkedText.{IsText};
 ghost use Rattle.nc_list.specs.declared.chunk.Chunk.{Chunk};
 ghost use Rattle.nc_region.specs.Region.{HoldsValid, IsInChunk};
 ghost use Rattle.nc_region.specs.Patch.{IsPatchSpan, AreBytesOf, AreInstructions, IsRun, SparesPair, SparesPairs, GoWell, stands_there};
-ghost use Rattle.nc_region.specs.machinery.PatchSteps.{Begins, Along, RunsAlong, is_after, KeepsTransfer, CanPatch, MayRefuseIn};
+ghost use Rattle.nc_region.specs.machinery.PatchSteps.{Begins, Along, RunsAlong, is_after, KeepsTransfer, CanPatch, LiesInValid, MayRefuseIn};
 
 use crate::fault::ModifyFault;
 use nc_acts::Acts;
@@ -22,7 +21,7 @@ use nc_list::Chunk;
 use nc_text::lowest_place;
 
 /// The mark stands for some state.
-pub(crate) fn is_marked(mark: Mark) -> bool
+fn is_marked(mark: Mark) -> bool
     ensures { IsTrue result ↔ (mark ≢ Mark.Unmarked) }
 {
     !matches!(mark, Mark::Unmarked)
@@ -79,7 +78,7 @@ fn steps_to_next(places: u32, from: u32) -> u32
 
 /// The length of the chunk's instruction that begins at this address. It ends at the next marked place of its bundle, or else
 /// at the end of the bundle, so no byte is read.
-pub(crate) fn length_at<A: Acts>(acts: &A, chunk: Chunk, at: u32) -> u32
+fn length_at<A: Acts>(acts: &A, chunk: Chunk, at: u32) -> u32
     requires whole { IsText (A.marked acts.now) }
     requires begins { Begins (A.marked acts.now) chunk at }
     requires inside { at < chunk.base + chunk.length }
@@ -153,13 +152,7 @@ pub(crate) fn stands_there<A: Acts>(acts: &A, at: u32, bytes: &[u8]) -> bool
 }
 
 /// The new instruction leaves the pairs of the chunk alone. It is as long as the instruction of the chunk that it replaces.
-pub(crate) fn spares_pair<A: Acts>(
-    acts: &A,
-    chunk: Chunk,
-    at: u32,
-    instr: Instr,
-    bytes: &[u8],
-) -> bool
+fn spares_pair<A: Acts>(acts: &A, chunk: Chunk, at: u32, instr: Instr, bytes: &[u8]) -> bool
     requires whole { IsText (A.marked acts.now) }
     requires begins { Begins (A.marked acts.now) chunk at }
     requires some { 0 < length bytes.now }
@@ -215,7 +208,7 @@ fn is_good<A: Acts>(acts: &A, chunk: Chunk, to: u32) -> bool
 }
 
 /// The instruction isn't a direct transfer, or its target is one that a direct transfer of the chunk may have.
-pub(crate) fn goes_well<A: Acts>(acts: &A, chunk: Chunk, instr: Instr, at: u32) -> bool
+fn goes_well<A: Acts>(acts: &A, chunk: Chunk, instr: Instr, at: u32) -> bool
     requires whole { IsText (A.marked acts.now) }
     requires holds { HoldsValid (A.marked acts.now) chunk }
     requires fits { at + instr.len < 2 ^ 32 }
@@ -276,4 +269,61 @@ pub(crate) fn judge_each<A: Acts>(
         return Err(ModifyFault::BadTarget);
     }
     Ok(())
+}
+
+/// The instruction that is all of the bytes, if they are one.
+pub(crate) fn single(bytes: &[u8]) -> Option<Instr>
+    ensures { IfSome result (λ i. (first_instruction bytes.now ≡ Some i) × (i.len ≡ length bytes.now)) }
+{
+    match decode(bytes) {
+        Ok(instr) if instr.len as usize == bytes.len() => Some(instr),
+        _ => None,
+    }
+}
+
+/// Whether a single instruction may come in the place of one of the chunk: the first reason why not. The mark is that of the
+/// address.
+pub(crate) fn judge_single<A: Acts>(
+    acts: &A,
+    chunk: Chunk,
+    at: u32,
+    mark: Mark,
+    instr: Instr,
+    new: &[u8],
+) -> Result<(), ModifyFault>
+    requires place { LiesInValid (A.marked acts.now) chunk at mark }
+    requires ends { at + length new.now ≤ chunk.base + chunk.length }
+    requires first { first_instruction new.now ≡ Some instr }
+    requires only { instr.len ≡ length new.now }
+    ensures can { OnOk result (CanPatch (A.marked acts.now) chunk at new.now) }
+    ensures refused { IfErr result (MayRefuseIn (A.marked acts.now) chunk at new.now) }
+{
+    if !fits_single(acts, chunk, at, mark, instr, new) {
+        return Err(ModifyFault::Boundaries);
+    }
+    if !spares_pair(acts, chunk, at, instr, new) {
+        return Err(ModifyFault::PairTouched);
+    }
+    if !goes_well(acts, chunk, instr, at) {
+        return Err(ModifyFault::BadTarget);
+    }
+    Ok(())
+}
+
+/// An instruction of the chunk begins at the address, which has this mark, and is as long as the new one.
+fn fits_single<A: Acts>(
+    acts: &A,
+    chunk: Chunk,
+    at: u32,
+    mark: Mark,
+    instr: Instr,
+    new: &[u8],
+) -> bool
+    requires place { LiesInValid (A.marked acts.now) chunk at mark }
+    requires first { first_instruction new.now ≡ Some instr }
+    requires only { instr.len ≡ length new.now }
+    ensures run { IsTrue result → IsRun (A.marked acts.now) chunk at new.now }
+    ensures none { IsFalse result → ¬ IsRun (A.marked acts.now) chunk at new.now }
+{
+    is_marked(mark) && length_at(acts, chunk, at) == u32::from(instr.len)
 }

@@ -11,16 +11,16 @@ use std::io::{Result, Write};
 /// The most bytes of a reply that are kept. No refusal and no `bad line` is as long.
 const MOST_KEPT: usize = 64;
 
-/// Replies as they are written.
+/// Follows replies as they are written, explains those that are refusals, and counts bad lines.
 #[derive(Drop)]
-struct Replies<'r, E> {
+struct Explainer<'r, E> {
     rt: &'r E,
     is_wanted: bool,
     reply: Following,
     bad: u64,
 }
 
-impl<'r, E: Eprint> Replies<'r, E> {
+impl<'r, E: Eprint> Explainer<'r, E> {
     /// Explains the reply at hand if it is a refusal, and goes on to the next one. If nothing can be printed, nothing is lost.
     fn explain(&mut self) {
         let reply = self.reply.kept().unwrap_or(&[]);
@@ -51,7 +51,7 @@ impl<'r, E: Eprint> Replies<'r, E> {
 #[derive(Drop)]
 pub struct ExplainedOutput<'r, 'w, W, E> {
     writer: &'w mut W,
-    replies: Replies<'r, E>,
+    replies: Explainer<'r, E>,
 }
 
 impl<'r, 'w, W: Write, E: Eprint> ExplainedOutput<'r, 'w, W, E> {
@@ -65,7 +65,7 @@ impl<'r, 'w, W: Write, E: Eprint> ExplainedOutput<'r, 'w, W, E> {
         let reply = Following::new(alloc, MOST_KEPT);
         ExplainedOutput {
             writer,
-            replies: Replies {
+            replies: Explainer {
                 rt,
                 is_wanted,
                 reply,

@@ -16,8 +16,8 @@ pub record IsPlaceAt (base : ℕ) (code : List ℕ) (at : ℕ) : Type 0 where
   pub span : base + length code < 2 ^ 32
 
 -- the address, if there is one, is that of a byte of the code, which is whole bundles
-abbrev pub IsPlaced : ℕ → List ℕ → Option ℕ → Type 0
-IsPlaced base code at = MatchOption at ⊤ (λ at. IsPlaceAt base code at)
+abbrev pub IsPlaceIfAny : ℕ → List ℕ → Option ℕ → Type 0
+IsPlaceIfAny base code at = MatchOption at ⊤ (λ at. IsPlaceAt base code at)
 
 -- rows were added that count the transfers of a chunk with these instructions to addresses outside it
 pub record AddsRows (format : Format) (old new : List ℕ) (base : ℕ) (pieces : List Piece) : Type 0 where

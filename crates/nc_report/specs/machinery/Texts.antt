@@ -4,5 +4,5 @@ use Rattle.std.specs.Borrow.{Bor}
 use Rattle.std.specs.List.{flat_map}
 
 -- the bytes of these texts
-abbrev pub all_of : List (Bor (List ℕ)) → List ℕ
-all_of texts = flat_map (λ text. text.now) texts
+abbrev pub texts_joined : List (Bor (List ℕ)) → List ℕ
+texts_joined texts = flat_map (λ text. text.now) texts

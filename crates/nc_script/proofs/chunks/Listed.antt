@@ -27,14 +27,14 @@ listed_at [] k x e = absurd cc
 listed_at (y ∷ ys) zero x e = (0, omega arith, cc)
 listed_at (y ∷ ys) (suc k) x e = let rest = listed_at ys k x e in (suc rest.0, omega (arith, rest.1), rest.2)
 
--- chunks that rise from a place lie above it
+-- chunks that ascend from a place lie above it
 pub ascending_listed : (from : ℕ) (chunks : List Chunk) (c : Chunk) → IsAscending from chunks → Contains chunks c → from ≤ c.base
 ascending_listed from [] c ascending (k, l, e) = absurd (omega (arith, l))
 ascending_listed from (d ∷ rest) c ascending (zero, l, e) = subst (λ (x : Chunk). from ≤ x.base) e ascending.0
 ascending_listed from (d ∷ rest) c ascending (suc k, l, e) =
     omega (arith, ascending.0, ascending_listed (d.base + d.length) rest c ascending.1 (k, omega (arith, l), e))
 
--- each of the chunks that rise from a place lies above it, and above lower ones
+-- each of the chunks that ascend from a place lies above it, and above lower ones
 pub ascending_each : (from to : ℕ) (chunks : List Chunk) → to ≤ from → IsAscending from chunks → Each (λ (c : Chunk). to ≤ c.base) chunks
 ascending_each from to [] le ascending = tt
 ascending_each from to (d ∷ rest) le ascending =

@@ -91,7 +91,7 @@ retired_chunks bytes stamp from zero (d ∷ rest) c ascending placed is =
     (sym same))
 retired_chunks bytes stamp from (suc k) (d ∷ rest) c ascending placed is =
     let new = with_span bytes (c.base - 0x10000) (replicate c.length 0xF4) in
-    let below : d.base + d.length ≤ c.base = rises_at (d.base + d.length) k rest c ascending.1 is in
+    let below : d.base + d.length ≤ c.base = ascending_at (d.base + d.length) k rest c ascending.1 is in
     let there = placed_at bytes k rest c placed.1 is in
     let first = apart_stay bytes c.base c.length stamp (d ∷ []) there.low (omega (arith, there.high)) (placed.0, tt) (inl below, tt)
     ((λ e. omega (arith, e, below, placed.0.some)), tt) in
@@ -100,10 +100,10 @@ retired_chunks bytes stamp from (suc k) (d ∷ rest) c ascending placed is =
     ∙ ap (λ (cs : List script.ScriptChunk). retired_at c.base stamp (script_chunk bytes d) ∷ cs)
     (retired_chunks bytes stamp (d.base + d.length) k rest c ascending.1 placed.1 is)
   where
-    rises_at : (from k : ℕ) (rest : List Chunk) (c : Chunk) → IsAscending from rest → slice_get rest k ≡ Some c → from ≤ c.base
-    rises_at from k [] c r e = absurd cc
-    rises_at from zero (x ∷ xs) c r e = let same : x ≡ c = cc in subst (λ (y : Chunk). from ≤ y.base) same r.0
-    rises_at from (suc k) (x ∷ xs) c r e = omega (arith, r.0, rises_at (x.base + x.length) k xs c r.1 e)
+    ascending_at : (from k : ℕ) (rest : List Chunk) (c : Chunk) → IsAscending from rest → slice_get rest k ≡ Some c → from ≤ c.base
+    ascending_at from k [] c r e = absurd cc
+    ascending_at from zero (x ∷ xs) c r e = let same : x ≡ c = cc in subst (λ (y : Chunk). from ≤ y.base) same r.0
+    ascending_at from (suc k) (x ∷ xs) c r e = omega (arith, r.0, ascending_at (x.base + x.length) k xs c r.1 e)
 
 -- a chunk that is live in the region is live in the script
 live_state : (bytes : List ℕ) (base len : ℕ) (s : ChunkState) → IsLive s → reuse.IsLiveState (state_in bytes base len s)

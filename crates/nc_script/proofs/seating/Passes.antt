@@ -1,11 +1,10 @@
 -- Lists of passes, each at its seat's place.
-use Rattle.std.proofs.Common.{◌≡◌, ◌≢◌, ℕ, zero, suc, ◌+◌, ◌<◌, ◌≤◌, ◌⊎◌, inl, inr, List, [], ◌∷◌, ◌++◌, length, map, get_or, set, take, drop, Option}
+use Rattle.std.proofs.Common.{◌≡◌, ◌≢◌, ℕ, zero, suc, ◌+◌, ◌<◌, ◌≤◌, ◌⊎◌, inl, inr, List, [], ◌∷◌, ◌++◌, length, map, get_or, set, Option}
 use Rattle.std.proofs.Common.{Some, None, refl, sym, ap, ◌∙◌, subst, ⊎_elim, arith}
 use Rattle.std.specs.List.{slice_get}
 use Rattle.std.proofs.lemmas.List.{map-append, length-map, set-get_or}
 use Rattle.std.proofs.lemmas.Option.{slice_get-get_or}
 use Rattle.std.proofs.lemmas.Grind.{elements}
-use Rattle.std.proofs.Math.Seq.{take-append_seam}
 use Rattle.std.specs.Prelude.{MatchOption}
 use Rattle.std.proofs.lemmas.Bool.{cases_lt}
 use Rattle.atomic_table.specs.Seated.{TableId}
@@ -36,11 +35,6 @@ get_push (x ∷ xs) (suc i) y z h = ⊎_elim (λ e. inl (ap (λ (n : ℕ). suc n
 pub there_at : (passes : List (Option PassState)) (seat : ℕ) (d : Option PassState) (p : PassState) → seat < length passes
     → get_or passes seat d ≡ Some p → HasPass passes seat p
 there_at passes seat d p l is = slice_get-get_or passes seat d l ∙ ap (λ (o : Option PassState). Some o) is
-
--- a list that was lent whole holds what was written to the loan
-pub written_back : {X : Type 0} (new old : List X) (len : ℕ) → len ≡ length new → take len (new ++ drop (length new) old) ≡ new
-written_back new old len is =
-    ap (λ (n : ℕ). take n (new ++ drop (length new) old)) is ∙ take-append_seam new (drop (length new) old)
 
 -- a pass put at its seat's place
 pub seated_set : (table : TableId) (passes : List (Option PassState)) (k : ℕ) (q : PassState) → AreSeated table passes

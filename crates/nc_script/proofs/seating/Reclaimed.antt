@@ -1,8 +1,10 @@
 -- What a reclaim of a session answers is what the script answers.
-use Rattle.std.proofs.Common.{◌≡◌, ◌≢◌, ℕ, zero, suc, ◌<◌, ◌≤◌, ◌^◌, min, List, [], ◌∷◌, length, map, get_or, Option, Some, None, refl}
+use Rattle.std.proofs.Common.{◌≡◌, ◌≢◌, ℕ, ◌<◌, ◌≤◌, ◌^◌, min, List, length, map, get_or, Option, Some, None}
 use Rattle.std.proofs.Common.{sym, ap, ◌∙◌}
 use Rattle.std.proofs.Common.{subst, arith}
-use Rattle.std.specs.Prelude.{All, Any}
+use Rattle.std.specs.Prelude.{Any}
+use Rattle.std.proofs.lemmas.List.{get_or_default}
+use Rattle.std.proofs.lemmas.List.Elements.{All-from_get_or}
 use mathlib.Core.Logic.{dite}
 use native.Mathlib.Decide.{ℕ_discrete}
 use Rattle.nc_gens.specs.Rule.{left_word}
@@ -21,21 +23,12 @@ use Rattle.nc_script.specs.machinery.Session.{SeatsState, script_chunk, SeatFits
 use Rattle.nc_script.specs.machinery.Seats.{HasMetAt, HaveMet, IsOnlyKeeper}
 use Rattle.nc_script.proofs.chunks.Fitting.{AreStamped}
 use Rattle.nc_script.proofs.chunks.FreedChunks.{kept_chunks, freed_count, kept_stamped}
-use Rattle.nc_script.proofs.seating.Reclaims.{least_is, least_below}
-
--- inside a list no default is given
-same_default : {X : Type 0} (xs : List X) (k : ℕ) (d e : X) → k < length xs → get_or xs k d ≡ get_or xs k e
-same_default [] k d e l = absurd (omega (arith, l))
-same_default (x ∷ xs) zero d e l = refl
-same_default (x ∷ xs) (suc k) d e l = same_default xs k d e (omega (arith, l))
-
--- what holds at each index, by one default
-all_from : {X : Type 0} (P : X → Type 0) (xs : List X) (e : X) → ((k : ℕ) → k < length xs → P (get_or xs k e)) → All P xs
-all_from P xs e h k d l = subst P (same_default xs k e d l) (h k l)
+use Rattle.nc_gens.proofs.Offered.{least_below}
+use Rattle.nc_script.proofs.seating.Reclaims.{least_is}
 
 -- some member, by its index
 any_at : {X : Type 0} (P : X → Type 0) (xs : List X) (k : ℕ) (e : X) → k < length xs → P (get_or xs k e) → Any P xs
-any_at P xs k e l h = (k, get_or xs k e, l, same_default xs k (get_or xs k e) e l, h)
+any_at P xs k e l h = (k, get_or xs k e, l, get_or_default xs k (get_or xs k e) e l, h)
 
 -- a seat's bound is at least its number and the number freed by before; its number isn't above the generation
 fits_low : (generation freed : ℕ) (p : Option PassState) (b : ℕ) (s : ScriptSeat) → SeatFits generation freed p b s
@@ -87,7 +80,7 @@ reclaimed_follows old mid new before after count r met only seats freed fits =
     let up = λ (i : ℕ) (l : i < length seats). r.looked.raised.1 i (omega (arith, l, fits.seats_fit.bounds_long)) in
     let none_below : freed ≤ least =
     least_is (λ n. freed ≤ n) seen found (omega (arith, fits.current, seen_is))
-    (all_from (λ n. freed ≤ n) found 0 (λ k l. let l' : k < length seats = omega (arith, l, long) in omega (
+    (All-from_get_or (λ n. freed ≤ n) found 0 (λ k l. let l' : k < length seats = omega (arith, l, long) in omega (
       arith,
       (each k l').0,
       up k l',
@@ -96,7 +89,7 @@ reclaimed_follows old mid new before after count r met only seats freed fits =
     least_is (λ n. Any (λ seat. number_of seat ≤ min n seen) seats) seen found
     (any_at (λ seat. number_of seat ≤ min seen seen) seats 0 (Left 0) fits.seats_fit.some
     (omega (arith, (each 0 fits.seats_fit.some).2, seen_is)))
-    (all_from (λ n. Any (λ seat. number_of seat ≤ min n seen) seats) found 0
+    (All-from_get_or (λ n. Any (λ seat. number_of seat ≤ min n seen) seats) found 0
     (λ k l.
     let l' : k < length seats = omega (arith, l, long) in
     any_at (λ seat. number_of seat ≤ min (get_or found k 0) seen) seats k (Left 0) l'
@@ -125,7 +118,7 @@ reclaimed_follows old mid new before after count r met only seats freed fits =
           rises = omega (arith, none_below, fits.current, seen_is);
           least = some_number;
           current = omega (arith, seen_is);
-          allowed = all_from (LetsFree a) seats (Left 0) allowed;
+          allowed = All-from_get_or (LetsFree a) seats (Left 0) allowed;
         };
         reply_is = ap (λ (n : ℕ). with_line_end (freed_reply n)) (r.count_is ∙ sym (freed_count text least seen old.chunks stamped));
         new_is = λ j. record { limit = limit_of (bytes_are j); chunks = shown j; generation = now_is j; seats = seats; freed = a };

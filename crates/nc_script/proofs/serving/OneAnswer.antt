@@ -1,7 +1,8 @@
 -- A line has one answer, and leads to one state.
 use Rattle.std.proofs.Common.{◌≤◌, length, slice_set, ◌^◌}
-use Rattle.std.proofs.Common.{◌≡◌, ◌≢◌, ◌⊎◌, ◌++◌, ℕ, ◌<◌, List, [], ◌∷◌, Option, Some, None, inl, inr, refl, sym, ap, ◌∙◌, subst, arith, suc}
+use Rattle.std.proofs.Common.{◌≡◌, ◌≢◌, ◌⊎◌, ◌++◌, ℕ, ◌<◌, List, [], ◌∷◌, Option, Some, None, inl, inr, refl, sym, ap, ◌∙◌, subst, arith}
 use Rattle.std.specs.Prelude.{All, MatchOption}
+use Rattle.std.proofs.lemmas.List.Elements.{All-tail}
 use Rattle.nc_vet.specs.Faults.{HasFault}
 use Rattle.nc_vet.specs.declared.fault.VetFault.{VetFault}
 use Rattle.nc_vet.specs.declared.fault.VetFault.TheVariants.{OutOfMemory}
@@ -29,10 +30,6 @@ use Rattle.nc_output.specs.Verdicts.{with_line_end, refused_words, fault_words}
 use Rattle.nc_script.specs.Replies.{walk_reply, patch_words, deletion_words, freed_reply}
 use Rattle.nc_script.proofs.chunks.RegionText.{script_text-script_of}
 
--- what holds of all chunks holds of those after the first
-tail_of : (P : ScriptChunk → Type 0) (c : ScriptChunk) (cs : List ScriptChunk) → All P (c ∷ cs) → All P cs
-tail_of P c cs h k d l = h (suc k) d (omega (arith, l))
-
 -- a list of chunks is cut at a base in one way
 same_cut : (base : ℕ) (bs ps cs ds : List ScriptChunk) → bs ++ ps ≡ cs ++ ds → All (λ c. c.base < base) bs → All (λ c. base < c.base) ps
     → All (λ c. c.base < base) cs → All (λ c. base < c.base) ds → (cs ≡ bs) × (ds ≡ ps)
@@ -48,7 +45,7 @@ same_cut base (b ∷ bs) ps [] ds e lb la lc ld =
     ))
 same_cut base (b ∷ bs) ps (c ∷ cs) ds e lb la lc ld =
     let tails : bs ++ ps ≡ cs ++ ds = cc in
-    let rest = same_cut base bs ps cs ds tails (tail_of (λ c. c.base < base) b bs lb) la (tail_of (λ c. c.base < base) c cs lc) ld in
+    let rest = same_cut base bs ps cs ds tails (All-tail (λ c. c.base < base) b bs lb) la (All-tail (λ c. c.base < base) c cs lc) ld in
     let f = rest.0 in
     (cc, rest.1)
 

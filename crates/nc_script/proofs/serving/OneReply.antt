@@ -1,7 +1,9 @@
 -- Lines have no other replies than those that a run wrote, as long as no seat leaves.
-use Rattle.std.proofs.Common.{◌≡◌, ◌≢◌, ◌++◌, ℕ, ◌≤◌, List, [], ◌∷◌, get_or, set, Option, Some, None, inl, inr, refl, sym, ap, ◌∙◌}
+use Rattle.std.proofs.Common.{◌≡◌, ◌≢◌, ◌++◌, ℕ, ◌≤◌, List, [], ◌∷◌, get_or, set, length, Option, Some, None, inl, inr, refl, sym, ap, ◌∙◌}
 use Rattle.std.proofs.Common.{subst, append_assoc, arith, zero, suc}
 use Rattle.std.specs.Prelude.{All, MatchOption}
+use Rattle.std.proofs.lemmas.List.Elements.{All-tail, All-take}
+use Rattle.std.proofs.lemmas.List.{take_at}
 use Rattle.nc_lines.specs.Answering.{AnswersLines}
 use Rattle.nc_lines.specs.Lines.{bad_line}
 use Rattle.nc_script.specs.Requests.{Request, Create, Modify, Delete, CheckIn, Leave, Reclaim, Walk, Ask, request_in}
@@ -10,17 +12,13 @@ use Rattle.nc_script.specs.Laws.{HasOneReply, BeginsAll, FreesByLeast, IsNoLeave
 use Rattle.nc_script.specs.Reuse.{AllStay, Stays, LetsFree, number_of, IsFreeingNumber}
 use Rattle.nc_script.specs.Script.{Script, ScriptSeat, Staying, Left}
 
--- what holds of all holds of those after the first
-tail_of : {X : Type 0} (P : X → Type 0) (x : X) (xs : List X) → All P (x ∷ xs) → All P xs
-tail_of P x xs h k d l = h (suc k) d (omega (arith, l))
-
 -- all seats stay where one of them is set to one that stays
 stay_set : (seats : List ScriptSeat) (k : ℕ) (s : ScriptSeat) → Stays s → All Stays seats → All Stays (set seats k s)
 stay_set [] k s stays all j d l = absurd (omega (arith, l))
 stay_set (x ∷ xs) zero s stays all zero d l = stays
 stay_set (x ∷ xs) zero s stays all (suc j) d l = all (suc j) d (omega (arith, l))
 stay_set (x ∷ xs) (suc k) s stays all zero d l = all 0 d (omega arith)
-stay_set (x ∷ xs) (suc k) s stays all (suc j) d l = stay_set xs k s stays (tail_of Stays x xs all) j d (omega (arith, l))
+stay_set (x ∷ xs) (suc k) s stays all (suc j) d l = stay_set xs k s stays (All-tail Stays x xs all) j d (omega (arith, l))
 
 -- a request that is no leave lets no seat leave
 stay_on : (request : Request) (old : Script) (reply : List ℕ) (new : Script) → ((seat : ℕ) → request ≢ Leave seat) → AllStay old
@@ -56,7 +54,7 @@ one_text old (line ∷ lines) reply other new next stay none a b =
     let (also, second, others, two, f, same_so) = b in
     let same = one.only (inr stay) second also two in
     let still = stay_on_line (request_in line) old answer mid (none 0 line (omega arith)) stay one.serves in
-    let on = one_text mid lines rest others new next still (tail_of IsNoLeave line lines none) more
+    let on = one_text mid lines rest others new next still (All-tail IsNoLeave line lines none) more
     (subst (λ (s : Script). AnswersLines ServesLine s lines others next) same.1 same_so) in
     (f ∙ (ap (λ (t : List ℕ). t ++ others) same.0 ∙ (ap (λ (t : List ℕ). answer ++ t) on.0 ∙ sym e)), on.1)
 
@@ -75,13 +73,6 @@ first_answers old (line ∷ first) others all last h =
       e ∙ (ap (λ (t : List ℕ). answer ++ t) f ∙ sym (append_assoc answer reply rest)),
     )
 
--- what holds of all lines holds of the first of them
-first_none : (first others : List (List ℕ)) → All IsNoLeave (first ++ others) → All IsNoLeave first
-first_none [] others h k d l = absurd (omega (arith, l))
-first_none (line ∷ first) others h zero d l = h 0 d (omega arith)
-first_none (line ∷ first) others h (suc k) d l =
-    first_none first others (tail_of IsNoLeave line (first ++ others) h) k d (omega (arith, l))
-
 -- a beginning of the answers to first lines is one of all answers
 pub begins_all : BeginsAll
 begins_all old before after lines stay none begun = record {
@@ -91,7 +82,8 @@ begins_all old before after lines stay none begun = record {
       let (mid, reply, rest, so, e) =
       first_answers old begun.first begun.others all last
       (subst (λ (ls : List (List ℕ)). AnswersLines ServesLine old ls all last) begun.split h) in
-      let none_first = first_none begun.first begun.others (subst (All IsNoLeave) begun.split none) in
+      let none_first = subst (All IsNoLeave) (take_at begun.first begun.others (length begun.first) refl)
+      (All-take IsNoLeave (length begun.first) (begun.first ++ begun.others) (subst (All IsNoLeave) begun.split none)) in
       let same = one_text old begun.first (begun.reply ++ begun.missing) reply begun.new mid stay none_first begun.runs so in
       (begun.missing ++ rest, e ∙ (ap (λ (t : List ℕ). t ++ rest) same.0 ∙ append_assoc begun.reply begun.missing rest));
 }

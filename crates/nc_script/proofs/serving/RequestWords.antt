@@ -12,7 +12,7 @@ use Rattle.nc_lines.specs.Lines.{line_limit, words_in}
 use Rattle.nc_lines.specs.Words.{address_in, first_address_in}
 use Rattle.nc_lines.proofs.Offered.{words_some, of_one, of_one-text, address_in-spaced}
 use Rattle.nc_script.specs.Queries.{is_word, query_in}
-use Rattle.nc_script.specs.Requests.{Request, Delete, Reclaim, Walk, Ask, addresses_in, delete_in, chunk_in, digit_in, next_digit, of_seat_in}
+use Rattle.nc_script.specs.Requests.{Request, Delete, Reclaim, Walk, Ask, addresses_in, delete_in, chunk_at_in, digit_in, next_digit, of_seat_in}
 use Rattle.nc_script.specs.Requests.{request_in, request_of, seat_in, single_in, walk_in}
 use Rattle.nc_script.specs.declared.query.Query.TheVariants.{ChunkAt}
 
@@ -33,13 +33,13 @@ delete_text text =
 abbrev ask_at : ℕ → Request
 ask_at at = Ask (ChunkAt at)
 
-one_chunk : (words : List (List ℕ)) → chunk_in words ≡ of_one (λ word. option_map ask_at (address_in word)) words
+one_chunk : (words : List (List ℕ)) → chunk_at_in words ≡ of_one (λ word. option_map ask_at (address_in word)) words
 one_chunk [] = refl
 one_chunk (word ∷ []) = refl
 one_chunk (word ∷ next ∷ words) = refl
 
 -- the request of a text after `chunk`
-pub chunk_text : (text : List ℕ) → chunk_in (words_in text) ≡ option_map (λ (at : ℕ). Ask (ChunkAt at)) (address_in text)
+pub chunk_text : (text : List ℕ) → chunk_at_in (words_in text) ≡ option_map (λ (at : ℕ). Ask (ChunkAt at)) (address_in text)
 chunk_text text =
     one_chunk (words_in text)
     ∙ of_one-text (λ word. option_map ask_at (address_in word)) text (λ front back. ap (option_map ask_at) (address_in-spaced front back))

@@ -31,6 +31,6 @@ AreListed bundles list count start end = (n k : ℕ) → start ≤ n → n < end
     → IsListed list 0 count (32 * n + k)
 
 -- no byte ends two transfers
-abbrev pub AreApart : List Bundle → Type 0
-AreApart bundles = (n k : ℕ) → n < length bundles → k < 32 → bit_at (get_or bundles n no_bits).shorts k ≡ 1
+abbrev pub AreEndsApart : List Bundle → Type 0
+AreEndsApart bundles = (n k : ℕ) → n < length bundles → k < 32 → bit_at (get_or bundles n no_bits).shorts k ≡ 1
     → bit_at (get_or bundles n no_bits).nears k ≡ 0

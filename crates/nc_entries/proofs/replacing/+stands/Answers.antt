@@ -2,7 +2,7 @@ use Rattle.std.proofs.Common.{◌≡◌, ◌+◌, ◌-◌, ◌<◌, ℕ, List, l
 use Rattle.std.proofs.lemmas.Bool.{eqb-false}
 use Rattle.nc_region.specs.Patch.{stands_there}
 use Rattle.nc_region.proofs.Offered.{slice_rest}
-use Rattle.nc_entries.proofs.writing.Replacements.{stands_first}
+use Rattle.nc_region.proofs.Offered.{stands_first}
 use Rattle.nc_entries.proofs.replacing.+stands.Goals as goal
 
 pub returns-then-code-from : goal.returns-then-code-from

@@ -2,16 +2,17 @@ use Rattle.std.proofs.Common.{◌+◌, ◌≤◌, List, length, get_or, arith, s
 use Rattle.nc_acts.specs.declared.acts.Act.TheVariants.{Put}
 use Rattle.nc_acts.specs.declared.acts.Entry.{Entry}
 use Rattle.nc_acts.specs.declared.acts.Entry.TheVariants.{Did, Serialized}
-use Rattle.nc_entries.specs.Written.{Adds}
+use Rattle.nc_entries.specs.Written.{AddsEntries}
 use Rattle.nc_entries.proofs.writing.WriteSteps.{adds_put}
-use Rattle.nc_entries.proofs.writing.Replacements.{of_one, longer_added, rest_counted}
+use Rattle.nc_entries.proofs.writing.Replacements.{longer_added, rest_counted}
 use Rattle.nc_entries.proofs.replacing.write_instruction.Goals.{After-write_all-count}
+use Rattle.nc_region.proofs.Offered.{log_of_one}
 use Rattle.nc_entries.proofs.replacing.write_instruction.Goals as goal
 
 pub returns-then-bytes-eq1-clause-written : goal.returns-then-bytes-eq1-clause-written
 returns-then-bytes-eq1-clause-written c =
-    subst (λ (z : List Entry). Adds c.args.acts.now c.args.from c.write.new.acts c.write.result z)
-    (sym (of_one c.args.at c.args.bytes.now c.if-bytes-eq1.true))
+    subst (λ (z : List Entry). AddsEntries c.args.acts.now c.args.from c.write.new.acts c.write.result z)
+    (sym (log_of_one c.args.at c.args.bytes.now c.if-bytes-eq1.true))
     (adds_put c.args.acts.now c.write.new.acts c.args.from c.write.result (Did (Put c.args.at (get_or c.args.bytes.now 0 0))) c.put.result
     c.write.ensures.acts c.write.ensures.count c.put.ensures (omega (arith, c.requires.room, c.requires.some)))
 

@@ -1,7 +1,7 @@
 use Rattle.std.proofs.Common.{arith, ◌++◌, ◌∷◌, []}
 use Rattle.std.proofs.lemmas.Grind.{common_steps}
 use Rattle.std.specs.Prelude.{◌||◌}
-use Rattle.nc_files.specs.Reports.{judged_in, ReportsCode, ReportsEach}
+use Rattle.nc_files.specs.Reports.{judged_in, ReportsCode, ReportsAll}
 use Rattle.nc_files.proofs.WrittenReports.{split_more, reports_more, written_more}
 use Rattle.nc_files.proofs.judging.judge_parts.Goals as goal
 
@@ -13,7 +13,7 @@ loop-part-preserved g c =
     let refused = c.loop-part.is_refused in (
       done ++ judged ∷ [],
       split_more _ _ _ c.in-Some.part done split c.in-Some.ensures.steps.0,
-      written_more (ReportsEach ask done refused) (ReportsCode ask judged c.in-Ok.more) (ReportsEach ask (done ++ judged ∷ []) (refused || c.in-Ok.more))
+      written_more (ReportsAll ask done refused) (ReportsCode ask judged c.in-Ok.more) (ReportsAll ask (done ++ judged ∷ []) (refused || c.in-Ok.more))
           _ _ _ (λ a b h k. reports_more ask done judged refused c.in-Ok.more a b h k) written c.in-Ok.ensures,
     )
 

@@ -2,10 +2,10 @@
 use Rattle.std.proofs.Common.{◌≡◌, ◌++◌, List, map}
 use Rattle.std.specs.Vec.Iter.{into_iter_items}
 use Rattle.nc_report.specs.Report.{HasWritten}
-use Rattle.nc_files.specs.Reports.{Judged, judged_in, ReportsEach}
+use Rattle.nc_files.specs.Reports.{Judged, judged_in, ReportsAll}
 use Rattle.nc_files.proofs.judging.judge_parts.Given as goal
 
 abbrev pub invariant-loop-part : goal.invariant-loop-part
 invariant-loop-part g l =
     (done : List Judged) × (map judged_in (into_iter_items l.initial.part-iterator) ≡ done ++ map judged_in (into_iter_items l.part-iterator))
-    × HasWritten (ReportsEach l.ask done l.is_refused) (g.W.Write.contents l.initial.writer) (g.W.Write.contents l.writer)
+    × HasWritten (ReportsAll l.ask done l.is_refused) (g.W.Write.contents l.initial.writer) (g.W.Write.contents l.writer)

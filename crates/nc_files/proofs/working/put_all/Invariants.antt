@@ -1,6 +1,6 @@
 use Rattle.std.specs.Vec.Iter.{into_iter_items}
-use Rattle.nc_files.specs.Places.{AreDone, ArePlaces}
+use Rattle.nc_files.specs.Places.{AreReports, ArePlaces}
 use Rattle.nc_files.proofs.working.put_all.Given as goal
 
 abbrev pub invariant-loop-one : goal.invariant-loop-one
-invariant-loop-one l = record { done : AreDone l.ask l.files (into_iter_items l.one-iterator); places : ArePlaces l.ask l.files l.places }
+invariant-loop-one l = record { done : AreReports l.ask l.files (into_iter_items l.one-iterator); places : ArePlaces l.ask l.files l.places }

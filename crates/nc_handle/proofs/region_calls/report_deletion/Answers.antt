@@ -1,7 +1,7 @@
 use Rattle.std.proofs.Common.{◌+◌, ℕ, length, refl, arith, sym, subst, ◌∙◌}
 use Rattle.std.proofs.lemmas.Bool.{eqb-false}
 use Rattle.nc_acts.specs.Log.{log_of_delete}
-use Rattle.nc_entries.specs.Written.{HasWritten}
+use Rattle.nc_entries.specs.Written.{HoldsLog}
 use Rattle.nc_handle.proofs.SpanReads.{span_long, span_high, span_whole, span_room}
 use Rattle.nc_handle.proofs.region_calls.report_deletion.Goals as goal
 
@@ -11,8 +11,8 @@ returns c =
     let span = c.args.span.now in
     let marked = span.region.now.marked in
     let long = span_long marked.bytes span.base span.length span.placed in
-    let wrote : HasWritten c.args.acts.now c.write_deletion.new.acts (span.length + 2) (log_of_delete marked.marks span.base span.length) =
-    subst (λ (n : ℕ). HasWritten c.args.acts.now c.write_deletion.new.acts (n + 2) (log_of_delete marked.marks span.base n)) long
+    let wrote : HoldsLog c.args.acts.now c.write_deletion.new.acts (span.length + 2) (log_of_delete marked.marks span.base span.length) =
+    subst (λ (n : ℕ). HoldsLog c.args.acts.now c.write_deletion.new.acts (n + 2) (log_of_delete marked.marks span.base n)) long
     (c.write_deletion.ensures marked.marks (λ k lt. refl)) in
     record { lent = λ lt. (wrote.counted, wrote.buffer); not_lent = λ e. absurd (omega (arith, e, some)) }
 

@@ -1,8 +1,8 @@
 use Rattle.std.proofs.Common.{◌≡◌, ◌++◌, ◌+◌, ◌<◌, ℕ, List, [], ◌∷◌, Err, length, take, drop, get_or, sym, ap, ◌∙◌, subst}
-use Rattle.std.proofs.Common.{append_assoc, take-append-drop, arith}
+use Rattle.std.proofs.Common.{append_assoc, arith}
 use Rattle.std.proofs.lemmas.List.{take_all, take_more}
 use Rattle.nc_lines.specs.machinery.Progress.{AnswersKept, KeepsUp, Feeds, IsOpen}
-use Rattle.nc_lines.proofs.Steps.{stands_part, part_goes_on, early_failed, stands_line, line_failed, feeds_failed}
+use Rattle.nc_lines.proofs.Steps.{cut_after, stands_part, part_goes_on, early_failed, stands_line, line_failed, feeds_failed}
 use Rattle.nc_lines.proofs.lines.feed_part.Given.{Over}
 use Rattle.nc_lines.proofs.lines.feed_part.Goals.{After-answer_last}
 use Rattle.nc_lines.proofs.lines.feed_part.Goals as goal
@@ -13,10 +13,6 @@ one_end : (bytes rest : List ℕ) (end : ℕ) → end < length rest → get_or r
 one_end bytes rest end below is =
     append_assoc bytes (take end rest) (10 ∷ [])
     ∙ ap (λ (b : ℕ). bytes ++ (take end rest ++ b ∷ [])) (sym is) ∙ ap (λ (xs : List ℕ). bytes ++ xs) (sym (take_more rest end 0 below))
-
--- bytes with some of a rest after them, and then the others, are those with the whole rest
-whole_rest : (bytes rest : List ℕ) (n : ℕ) → (bytes ++ take n rest) ++ drop n rest ≡ bytes ++ rest
-whole_rest bytes rest n = append_assoc bytes (take n rest) (drop n rest) ∙ ap (λ (xs : List ℕ). bytes ++ xs) (take-append-drop n rest)
 
 pub returns-in-Ok-clause-feeds : goal.returns-in-Ok-clause-feeds
 returns-in-Ok-clause-feeds g c = λ start before bytes s.
@@ -77,7 +73,7 @@ returns-in-Err-answer_last-clause-feeds g c = λ start before bytes s.
     let next = part_goes_on answers start before bytes now after held c.args.line.now.items (take end rest) s
     c.first_end-end.ensures.«open» in
     subst (λ (xs : List ℕ). Feeds {T = Unit {0}} answers start before xs new later left part_left (Err fault))
-    (ap (λ (xs : List ℕ). xs ++ drop (end + 1) rest) (taken g at bytes) ∙ whole_rest bytes rest (end + 1))
+    (ap (λ (xs : List ℕ). xs ++ drop (end + 1) rest) (taken g at bytes) ∙ sym (cut_after bytes rest (end + 1)))
     (feeds_failed (Unit {0}) answers start before ((bytes ++ take end rest) ++ 10 ∷ []) new later left part_left (drop (end + 1) rest) fault
     (line_failed (Unit {0}) answers start before (bytes ++ take end rest) now after held _ new later left part_left next.0 fault
     (subst (λ (line : List ℕ). AnswersKept {T = Unit {0}} answers now new after later held left line (Err fault)) (sym next.1)

@@ -4,7 +4,8 @@ use Rattle.std.proofs.Math.Nat.{div-le_self}
 use Rattle.std.proofs.lemmas.Nat.Bits.{bit_at-zero}
 use Rattle.nc_reading.specs.declared.class.Class.TheVariants.{Inside}
 use Rattle.nc_reading.specs.Quiet.{is_quiet}
-use Rattle.nc_reading.proofs.MarkBits.{bit_passed, bit_below, quiet_from}
+use Rattle.nc_reading.proofs.MarkBits.{bit_below, quiet_from}
+use Rattle.nc_decode.proofs.Offered.{bit_passed}
 use Rattle.nc_reading.proofs.candidates.next_candidate.Goals as goal
 
 pub returns-then-left-ne0-clause-quiet : goal.returns-then-left-ne0-clause-quiet

@@ -11,12 +11,12 @@ loop-at-init c = record { in_code = omega arith; so_far = none_filled_yet _ _ c.
 
 pub loop-at-preserved-then-end-at : goal.loop-at-preserved-then-end-at
 loop-at-preserved-then-end-at c =
-    let end = c.read_bundles-end.result in
+    let end = c.fill_bundles-end.result in
     record {
-      in_code = c.read_bundles-end.ensures.room;
-      so_far = subst (λ (o : Option ℕ). HasFilled c.args.code.now end o c.read_bundles-end.new.classes)
+      in_code = c.fill_bundles-end.ensures.room;
+      so_far = subst (λ (o : Option ℕ). HasFilled c.args.code.now end o c.fill_bundles-end.new.classes)
           (none_masked_past c.loop-at.at end c.loop-at.masked c.if-end-at.true)
-          (c.read_bundles-end.ensures.read c.loop-at.masked c.loop-at.invariant.so_far);
+          (c.fill_bundles-end.ensures.read c.loop-at.masked c.loop-at.invariant.so_far);
     }
 
 pub loop-at-preserved : goal.loop-at-preserved
@@ -28,9 +28,9 @@ loop-at-preserved c =
     let step = subst (λ (z : List ℕ). IsStep (32 - at % 32) masked z c.step_at-step.result) rest c.step_at-step.ensures.step in
     let within : at + c.step_at-step.result.len ≤ length code
     = omega (arith, c.step_at-step.ensures.within, length-drop at code, ap (λ (z : List ℕ). length z) rest, c.loop-at.invariant.in_code) in
-    let so_far = subst (λ (o : Option ℕ). HasFilled code at o c.read_bundles-end.new.classes) (sym (masked_at_start at masked))
-    (subst (λ (n : ℕ). HasFilled code n (cond (n == at) masked None) c.read_bundles-end.new.classes) (omega arith)
-    (c.read_bundles-end.ensures.read masked c.loop-at.invariant.so_far)) in
+    let so_far = subst (λ (o : Option ℕ). HasFilled code at o c.fill_bundles-end.new.classes) (sym (masked_at_start at masked))
+    (subst (λ (n : ℕ). HasFilled code n (cond (n == at) masked None) c.fill_bundles-end.new.classes) (omega arith)
+    (c.fill_bundles-end.ensures.read masked c.loop-at.invariant.so_far)) in
     record {
       in_code = within;
       so_far = one_filled _ _ _ _ _ _ _ _ _ so_far (some_after code at c.loop-at-test.true) step refl c.step_at-step.ensures.some

@@ -3,7 +3,7 @@ use Rattle.std.specs.Result.{is_err}
 use Rattle.nc_text.specs.Places.{limit_of}
 use Rattle.nc_text.specs.Ready.{AreReady}
 use Rattle.nc_region.specs.Region.{IsInserted, live_chunk}
-use Rattle.nc_list.proofs.Offered.{rises_lower}
+use Rattle.nc_list.proofs.Offered.{ascending_lower}
 use Rattle.nc_region.proofs.chunks.ReadyPlaces.{ready_same}
 use Rattle.nc_region.proofs.deleting.Due.{few}
 use Rattle.nc_region.proofs.create.make_room.Goals as goal
@@ -19,7 +19,7 @@ at_err (Ok x) P contrary h = absurd (let differ : false ≡ true = contrary in l
 at_err (Err y) P is h = h
 
 pub insert-requires-clause-ascending : goal.insert-requires-clause-ascending
-insert-requires-clause-ascending g c = rises_lower 0 65536 c.args.chunks.now (omega arith) c.requires.region.ascending
+insert-requires-clause-ascending g c = ascending_lower 0 65536 c.args.chunks.now (omega arith) c.requires.region.ascending
 
 pub insert-requires-clause-few : goal.insert-requires-clause-few
 insert-requires-clause-few g c =

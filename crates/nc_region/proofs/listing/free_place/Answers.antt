@@ -1,12 +1,12 @@
 use Rattle.std.proofs.Common.{Option, IfSome, refl, subst, arith}
 use Rattle.nc_list.specs.declared.chunk.Chunk.{Chunk}
 use Rattle.nc_list.specs.Chunks.{IsNextChunk}
-use Rattle.nc_list.proofs.Offered.{rises_lower}
+use Rattle.nc_list.proofs.Offered.{ascending_lower}
 use Rattle.nc_region.proofs.chunks.Ascending.{above_all_free, next_free, next_meets}
 use Rattle.nc_region.proofs.listing.free_place.Goals as goal
 
 pub find-next-requires : goal.find-next-requires
-find-next-requires c = rises_lower 0 65536 c.args.chunks.now (omega arith) c.requires.ascending
+find-next-requires c = ascending_lower 0 65536 c.args.chunks.now (omega arith) c.requires.ascending
 
 pub returns-then-chunk-base-clause-meets : goal.returns-then-chunk-base-clause-meets
 returns-then-chunk-base-clause-meets c =

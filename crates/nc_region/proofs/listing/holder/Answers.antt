@@ -1,13 +1,13 @@
 use Rattle.std.proofs.Common.{sym, ap, subst, arith}
 use Rattle.nc_list.specs.declared.chunk.Chunk.{Chunk}
-use Rattle.nc_list.proofs.Offered.{rises_lower}
+use Rattle.nc_list.proofs.Offered.{ascending_lower}
 use Rattle.nc_region.specs.Region.{IsLive}
 use Rattle.nc_region.proofs.chunks.Ascending.{next_contained, only_next}
 use Rattle.nc_region.proofs.listing.holder.Goals as goal
 use Rattle.nc_region.proofs.listing.holder.Goals.{else-is_live-via-then-is_live+else-chunk-at, else-is_live-via-else-is_live}
 
 pub chunk_at-requires : goal.chunk_at-requires
-chunk_at-requires c = rises_lower 0 65536 c.args.chunks.now (omega arith) c.requires
+chunk_at-requires c = ascending_lower 0 65536 c.args.chunks.now (omega arith) c.requires
 
 pub returns-then-chunk-at-clause-some : goal.returns-then-chunk-at-clause-some
 returns-then-chunk-at-clause-some c =

@@ -2,7 +2,7 @@ use Rattle.std.proofs.Common.{Option, IfSome, sym, ap, subst, ◌∙◌, arith}
 use Rattle.std.proofs.lemmas.Grind.{common_steps}
 use Rattle.nc_list.specs.declared.chunk.Chunk.{Chunk}
 use Rattle.nc_list.specs.Chunks.{IsNextChunk}
-use Rattle.nc_list.proofs.Offered.{rises_lower}
+use Rattle.nc_list.proofs.Offered.{ascending_lower}
 use Rattle.nc_region.specs.Region.{IsLive}
 use Rattle.nc_region.proofs.chunks.Ascending.{next_contained, only_next}
 use Rattle.nc_region.proofs.patching.Runs.{live_is_held}
@@ -10,7 +10,7 @@ use Rattle.nc_region.proofs.listing.live_place.Goals as goal
 use Rattle.nc_region.proofs.listing.live_place.Goals.{else-is_live-via-then-is_live+else-chunk-base, else-is_live-via-else-is_live}
 
 pub find-next-requires : goal.find-next-requires
-find-next-requires c = rises_lower 0 65536 c.args.chunks.now (omega arith) c.requires.ascending
+find-next-requires c = ascending_lower 0 65536 c.args.chunks.now (omega arith) c.requires.ascending
 
 pub returns-in_default-clause-none : goal.returns-in_default-clause-none
 returns-in_default-clause-none c = grind (arith, common_steps)

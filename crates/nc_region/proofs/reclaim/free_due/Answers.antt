@@ -1,6 +1,6 @@
 use Rattle.std.proofs.Common.{List, length, ap, arith}
 use Rattle.nc_list.specs.declared.chunk.Chunk.{Chunk}
-use Rattle.nc_region.proofs.deleting.Due.{kept_and_freed}
+use Rattle.nc_list.proofs.Offered.{kept_and_freed}
 use Rattle.nc_region.proofs.deleting.TakingOut.{freed_none, freed_all}
 use Rattle.nc_region.proofs.reclaim.free_due.Goals as goal
 

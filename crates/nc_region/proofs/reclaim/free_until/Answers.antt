@@ -2,9 +2,10 @@ use Rattle.std.proofs.Common.{◌≡◌, ℕ, List, [], length, take, refl, ap, 
 use Rattle.std.proofs.lemmas.List.{length-take-le}
 use Rattle.nc_list.specs.declared.chunk.Chunk.{Chunk}
 use Rattle.nc_region.specs.machinery.Freeing.{AreFreed}
-use Rattle.nc_region.proofs.deleting.TakingOut.{taken_out, taken_shorter, none_due, freed_none, freed_more, freed_same}
+use Rattle.nc_region.proofs.deleting.TakingOut.{taken_out, none_due, freed_none, freed_more, freed_same}
 use Rattle.nc_region.proofs.reclaim.free_until.Given.{Over}
 use Rattle.nc_region.proofs.reclaim.free_until.Goals as goal
+use Rattle.nc_list.proofs.Offered.{taken_long}
 use Rattle.nc_region.proofs.reclaim.free_until.Goals.{After-unmark_taken, Then-count-eq0}
 
 pub loop-least-init : goal.loop-least-init
@@ -48,7 +49,7 @@ pub loop-least-smaller : goal.loop-least-smaller
 loop-least-smaller g c =
     let due : List Chunk = take c.take_due-count.result c.take_due-count.new.room in
     let many : length due ≡ c.take_due-count.result = length-take-le c.take_due-count.result c.take_due-count.new.room c.take_due-count.ensures.count in
-    omega (arith, many, c.if-count-eq0.false, taken_shorter c.args.least c.loop-least.chunks c.take_due-count.new.self due c.take_due-count.ensures.taken)
+    omega (arith, many, c.if-count-eq0.false, taken_long c.args.least c.loop-least.chunks c.take_due-count.new.self due c.take_due-count.ensures.taken)
 
 -- in the last turn none is taken
 none_taken : (g : Over) (c : Then-count-eq0 g) → take c.take_due-count.result c.take_due-count.new.room ≡ []

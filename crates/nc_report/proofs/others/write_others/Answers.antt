@@ -32,7 +32,7 @@ returns-in-Err-write_places-clause-cut g c =
     let classes = subst (HasClasses code) (sym c.deref-2.ensures.value) c.in-Ok.ensures in
     begun_later _ _ c.args.out.now.items _ (Opens f c.args.fault) (ReportsEach f (others_to judged.base judged.limit code seen c.args.own (length code)))
     (ReportsOthers f judged.base judged.limit code c.args.fault c.args.own)
-    (λ a b o t. others_completed f judged.limit judged.base code seen c.args.fault c.args.own classes (a ++ b) (a, b, o, t, refl))
+    (λ a b o t. others_completed f judged.base judged.limit code seen c.args.fault c.args.own classes (a ++ b) (a, b, o, t, refl))
     c.in-Ok-push_opening.ensures c.in-Err-write_places.ensures.cut
 
 pub push_last-requires : goal.push_last-requires
@@ -57,7 +57,7 @@ returns-in-Ok-push_last-clause-ok g c =
     let First = ReportsFirst f judged.base judged.limit code seen c.args.fault c.args.own in
     writes_more _ _ _ c.args.out.now.items c.write_places.new.out.items _ _ [] First (ReportsLast f judged.base judged.limit code seen)
     (ReportsOthers f judged.base judged.limit code c.args.fault c.args.own)
-    (others_reported f judged.limit judged.base code seen c.args.fault c.args.own classes)
+    (others_reported f judged.base judged.limit code seen c.args.fault c.args.own classes)
     (writes_after _ _ c.args.out.now.items _ _ (Opens f c.args.fault) Each First (λ a b o t. (a, b, o, t, refl)) c.in-Ok-push_opening.ensures
     c.in-Ok-write_places.ensures.ok)
     (last_added f judged.base judged.limit code _ _ seen _ c.in-Ok-write_places.ensures.counts c.in-Ok-push_last.ensures)
@@ -73,6 +73,6 @@ returns-clause-cut g c =
     let Each = ReportsEach f (others_to judged.base judged.limit code seen c.args.own (length code)) in
     let First = ReportsFirst f judged.base judged.limit code seen c.args.fault c.args.own in
     cut_here _ _ c.args.out.now.items _ First (ReportsOthers f judged.base judged.limit code c.args.fault c.args.own)
-    (others_completed f judged.limit judged.base code seen c.args.fault c.args.own classes)
+    (others_completed f judged.base judged.limit code seen c.args.fault c.args.own classes)
     (writes_after _ _ c.args.out.now.items _ _ (Opens f c.args.fault) Each First (λ a b o t. (a, b, o, t, refl)) c.in-Ok-push_opening.ensures
     c.in-Ok-write_places.ensures.ok)

@@ -16,7 +16,7 @@ returns-in-Err-write_more-clause-cut g c =
     let style = c.args.style in
     begun_alone (ReportsRefused judged.base judged.limit style c.args.name.now judged.code.now) _ _ _ c.new-out.ensures.items
     (begun_later _ _ _ _ _ _ _
-    (λ a b f m. (end_of style.format, open_text judged.limit judged.base style c.args.name.now judged.code.now c.args.fault c.requires c.in-Ok.ensures.0 a b f m))
+    (λ a b f m. (end_of style.format, open_text judged.base judged.limit style c.args.name.now judged.code.now c.args.fault c.requires c.in-Ok.ensures.0 a b f m))
     c.in-Ok.ensures.1 c.in-Err-write_more.ensures.cut)
 
 pub returns-in-Err-push_end-clause-cut : goal.returns-in-Err-push_end-clause-cut
@@ -25,7 +25,7 @@ returns-in-Err-push_end-clause-cut g c =
     let style = c.args.style in
     begun_alone (ReportsRefused judged.base judged.limit style c.args.name.now judged.code.now) _ _ _ c.new-out.ensures.items
     (cut_here _ _ _ _ (ReportsOpen judged.base judged.limit style c.args.name.now judged.code.now) _ (λ text t. (end_of style.format, t))
-    (reported_open judged.limit judged.base style c.args.name.now judged.code.now _ _ _ c.args.fault _ _ c.requires c.in-Ok.ensures c.in-Ok-write_more.ensures.ok))
+    (reported_open judged.base judged.limit style c.args.name.now judged.code.now _ _ _ c.args.fault _ _ c.requires c.in-Ok.ensures c.in-Ok-write_more.ensures.ok))
 
 pub returns-clause-ok : goal.returns-clause-ok
 returns-clause-ok g c =
@@ -33,8 +33,8 @@ returns-clause-ok g c =
     let style = c.args.style in
     on_ok_weaker c.write_last.result
     (λ all. written_alone (ReportsRefused judged.base judged.limit style c.args.name.now judged.code.now) _ _ _ c.new-out.ensures.items
-    (writes_more _ _ _ _ _ _ [] _ _ _ _ (whole judged.limit judged.base style c.args.name.now judged.code.now)
-    (reported_open judged.limit judged.base style c.args.name.now judged.code.now _ _ _ c.args.fault _ _ c.requires c.in-Ok.ensures c.in-Ok-write_more.ensures.ok)
+    (writes_more _ _ _ _ _ _ [] _ _ _ _ (whole judged.base judged.limit style c.args.name.now judged.code.now)
+    (reported_open judged.base judged.limit style c.args.name.now judged.code.now _ _ _ c.args.fault _ _ c.requires c.in-Ok.ensures c.in-Ok-write_more.ensures.ok)
     (end_added style _ _ c.in-Ok-push_end.ensures)
     (subst (λ (xs : List ℕ). Appends (g.W.Write.contents c.write_more.new.writer) (g.W.Write.contents c.write_last.new.writer) xs)
     c.deref.ensures.value all) (append-nil _)))
@@ -50,9 +50,9 @@ returns-clause-cut g c =
     (λ a b t e. (
       [],
       subst (ReportsRefused judged.base judged.limit style c.args.name.now judged.code.now) (sym (append-nil (a ++ b)))
-          (whole judged.limit judged.base style c.args.name.now judged.code.now a b t e),
+          (whole judged.base judged.limit style c.args.name.now judged.code.now a b t e),
     ))
-    (reported_open judged.limit judged.base style c.args.name.now judged.code.now _ _ _ c.args.fault _ _ c.requires c.in-Ok.ensures c.in-Ok-write_more.ensures.ok)
+    (reported_open judged.base judged.limit style c.args.name.now judged.code.now _ _ _ c.args.fault _ _ c.requires c.in-Ok.ensures c.in-Ok-write_more.ensures.ok)
     (end_added style _ _ c.in-Ok-push_end.ensures)
     (subst (λ (xs : List ℕ). Appends (g.W.Write.contents c.write_more.new.writer) (g.W.Write.contents c.write_last.new.writer) (take w.0 xs))
     c.deref.ensures.value w.1)))

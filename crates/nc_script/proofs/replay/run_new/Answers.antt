@@ -2,11 +2,11 @@
 use Rattle.std.proofs.Common.{◌≢◌, List, replicate, inr, refl}
 use Rattle.std.specs.Prelude.{Result, Ok, Err, IfErr, IsErrOf}
 use Rattle.std.proofs.lemmas.Result.{on_ok_weaker}
+use Rattle.std.proofs.lemmas.Option.{IfSome_then}
 use Rattle.nc_lines.specs.declared.fault.ReplayFault.{ReplayFault}
 use Rattle.nc_lines.specs.declared.fault.ReplayFault.TheVariants.{BadSize, BadSeats, BadWorkers}
 use Rattle.nc_lines.specs.Lines.{lines_of, ended_lines}
 use Rattle.nc_lines.specs.Answering.{IsAnswered, IsBegun, IsCutShort}
-use Rattle.nc_region.proofs.Offered.{if_map}
 use Rattle.nc_script.specs.Answers.{AnswersOnly, new_script}
 use Rattle.nc_script.specs.Run.{HasAnswered}
 use Rattle.nc_script.specs.Script.{ScriptSeat, Staying}
@@ -45,19 +45,17 @@ returns-in-Ok-new-2 g c =
       untouched = λ wrong. absurd (wrong (c.requires.size, c.requires.seats));
       ok = on_ok_weaker c.answer_gathered.result
           (λ h.
-          if_map input
-          (λ bytes. IsAnswered FollowsLine old c.answer_gathered.new.responder before after (lines_of bytes))
-          (λ bytes. HasAnswered c.args.bundles c.args.seats before after (lines_of bytes))
-          (λ bytes a. answered_script old seats 0 script fits begins c.answer_gathered.new.responder before after (lines_of bytes) a)
-          h)
+          IfSome_then input
+          {P = (λ bytes. IsAnswered FollowsLine old c.answer_gathered.new.responder before after (lines_of bytes))}
+          {Q = (λ bytes. HasAnswered c.args.bundles c.args.seats before after (lines_of bytes))}
+          h (λ bytes a. answered_script old seats 0 script fits begins c.answer_gathered.new.responder before after (lines_of bytes) a))
           ran.ok;
       read = ran.read;
       write_failed = λ e.
-          if_map input
-          (λ bytes. IsBegun FollowsLine old before after (lines_of bytes))
-          (λ bytes. IsBegun AnswersOnly script before after (lines_of bytes))
-          (λ bytes b. begun_script old seats 0 script fits begins before after (lines_of bytes) b)
-          (ran.write_failed e);
+          IfSome_then input
+          {P = (λ bytes. IsBegun FollowsLine old before after (lines_of bytes))}
+          {Q = (λ bytes. IsBegun AnswersOnly script before after (lines_of bytes))}
+          (ran.write_failed e) (λ bytes b. begun_script old seats 0 script fits begins before after (lines_of bytes) b);
       read_failed = λ e.
           (let (front, consumed, answered) = ran.read_failed e in (
             front,
@@ -66,9 +64,8 @@ returns-in-Ok-new-2 g c =
           ));
       out_of_memory = λ e.
           inr
-          (if_map input
-          (λ bytes. IsCutShort FollowsLine old before after (lines_of bytes))
-          (λ bytes. IsCutShort AnswersOnly script before after (lines_of bytes))
-          (λ bytes s. cut_script old seats 0 script fits begins before after (lines_of bytes) s)
-          (ran.out_of_memory e));
+          (IfSome_then input
+          {P = (λ bytes. IsCutShort FollowsLine old before after (lines_of bytes))}
+          {Q = (λ bytes. IsCutShort AnswersOnly script before after (lines_of bytes))}
+          (ran.out_of_memory e) (λ bytes s. cut_script old seats 0 script fits begins before after (lines_of bytes) s));
     }

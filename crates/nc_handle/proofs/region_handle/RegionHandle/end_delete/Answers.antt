@@ -5,7 +5,7 @@ use Rattle.nc_region.specs.Region.{Region, IsRegion}
 use Rattle.nc_region.proofs.Offered.{listed_there}
 use Rattle.nc_calls.specs.Calls.{no_details}
 use Rattle.nc_calls.specs.Histories.{LogsCall}
-use Rattle.nc_handle.specs.RegionHandle.{RegionHandleState, CanEnd, HasEnded}
+use Rattle.nc_handle.specs.RegionHandle.{RegionHandleState, CanEnd, HasEndedDeletion}
 use Rattle.nc_handle.proofs.Reporting.{ends}
 use Rattle.nc_handle.proofs.OneChunk.{one_of_base}
 use Rattle.nc_handle.proofs.region_handle.RegionHandle.end_delete.Goals as goal
@@ -28,7 +28,7 @@ returns-clause-ended c =
     subst (λ (d : Chunk). LogsCall seats (record no_details { base = begun.base; len = d.length }) old new)
     (one_of_base old.marked old.chunks is.0 begun whole is.1 live is.2) is.3 in
     subst
-    (λ (h : RegionHandleState). HasEnded h (record { region = new; passes = c.self.inside.passes.items; begun = None }) c.in-Ok.stamp)
+    (λ (h : RegionHandleState). HasEndedDeletion h (record { region = new; passes = c.self.inside.passes.items; begun = None }) c.in-Ok.stamp)
     c.self.view_is
     (record {
       chunk = begun;

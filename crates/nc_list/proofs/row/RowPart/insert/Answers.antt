@@ -8,7 +8,7 @@ use Rattle.nc_list.specs.Chunks.{IsAscending, Meets, live}
 use Rattle.nc_list.specs.Stamps.{BeginsAt}
 use Rattle.nc_list.specs.Parts.{IsRow, IsPut, all_of}
 use Rattle.nc_list.proofs.Pieces.{part_is, starts_long}
-use Rattle.nc_list.proofs.Pairs.{written}
+use Rattle.std.proofs.lemmas.List.{take_at}
 use Rattle.nc_list.proofs.Parting.{kept_parts, starts_many}
 use Rattle.nc_list.proofs.Rows.{rise_here, free_here, few_here, put_all, row_same, row_put, starts_few}
 use Rattle.nc_list.proofs.row.RowPart.insert.Given.{Over}
@@ -146,7 +146,7 @@ invariant_of-self-2 g c =
       starts_many g.T.Part.items c.part_for_new.new.parts.items starts c.part_for_new.ensures.starts,
       c.part_for_new.new.starts.ok.0,
     ) in
-    rw (sets, written starts c.raise.new.starts c.part_for_new.new.starts.len size (sym c.part_for_new.new.starts.ok.0), are) now
+    rw (sets, take_at c.raise.new.starts _ c.part_for_new.new.starts.len size, are) now
 
 pub returns-clause-ok : goal.returns-clause-ok
 returns-clause-ok g c =

@@ -6,7 +6,7 @@ use Rattle.nc_list.specs.Each.{Each}
 use Rattle.nc_list.specs.Stamps.{BeginsAt, AreSince}
 use Rattle.nc_list.specs.Parts.{AreTakenFrom, OthersHaveSome, all_of, starts_of}
 use Rattle.nc_list.proofs.Pieces.{part_is, starts_long}
-use Rattle.nc_list.proofs.Pairs.{written}
+use Rattle.std.proofs.lemmas.List.{take_at}
 use Rattle.nc_list.proofs.Parting.{starts_many}
 use Rattle.nc_list.proofs.Rows.{lowered, enough_behind, set_others}
 use Rattle.nc_list.proofs.Taking.{taken_from}
@@ -91,7 +91,7 @@ close_up-requires-clause-starts g c =
       ap (λ (z : List ℕ). length z) c.self.invariant.starts_are,
       c.self.inside.starts.ok.0,
     ) in
-    written starts c.lower.new.starts c.self.inside.starts.len size (sym c.self.inside.starts.ok.0) ∙ now
+    take_at c.lower.new.starts _ c.self.inside.starts.len size ∙ now
 
 pub close_up-requires-clause-have : goal.close_up-requires-clause-have
 close_up-requires-clause-have g c =

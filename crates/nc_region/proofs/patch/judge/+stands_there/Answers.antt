@@ -1,9 +1,10 @@
 use Rattle.std.proofs.Common.{◌≡◌, ◌≢◌, ℕ, ◌+◌, ◌-◌, ◌<◌, Bool, true, false, List, [], ◌∷◌, length, get_or, take, drop, eqb-true, sym, ap, ◌∙◌, refl, arith}
 use Rattle.std.specs.Prelude.{◌&&◌}
-use Rattle.std.proofs.lemmas.Bool.{eqb-false, eq-eqb, ne_eqb}
+use Rattle.std.proofs.lemmas.Bool.{eqb-false, ne_eqb}
 use Rattle.std.proofs.lemmas.List.{take_all}
 use Rattle.nc_text.specs.Places.{byte_at}
 use Rattle.nc_region.specs.Patch.{stands_there}
+use Rattle.nc_region.proofs.patching.Turns.{stands_first}
 use Rattle.nc_region.proofs.patch.judge.+stands_there.Goals as goal
 
 -- an empty list of bytes stands anywhere
@@ -17,7 +18,7 @@ stands_behind : (text : List ℕ) (at : ℕ) (bytes : List ℕ) → 0 < length b
 stands_behind text at [] some first = absurd (omega arith)
 stands_behind text at (byte ∷ rest) some first =
     ap (λ (z : List ℕ). stands_there text (at + 1) z) (take_all (length (byte ∷ rest) - 1) rest (omega arith))
-    ∙ ap (λ (z : Bool). z && stands_there text (at + 1) rest) (sym (eq-eqb (byte_at text at) byte first))
+    ∙ sym (stands_first text at (byte ∷ rest) some first)
 
 -- where the first byte doesn't stand in the text, bytes don't
 stands_not : (text : List ℕ) (at : ℕ) (bytes : List ℕ) → 0 < length bytes → byte_at text at ≢ get_or bytes 0 0

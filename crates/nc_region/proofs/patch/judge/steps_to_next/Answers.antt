@@ -1,13 +1,13 @@
-use Rattle.std.proofs.Common.{◌≡◌, ℕ, ◌+◌, ◌-◌, ◌/◌, ◌^◌, ◌<◌, ◌≤◌, subst, ◌∙◌, ap, arith, ⊎_elim, add-one}
+use Rattle.std.proofs.Common.{sym, ◌≡◌, ℕ, ◌+◌, ◌-◌, ◌/◌, ◌^◌, ◌<◌, ◌≤◌, subst, ◌∙◌, ap, arith, ⊎_elim, add-one}
 use Rattle.std.specs.Int.{bit_at}
 use Rattle.std.proofs.lemmas.Bool.{cases_lt}
 use Rattle.std.proofs.lemmas.Nat.Bits.{bit_at-zero, bit_at-suc, bit_at_above}
-use Rattle.nc_region.proofs.patching.Lengths.{bit_behind}
+use Rattle.nc_decode.proofs.Offered.{bit_passed}
 use Rattle.nc_region.proofs.patch.judge.steps_to_next.Goals as goal
 
 -- the bits behind a place
 behind : (places from k : ℕ) → bit_at places (from + (k + 1)) ≡ bit_at (places / 2 ^ from / 2) k
-behind places from k = bit_behind places from (k + 1) ∙ (ap (λ (j : ℕ). bit_at (places / 2 ^ from) j) (add-one k) ∙ bit_at-suc (places / 2 ^ from) k)
+behind places from k = sym (bit_passed places from (k + 1)) ∙ (ap (λ (j : ℕ). bit_at (places / 2 ^ from) j) (add-one k) ∙ bit_at-suc (places / 2 ^ from) k)
 
 pub returns-then-behind-eq0-clause-between : goal.returns-then-behind-eq0-clause-between
 returns-then-behind-eq0-clause-between c = λ k some lt.

@@ -11,6 +11,7 @@ use Rattle.nc_region.specs.Patch.{any_place, acts_of_instruction, log_of_instruc
 use Rattle.nc_region.specs.machinery.PatchSteps.{IsReplacing}
 use Rattle.nc_region.proofs.chunks.ReadyPlaces.{ready_part, ready_place}
 use Rattle.nc_region.proofs.patching.Replacing.{single_span}
+use Rattle.nc_region.proofs.patching.OneInstruction.{log_of_one}
 use Rattle.nc_region.proofs.patch.put.put_instruction.Goals as goal
 
 -- the first byte and those behind it
@@ -23,11 +24,6 @@ acts_of_one : (at : ℕ) (bytes : List ℕ) → length bytes ≡ 1 → Put at (g
 acts_of_one at [] one = absurd (omega arith)
 acts_of_one at (byte ∷ []) one = refl
 acts_of_one at (byte ∷ next ∷ rest) one = absurd (omega arith)
-
-log_of_one : (at : ℕ) (bytes : List ℕ) → length bytes ≡ 1 → Did (Put at (get_or bytes 0 0)) ∷ [] ≡ log_of_instruction at bytes
-log_of_one at [] one = absurd (omega arith)
-log_of_one at (byte ∷ []) one = refl
-log_of_one at (byte ∷ next ∷ rest) one = absurd (omega arith)
 
 -- the acts on an instruction of several bytes: a stop, the bytes behind the first, the first
 acts_of_more : (at first : ℕ) (rest : List ℕ) → 0 < length rest
@@ -78,7 +74,7 @@ returns-then-is_empty-clause-log g c =
     let r = c.requires.replacing in
     let none = eqb-true _ _ (sym c.is_empty.ensures ∙ c.if-is_empty.true) in
     let one : length c.args.bytes.now ≡ 1 = omega (arith, none, r.some, length-take {A = ℕ}, length-drop {A = ℕ}) in
-    rw (← log_of_one c.args.at c.args.bytes.now one) c.put.ensures.logged
+    rw (log_of_one c.args.at c.args.bytes.now one) c.put.ensures.logged
 
 pub put_longer-requires-clause-some : goal.put_longer-requires-clause-some
 put_longer-requires-clause-some g c =

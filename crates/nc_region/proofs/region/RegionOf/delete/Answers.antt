@@ -58,10 +58,10 @@ retire-requires-clause-base g c =
     (c.in-Some.chunk, f.0, f.2, placed.some)
 
 -- the list with the chunk retired
-listed : (chunks new : List Chunk) (limit base stamp : ℕ) (c : Chunk) (has : Contains chunks c) → IsAscending 65536 chunks
+listed : (chunks new : List Chunk) (base limit stamp : ℕ) (c : Chunk) (has : Contains chunks c) → IsAscending 65536 chunks
     → Each (λ (d : Chunk). HasGoodSpan d.base limit d.length) chunks → c.base ≡ base → IsRetired chunks new base stamp
     → new ≡ set chunks has.0 (record c { state = Retired stamp })
-listed chunks new limit base stamp c has ascending placed base_is retired =
+listed chunks new base limit stamp c has ascending placed base_is retired =
     retired_set chunks new has.0 base stamp c ascending
     (each_map (λ (d : Chunk). HasGoodSpan d.base limit d.length) (λ (d : Chunk). 0 < d.length) (λ d p. p.some) chunks placed) has.1 has.2
     base_is retired
@@ -72,7 +72,7 @@ invariant_of-self g c =
     let f = c.in-Some.ensures.some in
     let chunks = c.self.inside.chunks in
     let old = g.A.Acts.marked c.self.inside.acts in
-    let list = listed chunks c.retire.new.self (limit_of old.bytes) c.args.base c.put_stops-stamp.result chunk f.0
+    let list = listed chunks c.retire.new.self c.args.base (limit_of old.bytes) c.put_stops-stamp.result chunk f.0
     c.self.invariant.0.ascending c.self.invariant.0.placed f.2 c.retire.ensures in
     let region = region_deleted old (g.A.Acts.marked c.put_stops-stamp.new.acts) chunks f.0.0 chunk c.put_stops-stamp.result
     (record {
@@ -106,7 +106,7 @@ returns-clause-deleted g c =
     (omega (arith, c.generation.ensures.generation, c.if-generation-ge-LAST_GENERATION.false))
     c.put_stops-stamp.ensures.stamp c.put_stops-stamp.ensures.bytes c.put_stops-stamp.ensures.marks
     c.put_stops-stamp.ensures.made
-    (listed chunks c.retire.new.self (limit_of old.marked.bytes) c.args.base c.put_stops-stamp.result chunk f.0
+    (listed chunks c.retire.new.self c.args.base (limit_of old.marked.bytes) c.put_stops-stamp.result chunk f.0
     c.self.invariant.0.ascending c.self.invariant.0.placed f.2 c.retire.ensures)
     c.put_stops-stamp.ensures.keeper c.put_stops-stamp.ensures.log)
 

@@ -9,15 +9,15 @@ use Rattle.nc_region.specs.Each.{Each}
 use Rattle.nc_region.proofs.region.RegionOf.live_at.Goals as goal
 
 -- what is found lies in the region
-placed : (limit base : ℕ) (chunks : List Chunk) (found : Option Chunk) → Each (λ (c : Chunk). HasGoodSpan c.base limit c.length) chunks
+placed : (base limit : ℕ) (chunks : List Chunk) (found : Option Chunk) → Each (λ (c : Chunk). HasGoodSpan c.base limit c.length) chunks
     → IfSome found (λ c. Contains chunks c × (c.state ≡ Live) × (c.base ≡ base)) → IfSome found (λ c. HasGoodSpan c.base limit c.length)
-placed limit base chunks None all is = tt
-placed limit base chunks (Some c) all is = each_contains (λ (d : Chunk). HasGoodSpan d.base limit d.length) chunks c all is.0
+placed base limit chunks None all is = tt
+placed base limit chunks (Some c) all is = each_contains (λ (d : Chunk). HasGoodSpan d.base limit d.length) chunks c all is.0
 
 pub live_at-requires-clause-some : goal.live_at-requires-clause-some
 live_at-requires-clause-some g c = grind (arith, elements)
 
 pub returns-clause-placed : goal.returns-clause-placed
 returns-clause-placed g c =
-    rw (← c.self.view_is) (placed (limit_of (g.A.Acts.marked c.self.inside.acts).bytes) c.args.base c.self.inside.chunks c.live_at.result
+    rw (← c.self.view_is) (placed c.args.base (limit_of (g.A.Acts.marked c.self.inside.acts).bytes) c.self.inside.chunks c.live_at.result
     c.self.invariant.0.placed c.live_at.ensures.some)

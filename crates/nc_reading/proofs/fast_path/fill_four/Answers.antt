@@ -1,7 +1,7 @@
 use Rattle.std.proofs.Common.{◌<◌, get_or, ℕ, Option, arith, subst}
 use Rattle.nc_reading.specs.machinery.Seen.{HasFilled}
 use Rattle.nc_reading.proofs.BundleReading.{masked_at_start}
-use Rattle.nc_reading.proofs.fast_path.read_four.Goals as goal
+use Rattle.nc_reading.proofs.fast_path.fill_four.Goals as goal
 
 pub returns : goal.returns
 returns c =

@@ -3,7 +3,7 @@ use Rattle.nc_region.specs.machinery.PatchSteps.{Begins}
 use Rattle.nc_region.proofs.patching.Standing.{standing, runs_from, runs_to}
 use Rattle.nc_region.proofs.patching.Runs.{begins_marked, run_of, run_begins, run_along, run_marked}
 use Rattle.nc_region.proofs.patching.OneInstruction.{IsOne, piece_of, one_is, one_run}
-use Rattle.nc_region.proofs.patch.fits_single.Goals as goal
+use Rattle.nc_region.proofs.patch.judge.fits_single.Goals as goal
 
 pub length_at-requires-clause-begins : goal.length_at-requires-clause-begins
 length_at-requires-clause-begins g c =

@@ -2,7 +2,7 @@ use Rattle.std.proofs.Common.{◌≡◌, true, false, [], ◌∷◌, sym, ◌∙
 use Rattle.nc_decode.proofs.Offered.{has_its_length}
 use Rattle.nc_region.proofs.patching.Runs.{run_begins}
 use Rattle.nc_region.proofs.patching.OneInstruction.{IsOne, piece_of, one_is, one_run, one_leaves, one_keeps}
-use Rattle.nc_region.proofs.patch.judge_single.Goals as goal
+use Rattle.nc_region.proofs.patch.judge.judge_single.Goals as goal
 
 pub returns-then-not-fits_single-clause-refused : goal.returns-then-not-fits_single-clause-refused
 returns-then-not-fits_single-clause-refused g c =
