@@ -170,11 +170,11 @@ def draw_lines(picture, graph, at, level):
 def legend(picture, y, uses):
     x = 18
     for kind, color in COLORS.items():
-        picture.rect(x, y - 12, 16, 14, FILLS[color], color, round_=3)
-        picture.text(x + 22, y, kind, size=13)
+        picture.rect((x, y - 12, 16, 14), FILLS[color], color, round_=3)
+        picture.text((x + 22, y), kind, size=13)
         x += 40 + width_of(kind, 13)
     beside = ", ".join(sorted(BESIDE & set(uses)))
-    picture.text(x, y, f"Not drawn: lines that follow from others; {beside}", size=13)
+    picture.text((x, y), f"Not drawn: lines that follow from others; {beside}", size=13)
     picture.height = y + 16
 
 
@@ -190,10 +190,10 @@ def draw():
     level = {place: tops[k] for k, row in enumerate(graph.rows) for place in row}
     draw_lines(picture, graph, at, level)
     for k, y in enumerate(tops):
-        picture.text(18, y + 23, f"Layer {k + 1}", size=13, color=GRAY, bold=True)
+        picture.text((18, y + 23), f"Layer {k + 1}", size=13, color=GRAY, face="bold")
     for name in drawn:
         color = COLORS[kinds[name]]
-        picture.rect(at[name] - wide(name) / 2, level[name], wide(name), HIGH, FILLS[color], color, round_=6)
-        picture.text(at[name], level[name] + 23, name, "middle", 14, bold=True)
+        picture.rect((at[name] - wide(name) / 2, level[name], wide(name), HIGH), FILLS[color], color, round_=6)
+        picture.text((at[name], level[name] + 23), name, "middle", 14, face="bold")
     legend(picture, tops[0] + HIGH + 30, uses)
     return picture

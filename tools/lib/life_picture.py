@@ -82,11 +82,11 @@ def span_row(picture, y, life, before):
         byte = life.bytes[place]
         is_new = byte != before.bytes[place]
         color = GRAY if byte == STOP else BLUE
-        picture.rect(x + 1, y + 4, CELL - 3, 24, FILLS[color], INK if is_new else color, 2 if is_new else 1)
-        picture.text(x + CELL / 2, y + 21, f"{byte:02X}", "middle", 14, mono=True)
+        picture.rect((x + 1, y + 4, CELL - 3, 24), FILLS[color], INK if is_new else color, 2 if is_new else 1)
+        picture.text((x + CELL / 2, y + 21), f"{byte:02X}", "middle", 14, face="mono")
         if life.marks[place]:
             picture.shape([(x + CELL / 2 - 5, y + 42), (x + CELL / 2 + 5, y + 42), (x + CELL / 2, y + 32)], GREEN)
-    picture.text(PAGE + CELL * (len(PLACES) - 1) + 8, y + 20, "..", "middle", 13)
+    picture.text((PAGE + CELL * (len(PLACES) - 1) + 8, y + 20), "..", "middle", 13)
 
 
 def seats_row(picture, y, line, life, before):
@@ -94,29 +94,29 @@ def seats_row(picture, y, line, life, before):
     for k, (x, now, old) in enumerate(zip(SEATS, [life.generation, *life.seats], [before.generation, *before.seats])):
         color = GREEN if now != old else RED if line == "reclaim" and life.chunk and k and now < life.stamp else None
         if color:
-            picture.rect(x - 13, y + 9, 26, 30, FILLS[color], color, 2, round_=4)
-        picture.text(x, y + 30, str(now), "middle", 15, bold=bool(color))
+            picture.rect((x - 13, y + 9, 26, 30), FILLS[color], color, 2, round_=4)
+        picture.text((x, y + 30), str(now), "middle", 15, face="bold" if color else "")
 
 
 def row(picture, y, line, reply, life, before):
     """One call, and what is so after it."""
     state = life.chunk or "unused"
-    picture.rect(STATE, y + 6, 66, 36, FILLS[COLORS[state]], COLORS[state], round_=6)
-    picture.text(STATE + 33, y + 29, state, "middle", 13, bold=True)
+    picture.rect((STATE, y + 6, 66, 36), FILLS[COLORS[state]], COLORS[state], round_=6)
+    picture.text((STATE + 33, y + 29), state, "middle", 13, face="bold")
     words = line.split()
-    picture.text(CALL, y + 21, " ".join(words[:1] + [word for word in words[1:] if len(word) < 3]) or "(a new region)", size=14,
-                 bold=bool(line))
+    picture.text((CALL, y + 21), " ".join(words[:1] + [word for word in words[1:] if len(word) < 3]) or "(a new region)", size=14,
+                 face="bold" if line else "")
     if line:
         more = [word[:4].upper() + (" .." if len(word) > 4 else "") for word in words[2:]]
-        picture.text(CALL, y + 39, " ".join([*more, "→", reply]), size=13)
+        picture.text((CALL, y + 39), " ".join([*more, "→", reply]), size=13)
     if life.chunk:
-        picture.text(LIST, y + 21, f"{BASE:08X}", size=13, mono=True)
-        picture.text(LIST, y + 39, f"stamp {life.stamp}" if life.chunk == "retired" else f"live, {BUNDLE} bytes", size=13)
+        picture.text((LIST, y + 21), f"{BASE:08X}", size=13, face="mono")
+        picture.text((LIST, y + 39), f"stamp {life.stamp}" if life.chunk == "retired" else f"live, {BUNDLE} bytes", size=13)
     else:
-        picture.text(LIST, y + 29, "no chunk", size=13, color=GRAY)
+        picture.text((LIST, y + 29), "no chunk", size=13, color=GRAY)
     span_row(picture, y, life, before)
     seats_row(picture, y, line, life, before)
-    picture.line(STATE, y + HIGH - 4, picture.width - STATE, y + HIGH - 4, "#ddd")
+    picture.line((STATE, y + HIGH - 4), (picture.width - STATE, y + HIGH - 4), "#ddd")
 
 
 def heads(picture):
@@ -125,21 +125,21 @@ def heads(picture):
             (STATE, "Span", "", "start"), (CALL, "Call", "and its reply", "start"), (LIST, "List", "of chunks", "start"),
             (PAGE, "Page", f"bytes from {BASE:08X} to {BASE + BUNDLE - 1:08X}", "start"), (SEATS[0], "Generation", "", "middle"),
             (SEATS[1], "Seat 0", "", "middle"), (SEATS[2], "Seat 1", "", "middle")]:
-        picture.text(x, 66, words, anchor, 14, bold=True)
+        picture.text((x, 66), words, anchor, 14, face="bold")
         if more:
-            picture.text(x, 83, more, anchor, 12)
-    picture.line(STATE, TOP - 6, picture.width - STATE, TOP - 6, INK)
+            picture.text((x, 83), more, anchor, 12)
+    picture.line((STATE, TOP - 6), (picture.width - STATE, TOP - 6), INK)
 
 
 def notes(picture, y):
     picture.shape([(PAGE + 2, y - 1), (PAGE + 12, y - 1), (PAGE + 7, y - 11)], GREEN)
-    picture.text(PAGE + 20, y, "marked: a thread may be at this place", size=13)
+    picture.text((PAGE + 20, y), "marked: a thread may be at this place", size=13)
     for x, words, color in [(SEATS[0], "changed", GREEN), (SEATS[1], "holds back", RED)]:
-        picture.text(x, y, words, "start", 13, color, bold=True)
+        picture.text((x, y), words, "start", 13, color, face="bold")
     for k, words in enumerate([
             "A deletion draws a stamp, the new generation. It puts stops, and leaves the marks: a thread may still be there.",
             "A check-in sets the seat's number to the generation. A reclaim frees a chunk if no seat's number is below its stamp."]):
-        picture.text(STATE, y + 28 + 20 * k, words, size=13)
+        picture.text((STATE, y + 28 + 20 * k), words, size=13)
     picture.height = y + 28 + 20 + 14
 
 

@@ -98,9 +98,9 @@ def cell(picture, x, lane, code, old, new):
     """What a thread reads: the bytes, and the instruction that they are."""
     y, high = LANES[lane]
     color = color_of(code, old, new)
-    picture.rect(x + 4, y, WIDE - 8, high - 14, FILLS[color], color, round_=4)
-    picture.text(x + WIDE / 2, y + 25, bytes(code).hex(" ").upper(), "middle", 17, mono=True)
-    picture.text(x + WIDE / 2, y + 47, name_of(code), "middle", 12)
+    picture.rect((x + 4, y, WIDE - 8, high - 14), FILLS[color], color, round_=4)
+    picture.text((x + WIDE / 2, y + 25), bytes(code).hex(" ").upper(), "middle", 17, face="mono")
+    picture.text((x + WIDE / 2, y + 47), name_of(code), "middle", 12)
 
 
 def act(picture, x, entry):
@@ -108,26 +108,26 @@ def act(picture, x, entry):
     y, high = LANES["acts"]
     if entry == SERIALIZED:
         bottom = LANES["any"][0] + LANES["any"][1]
-        picture.rect(x + 1, y, WIDE - 2, bottom - y + 4, FILLS[ORANGE], ORANGE, dashed=True, round_=4)
-        picture.text(x + WIDE / 2, y + 25, "serialize", "middle", 15, ORANGE, bold=True)
-        picture.text(x + WIDE / 2, y + 47, "all processors", "middle", 13, ORANGE)
+        picture.rect((x + 1, y, WIDE - 2, bottom - y + 4), FILLS[ORANGE], ORANGE, dashed=True, round_=4)
+        picture.text((x + WIDE / 2, y + 25), "serialize", "middle", 15, ORANGE, face="bold")
+        picture.text((x + WIDE / 2, y + 47), "all processors", "middle", 13, ORANGE)
     elif entry:
-        picture.rect(x + 4, y, WIDE - 8, high - 14, "#fff", INK, round_=4)
-        picture.text(x + WIDE / 2, y + 25, f"put {entry[1]:02X}", "middle", 15, bold=True)
-        picture.text(x + WIDE / 2, y + 47, f"at {entry[0]:08X}", "middle", 12)
+        picture.rect((x + 4, y, WIDE - 8, high - 14), "#fff", INK, round_=4)
+        picture.text((x + WIDE / 2, y + 25), f"put {entry[1]:02X}", "middle", 15, face="bold")
+        picture.text((x + WIDE / 2, y + 47), f"at {entry[0]:08X}", "middle", 12)
 
 
 def lanes(picture):
     """What each lane is, and time above them."""
-    picture.text(LEFT - 12, 54, "time", "end", 13)
-    picture.line(LEFT - 4, 50, 886, 50, INK)
+    picture.text((LEFT - 12, 54), "time", "end", 13)
+    picture.line((LEFT - 4, 50), (886, 50), INK)
     picture.shape([(886, 46), (886, 54), (894, 50)], INK)
     said = {"acts": ["The writer"], "prompt": ["Thread A reads", "each store at once:", "the text itself"],
             "late": ["Thread B reads", "no store before", "it serializes"], "any": ["Any thread", "executes one of", "these"]}
     for lane, words in said.items():
         y, high = LANES[lane]
         for k, part in enumerate(words):
-            picture.text(14, y + high / 2 - 8 * len(words) + 17 * k + 6, part, size=13, bold=k == 0)
+            picture.text((14, y + high / 2 - 8 * len(words) + 17 * k + 6), part, size=13, face="bold" if k == 0 else "")
 
 
 def draw_moments(picture, log, old, new):
@@ -141,12 +141,12 @@ def draw_moments(picture, log, old, new):
         cell(picture, x, "late", late, old, new)
         names = sorted({(color_of(code, old, new) != BLUE, color_of(code, old, new) != GRAY, name_of(code)) for code in mixed})
         for row, (_, _, name) in enumerate(names):
-            picture.text(x + WIDE / 2, LANES["any"][0] + 34 - 9 * len(names) + 18 * row, name, "middle", 12)
+            picture.text((x + WIDE / 2, LANES["any"][0] + 34 - 9 * len(names) + 18 * row), name, "middle", 12)
         if any(color_of(code, old, new) == RED for code in mixed):
             raise Unread("by the definition a mixture of old and new bytes could be executed")
-    picture.text(LEFT + WIDE / 2, LANES["acts"][0] + 35, "before", "middle", 14)
-    picture.text(LEFT + WIDE * (len(log) + 1.5), LANES["acts"][0] + 25, "once B has", "middle", 14)
-    picture.text(LEFT + WIDE * (len(log) + 1.5), LANES["acts"][0] + 43, "serialized", "middle", 14)
+    picture.text((LEFT + WIDE / 2, LANES["acts"][0] + 35), "before", "middle", 14)
+    picture.text((LEFT + WIDE * (len(log) + 1.5), LANES["acts"][0] + 25), "once B has", "middle", 14)
+    picture.text((LEFT + WIDE * (len(log) + 1.5), LANES["acts"][0] + 43), "serialized", "middle", 14)
 
 
 def notes(picture, log, old, new, wrong):
@@ -160,8 +160,8 @@ def notes(picture, log, old, new, wrong):
             raise Unread(f"{TEST}: with serialization {k + 1} left out the drawing finds no {code} at {PLACE:08X}")
         end = "a jump without its mask" if mixed[0] == 0xFF else "not a bundle start"
         words = f"Without the {['first', 'second'][k]} serialization: {bytes(mixed).hex(' ').upper()}, which is {name_of(mixed)}, {end}."
-        picture.text(LEFT + 4, y + 22 * k, words, size=14, color=RED)
-    picture.text(14, y + 11, "Why it serializes", size=13, bold=True, color=RED)
+        picture.text((LEFT + 4, y + 22 * k), words, size=14, color=RED)
+    picture.text((14, y + 11), "Why it serializes", size=13, face="bold", color=RED)
     picture.height = y + 22 * len(wrong) + 6
 
 

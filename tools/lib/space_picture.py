@@ -41,32 +41,32 @@ def size(count):
 
 def bar(picture, space):
     """The zone, the region's spans, the guard, and the addresses above."""
-    picture.rect(ZONE, TOP, REGION - ZONE, HIGH, FILLS[GREEN], GREEN)
+    picture.rect((ZONE, TOP, REGION - ZONE, HIGH), FILLS[GREEN], GREEN)
     for k in range(1, 10):
-        picture.line(ZONE + 15 * k, TOP, ZONE + 15 * k, TOP + 9, GREEN)
-    picture.text((ZONE + REGION) / 2, TOP + 28, "zone", "middle", 15, bold=True)
-    picture.text((ZONE + REGION) / 2, TOP + 46, "trampolines", "middle", 13)
+        picture.line((ZONE + 15 * k, TOP), (ZONE + 15 * k, TOP + 9), GREEN)
+    picture.text(((ZONE + REGION) / 2, TOP + 28), "zone", "middle", 15, face="bold")
+    picture.text(((ZONE + REGION) / 2, TOP + 46), "trampolines", "middle", 13)
     stop = f"{space.stop:02X}"
     for left, right, name, color in [*SPANS, (GUARD, ABOVE, "guard", GRAY)]:
-        picture.rect(left, TOP, right - left, HIGH, FILLS[color], color)
+        picture.rect((left, TOP, right - left, HIGH), FILLS[color], color)
         if name:
-            picture.text((left + right) / 2, TOP + 28, name, "middle", 13 if name == "guard" else 15, bold=True)
+            picture.text(((left + right) / 2, TOP + 28), name, "middle", 13 if name == "guard" else 15, face="bold")
         below = "code" if name == "chunk" else stop
-        picture.text((left + right) / 2, TOP + (46 if name else 35), below, "middle", 13, mono=below == stop)
-    picture.rect(ABOVE, TOP, END - ABOVE, HIGH, "#fff", RED, dashed=True)
-    picture.text((ABOVE + END) / 2, TOP + 28, "outside the", "middle", 13, RED)
-    picture.text((ABOVE + END) / 2, TOP + 44, "segment", "middle", 13, RED)
+        picture.text(((left + right) / 2, TOP + (46 if name else 35)), below, "middle", 13, face="mono" if below == stop else "")
+    picture.rect((ABOVE, TOP, END - ABOVE, HIGH), "#fff", RED, dashed=True)
+    picture.text(((ABOVE + END) / 2, TOP + 28), "outside the", "middle", 13, RED)
+    picture.text(((ABOVE + END) / 2, TOP + 44), "segment", "middle", 13, RED)
 
 
 def jumps(picture):
     """Where a masked jump can go."""
     begin = (SPANS[3][0] + SPANS[3][1]) / 2
-    picture.text(begin, 58, "A masked jump or call can go to any bundle start:", "middle", 14)
+    picture.text((begin, 58), "A masked jump or call can go to any bundle start:", "middle", 14)
     for to, words, beside, anchor, high, color in [
             (115, "a trampoline", 126, "start", 106, INK), (235, "code of a chunk", 248, "start", 84, INK),
             (547, "a stop", 556, "start", 62, INK), (805, "the limit or above: a fault", 793, "end", 112, RED)]:
         picture.arc(begin, to, TOP - 1, high, color)
-        picture.text(beside, TOP - 14, words, anchor, 13, color)
+        picture.text((beside, TOP - 14), words, anchor, 13, color)
 
 
 def addresses(picture, space):
@@ -74,14 +74,14 @@ def addresses(picture, space):
     y = TOP + HIGH
     for x, words, anchor in [(ZONE, f"{0:08X}", "start"), (REGION, f"{space.start:08X}", "middle"),
                              (GUARD, f"limit − {space.guard}", "end"), (ABOVE, "limit", "start"), (END, f"{2 ** 32 - 1:08X}", "end")]:
-        picture.line(x, y, x, y + 8, INK)
-        picture.text(x + {"start": -2, "middle": 0, "end": 2}[anchor], y + 24, words, anchor, 13, mono=True)
+        picture.line((x, y), (x, y + 8), INK)
+        picture.text((x + {"start": -2, "middle": 0, "end": 2}[anchor], y + 24), words, anchor, 13, face="mono")
     for k, (left, words, color) in enumerate([(REGION, "the region", INK), (ZONE, "the code segment: it ends at the limit", BLUE)]):
         across = y + 44 + 38 * k
-        picture.line(left, across, ABOVE, across, color, 2)
+        picture.line((left, across), (ABOVE, across), color, 2)
         for x in (left, ABOVE):
-            picture.line(x, across - 6, x, across + 6, color, 2)
-        picture.text((left + ABOVE) / 2, across + 18, words, "middle", 14, color, bold=True)
+            picture.line((x, across - 6), (x, across + 6), color, 2)
+        picture.text(((left + ABOVE) / 2, across + 18), words, "middle", 14, color, face="bold")
 
 
 def notes(picture, space):
@@ -99,8 +99,8 @@ def notes(picture, space):
     ]
     y = TOP + HIGH + 132
     for k, (name, words) in enumerate(lines):
-        picture.text(ZONE, y + 22 * k, name, bold=True)
-        picture.text(ZONE + 62, y + 22 * k, words)
+        picture.text((ZONE, y + 22 * k), name, face="bold")
+        picture.text((ZONE + 62, y + 22 * k), words)
     picture.height = y + 22 * len(lines)
 
 

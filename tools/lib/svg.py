@@ -31,12 +31,14 @@ def width_of(words, size, mono=False):
     return size * sum(next((width for letters, width in WIDTHS if one in letters), 0.72 if one.isupper() else 0.62) for one in words)
 
 
-def text(x, y, words, anchor="start", size=12, color="#333", more=""):
+def text(at, words, anchor="start", size=12, color="#333", more=""):
+    x, y = at
     return (f'<text x="{x:.1f}" y="{y:.1f}" text-anchor="{anchor}" font-size="{size}" fill="{color}"{more}>'
             f'{escape(words)}</text>')
 
 
-def line(x1, y1, x2, y2, color="#ddd", more=""):
+def line(start, end, color="#ddd", more=""):
+    (x1, y1), (x2, y2) = start, end
     return f'<line x1="{x1:.1f}" y1="{y1:.1f}" x2="{x2:.1f}" y2="{y2:.1f}" stroke="{color}"{more}/>'
 
 
@@ -54,20 +56,24 @@ class Picture:
     def __init__(self, title, about, width=900):
         self.title, self.about, self.width, self.height = title, about, width, 0
         self.parts, self.boxes = [], []
-        self.text(width / 2, 28, title, "middle", 17, bold=True)
+        self.text((width / 2, 28), title, "middle", 17, face="bold")
 
-    def text(self, x, y, words, anchor="start", size=13, color=INK, bold=False, mono=False):
-        more = (' font-weight="bold"' if bold else "") + (' font-family="monospace"' if mono else "")
-        wide = width_of(words, size, mono) * (1.08 if bold and not mono else 1)
+    def text(self, at, words, anchor="start", size=13, color=INK, face=""):
+        """Writes some words, in a face that is "bold", "mono" or plain."""
+        x, y = at
+        more = {"bold": ' font-weight="bold"', "mono": ' font-family="monospace"', "": ""}[face]
+        wide = width_of(words, size, face == "mono") * (1.08 if face == "bold" else 1)
         left = x - {"start": 0, "middle": wide / 2, "end": wide}[anchor]
         self.boxes.append((words, Box(left, y - 0.8 * size, left + wide, y + 0.2 * size)))
-        self.parts.append(text(x, y, words, anchor, size, color, more))
+        self.parts.append(text(at, words, anchor, size, color, more))
 
-    def line(self, x1, y1, x2, y2, color=GRAY, width=1.0, dashed=False):
+    def line(self, start, end, color=GRAY, width=1.0, dashed=False):
         more = f' stroke-width="{width}"' + (' stroke-dasharray="4 3"' if dashed else "")
-        self.parts.append(line(x1, y1, x2, y2, color, more))
+        self.parts.append(line(start, end, color, more))
 
-    def rect(self, x, y, wide, high, fill, edge=None, width=1.0, dashed=False, round_=0):
+    def rect(self, area, fill, edge=None, width=1.0, dashed=False, round_=0):
+        """Draws a rectangle: its left and upper edge, its width and its height."""
+        x, y, wide, high = area
         more = f' stroke="{edge}" stroke-width="{width}"' if edge else ""
         more += (' stroke-dasharray="4 3"' if dashed else "") + (f' rx="{round_}"' if round_ else "")
         self.parts.append(f'<rect x="{x:.1f}" y="{y:.1f}" width="{wide:.1f}" height="{high:.1f}" fill="{fill}"{more}/>')
