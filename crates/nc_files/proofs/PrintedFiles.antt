@@ -11,7 +11,7 @@ use Rattle.nc_files.specs.Reports.{ReportsFile}
 use Rattle.nc_files.specs.Files.{PrintsFiles}
 use Rattle.nc_files.specs.Outcomes.{HasPrinted}
 use Rattle.nc_files.specs.declared.outcome.Outcome.{Outcome}
-use Rattle.nc_files.proofs.WrittenReports.{written_so, written_more, written_none, or-false, or_assoc}
+use Rattle.nc_files.proofs.WrittenReports.{written_so, written_more, or-false, or_assoc}
 
 -- what is written for files, and after it what is written for others
 prints_append : (ask : CheckAsk) (xs ys : List (Bor (List ℕ))) (f g r s : Bool) (t u : List ℕ) → PrintsFiles ask xs f r t
@@ -42,16 +42,6 @@ printed_append ask xs ys a b c p q r h k = record {
       (λ t u m n. prints_append ask xs ys h.faulty k.faulty h.refused k.refused t u m n) h.written k.written;
   faulty_is = k.faulty_is ∙ ap (λ (z : Bool). z || k.faulty) h.faulty_is ∙ or_assoc a.is_faulty h.faulty k.faulty;
   refused_is = k.refused_is ∙ ap (λ (z : Bool). z || k.refused) h.refused_is ∙ or_assoc a.is_refused h.refused k.refused;
-}
-
--- nothing was printed for no files
-pub printed_none : (ask : CheckAsk) (outcome : Outcome) (before : Option (List ℕ)) → HasPrinted ask [] outcome outcome before before
-printed_none ask outcome before = record {
-  faulty = false;
-  refused = false;
-  written = written_none (PrintsFiles ask [] false false) before (refl, refl, refl);
-  faulty_is = or-false outcome.is_faulty;
-  refused_is = or-false outcome.is_refused;
 }
 
 -- the report on a file was printed

@@ -2,7 +2,7 @@
 use Rattle.std.proofs.Common.{◌≡◌, ℕ, Bool, true, false, List, [], ◌∷◌, ◌++◌, map, refl, sym, ◌∙◌, ap, append_assoc, append-nil, Option, inr, subst}
 use Rattle.std.specs.Prelude.{◌||◌, codes}
 use Rattle.std.specs.Io.KnownBytes.{Appends}
-use Rattle.std.proofs.KnownBytes.{Appends-nil, Appends-trans}
+use Rattle.std.proofs.KnownBytes.{Appends-trans}
 use Rattle.nc_elf.specs.Segments.{bytes_of}
 use Rattle.nc_elf.specs.declared.segment.Segment.{Segment}
 use Rattle.nc_output.specs.declared.detail.Format.{Format}
@@ -27,10 +27,6 @@ written_more P Q R before mid after f a b = record {
   says = f a.text b.text a.says b.says;
   written = Appends-trans before mid after a.text b.text a.written b.written;
 }
-
--- nothing was written
-pub written_none : (P : List ℕ → Type 0) (before : Option (List ℕ)) → P [] → HasWritten P before before
-written_none P before p = record { text = []; says = p; written = Appends-nil before }
 
 pub or-false : (b : Bool) → b ≡ b || false
 or-false true = refl
