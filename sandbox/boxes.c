@@ -63,12 +63,16 @@ NcsBox *ncs_box_new(NcsModule *m, const NcsLimits *limits, NcsRefusal *why) {
     if (wrong != NULL) {
         return ncs_refuse(why, NCS_BAD_LIMITS, wrong);
     }
-    if (!ncs_prepare(why)) {
-        return NULL;
+    if (!ncs_module_is_ours(m)) {
+        return ncs_refuse(why, NCS_BAD_SYSTEM, "the module was made before this process forked");
     }
     b = calloc(1, sizeof *b);
     if (b == NULL) {
         return ncs_refuse(why, NCS_NO_MEMORY, "out of memory");
+    }
+    if (!ncs_mask_is_kept(why) || !ncs_prepare(why)) {
+        free(b);
+        return NULL;
     }
     b->module = m;
     b->limits = *limits;
@@ -77,6 +81,7 @@ NcsBox *ncs_box_new(NcsModule *m, const NcsLimits *limits, NcsRefusal *why) {
     (void)pthread_mutex_unlock(&ncs_lock);
     if (!map_memory(b)) {
         (void)ncs_free(b);
+        ncs_unprepare();
         return ncs_refuse(why, NCS_NO_MEMORY, "there is no room below 4 GiB for its memory, or no segment left");
     }
     begin(b);
@@ -90,14 +95,14 @@ int ncs_free(NcsBox *b) {
     if (b == NULL) {
         return 1;
     }
-    if (ncs_forked || !ncs_box_claim(b, &nobody)) {
+    if (!ncs_module_is_ours(b->module) || !ncs_box_claim(b, &nobody)) {
         return 0;
     }
     (void)pthread_mutex_lock(&ncs_lock);
     ncs_segment_free(b->selector);
+    (void)pthread_mutex_unlock(&ncs_lock);
     ncs_low_free(b->data_at, b->limits.memory);
     ncs_module_drop(b->module);
-    (void)pthread_mutex_unlock(&ncs_lock);
     free(b);
     return 1;
 }
@@ -105,10 +110,10 @@ int ncs_free(NcsBox *b) {
 int ncs_reset(NcsBox *b) {
     static Thread somebody;
     int made;
-    if (ncs_forked || !ncs_box_claim(b, &somebody)) {
+    if (!ncs_module_is_ours(b->module) || !ncs_box_claim(b, &somebody)) {
         return 0;
     }
-    made = madvise(ncs_box_data(b, DATA_LEAST), b->limits.memory - DATA_LEAST, MADV_DONTNEED) == 0;
+    made = ncs_low_empty(b->data_at + DATA_LEAST, b->limits.memory - DATA_LEAST);
     if (made) {
         begin(b);
     } else {

@@ -4,6 +4,9 @@
 
 #include <string.h>
 
+#define FLAGS 0x202u         /* no direction, interrupts */
+#define FLAGS_OF_CODE 0xCD5u /* those that code can change: CF, PF, AF, ZF, SF, DF and OF */
+
 const char *ncs_how(uint32_t how) {
     static const char *const words[] = {"returned", "stopped", "faulted", "late", "killed", "exited", "bad entry", "bad call", "denied",
                                         "too deep", "dead", "busy", "host"};
@@ -24,6 +27,13 @@ static NcsEnd ended(NcsBox *b, const Thread *t, uint32_t how) {
     b->end.place = t->place;
     b->dead = 1;
     return b->end;
+}
+
+static NcsEnd returned(const Thread *t) {
+    NcsEnd end = refused(NCS_RETURNED);
+    end.result = t->reg[EAX];
+    end.high = t->reg[EDX];
+    return end;
 }
 
 static NcsEnd trapped(NcsBox *b, const Thread *t) {
@@ -51,6 +61,12 @@ static int lay_frame(const NcsBox *b, Thread *t, uint32_t top, unsigned count, c
     return 1;
 }
 
+/* A call-back returns where it was called. */
+static __attribute__((noinline)) int is_innermost(const NcsBox *b, const Thread *t) {
+    const Frame *c = t->depth != 0 ? &t->frames[t->depth - 1] : NULL;
+    return ncs_thread == t && c != NULL && c->box == b && c->stack > (uintptr_t)__builtin_frame_address(0);
+}
+
 /* A call of the host: the address to return to and the arguments lie on the untrusted stack. They are read once, and judged. Whether the
    thread goes back, to t->place. If not, the box has ended. */
 static int serve(NcsBox *b, Thread *t) {
@@ -71,6 +87,7 @@ static int serve(NcsBox *b, Thread *t) {
     memcpy(reg, t->reg, sizeof reg);
     b->nest_at = sp;
     value = b->callbacks[slot].function(b, b->callbacks[slot].user, words + 1);
+    ncs_must(is_innermost(b, t), "a call-back has returned on another thread, or not to the innermost call");
     memcpy(t->reg, reg, sizeof reg);
     t->reg[EAX] = (uint32_t)value;
     t->reg[EDX] = (uint32_t)(value >> 32);
@@ -87,74 +104,157 @@ static int can_enter(const NcsBox *b, uint32_t place) {
     return place % NC_BUNDLE == 0 && place >= NC_START && place < b->module->limit;
 }
 
-static int is_killed(NcsBox *b) {
-    return __atomic_load_n(&b->killed, __ATOMIC_SEQ_CST);
+int ncs_is_killed(const Thread *t) {
+    unsigned k = 0;
+    while (k < t->depth && !__atomic_load_n(&t->frames[k].box->killed, __ATOMIC_SEQ_CST)) {
+        k++;
+    }
+    return k < t->depth;
 }
 
 /* Why the thread, which is in the host, can't go in, or NCS_RETURNED if it can. What happens behind this look the next tick sees. */
 static uint32_t refuses(NcsBox *b, const Thread *t) {
-    return !can_enter(b, t->place) ? NCS_BAD_ENTRY : ncs_forked ? NCS_HOST : is_killed(b) ? NCS_KILLED
+    return !can_enter(b, t->place) ? NCS_BAD_ENTRY : !ncs_module_is_ours(b->module) ? NCS_HOST : ncs_is_killed(t) ? NCS_KILLED
          : t->ticks >= t->deadline ? NCS_LATE : NCS_RETURNED;
 }
 
-/* A thread has a seat just while it is inside. So a call-back holds no reclaim back, however long it takes. */
-static void go_inside(NcsBox *b, Thread *t) {
-    Live *live = b->module->live;
+/* Whether this thread's first instruction inside may be one that it has fetched before: of live code, or of a text that is new [18]. */
+static int has_to_serialize(const NcsBox *b, Thread *t) {
+    uint32_t texts = __atomic_load_n(&ncs_texts, __ATOMIC_SEQ_CST);
+    int has_to = b->module->live != NULL || texts != t->texts;
+    t->texts = texts;
+    return has_to;
+}
+
+/* Whether the thread has been inside. It has a seat just while it is, so a call-back holds no reclaim back, however long it takes. A thread
+   that signals of the host's wait for comes out for a moment, keeps its seat, and goes back to its instruction [17, 26]. */
+static int go_inside(NcsBox *b, Thread *t) {
+    int was_inside = 0;
     t->box = b;
     t->code_selector = b->module->selector;
     t->data_selector = b->selector;
-    if (live != NULL) {
-        ncs_seat_take(live, t);
+    t->flags = FLAGS;
+    t->serializes = has_to_serialize(b, t);
+    if (b->module->live != NULL) {
+        ncs_seat_take(b->module->live, t);
     }
-    ncs_switch_in(t);
-    if (live != NULL) {
-        ncs_seat_leave(live, t);
-    }
+    do {
+        if (!ncs_mask_in(t)) {
+            t->why = OUT_LOST;
+            break;
+        }
+        ncs_switch_in(t);
+        ncs_mask_out(t);
+        was_inside = 1;
+        t->serializes = 1;
+        t->flags = (t->flags & FLAGS_OF_CODE) | FLAGS;
+    } while (t->why == OUT_SIGNALS && !ncs_is_over(t));
+    ncs_seat_leave(t);
+    return was_inside;
 }
 
 /* In and out until the call has ended. */
 static NcsEnd run(NcsBox *b, Thread *t) {
+    int entered = 0;
     for (;;) {
         uint32_t how = refuses(b, t);
         if (how != NCS_RETURNED) {
             return ended(b, t, how);
         }
-        go_inside(b, t);
-        if (t->why == OUT_RETURN) {
-            NcsEnd end = refused(NCS_RETURNED);
-            end.result = t->reg[EAX];
-            end.high = t->reg[EDX];
-            return end;
+        if (!go_inside(b, t) && !entered) {
+            return refused(NCS_HOST);
         }
-        if (t->why == OUT_TRAP) {
+        entered = 1;
+        switch (t->why) {
+        case OUT_RETURN:
+            return returned(t);
+        case OUT_TRAP:
             return trapped(b, t);
-        }
-        if (t->why == OUT_TICK) {
-            return ended(b, t, is_killed(b) ? NCS_KILLED : NCS_LATE);
-        }
-        if (!serve(b, t)) {
-            return b->end;
+        case OUT_LOST:
+            return ended(b, t, NCS_HOST);
+        case OUT_TICK:
+        case OUT_SIGNALS:
+            return ended(b, t, ncs_is_killed(t) ? NCS_KILLED : NCS_LATE);
+        default:
+            if (!serve(b, t)) {
+                return b->end;
+            }
         }
     }
 }
 
-/* An inner call has no more time than is left of the outer one. */
-static NcsEnd call(NcsBox *b, Thread *t, uint32_t place) {
+/* ---- Calls that are under way */
+
+/* glibc's: it calls the function if longjmp, pthread_exit or a cancellation leaves the frame in which the buffer is. */
+#pragma weak _pthread_cleanup_push
+#pragma weak _pthread_cleanup_pop
+extern void _pthread_cleanup_push(struct _pthread_cleanup_buffer *buffer, void (*function)(void *), void *one);
+extern void _pthread_cleanup_pop(struct _pthread_cleanup_buffer *buffer, int calls);
+
+/* The innermost call ends, since nothing returns to it. Its box is dead. */
+static void abandon_one(Thread *t) {
+    Frame *c = &t->frames[t->depth - 1];
+    NcsBox *b = c->box;
+    ncs_seat_leave(t);
+    t->place = 0;
+    ended(b, t, NCS_HOST);
+    if (b->module->live != NULL && ncs_module_is_ours(b->module)) {
+        ncs_live_end(b->module->live);
+    }
+    t->box = t->depth > 1 ? t->frames[t->depth - 2].box : NULL;
+    t->deadline = c->deadline;
+    t->depth--;
+    if (!c->nested) {
+        ncs_box_release(b);
+    }
+}
+
+/* Every call whose frame lies below this one's end was left, from the innermost on. */
+static void abandon_below(Thread *t, uintptr_t stack) {
+    while (t->depth != 0 && t->frames[t->depth - 1].stack <= stack) {
+        abandon_one(t);
+    }
+}
+
+void ncs_calls_abandon(Thread *t) {
+    abandon_below(t, UINTPTR_MAX);
+}
+
+static void on_left(void *one) {
+    if (ncs_thread != NULL) {
+        abandon_below(ncs_thread, ((const Frame *)one)->stack);
+    }
+}
+
+/* An inner call has no more time than is left of the outer one. AddressSanitizer would move the buffer away from the stack. */
+static __attribute__((noinline, no_sanitize_address)) NcsEnd call(NcsBox *b, Thread *t, uint32_t place, int nested) {
+    struct _pthread_cleanup_buffer buffer;
     NcsBox *outer_box = t->box;
-    uint64_t outer = t->deadline, own = t->ticks + (b->limits.milliseconds - 1) / TICK_MILLISECONDS + 2;
-    NcsEnd end;
-    t->deadline = t->depth != 0 && outer < own ? outer : own;
+    Frame *c = &t->frames[t->depth];
+    NcsEnd end = refused(NCS_HOST);
+    *c = (Frame){b, t->deadline, (uintptr_t)__builtin_frame_address(0), nested};
+    __atomic_signal_fence(__ATOMIC_SEQ_CST);
     t->depth++;
     t->place = place;
-    end = ncs_thread_watch(t) ? run(b, t) : refused(NCS_HOST);
+    if (_pthread_cleanup_push != NULL) {
+        _pthread_cleanup_push(&buffer, on_left, c);
+    }
+    if (ncs_thread_watch(t)) {
+        uint64_t own = t->ticks + (b->limits.milliseconds - 1) / TICK_MILLISECONDS + 2;
+        t->deadline = t->depth > 1 && c->deadline < own ? c->deadline : own;
+        end = run(b, t);
+    }
+    if (_pthread_cleanup_pop != NULL) {
+        _pthread_cleanup_pop(&buffer, 0);
+    }
     t->box = outer_box;
-    t->deadline = outer;
+    t->deadline = c->deadline;
     t->depth--;
     return end;
 }
 
 /* The box is the thread's, and lives. Its stack begins at `top`. */
-static NcsEnd begin(NcsBox *b, Thread *t, uint32_t place, uint32_t top, unsigned count, const uint32_t *args) {
+static NcsEnd begin(NcsBox *b, Thread *t, uint32_t place, int nested, unsigned count, const uint32_t *args) {
     Live *live = b->module->live;
     uint32_t how;
     NcsEnd end;
@@ -168,8 +268,8 @@ static NcsEnd begin(NcsBox *b, Thread *t, uint32_t place, uint32_t top, unsigned
     if (how != NCS_RETURNED) {
         return refused(how);
     }
-    if (lay_frame(b, t, top, count, args)) {
-        end = call(b, t, place);
+    if (lay_frame(b, t, nested ? b->nest_at : b->module->image.data_begin, count, args)) {
+        end = call(b, t, place, nested);
     } else {
         t->place = 0;
         end = ended(b, t, NCS_BAD_CALL);
@@ -184,14 +284,15 @@ NcsEnd ncs_call(NcsBox *b, NcsAt function, unsigned count, const uint32_t *args)
     Thread *t = ncs_thread_get();
     NcsEnd end;
     int nested;
-    if (t == NULL || count > NCS_ARGS_MAX) {
+    if (t == NULL || count > NCS_ARGS_MAX || !ncs_module_is_ours(b->module)) {
         return refused(NCS_HOST);
     }
+    abandon_below(t, (uintptr_t)__builtin_frame_address(0));
     nested = __atomic_load_n(&b->owner, __ATOMIC_RELAXED) == t;
     if (!nested && !ncs_box_claim(b, t)) {
         return refused(NCS_BUSY);
     }
-    end = b->dead ? refused(NCS_DEAD) : begin(b, t, function.at, nested ? b->nest_at : b->module->image.data_begin, count, args);
+    end = b->dead ? refused(NCS_DEAD) : begin(b, t, function.at, nested, count, args);
     if (!nested) {
         ncs_box_release(b);
     }

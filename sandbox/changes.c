@@ -6,11 +6,13 @@
 #include <errno.h>
 #include <linux/membarrier.h>
 #include <sched.h>
-#include <stdio.h>
 #include <stdlib.h>
 #include <string.h>
 #include <sys/syscall.h>
+#include <time.h>
 #include <unistd.h>
+
+#define YIELDS 64u /* before a thread that waits sleeps */
 
 /* A chunk's code, which nobody else can change, and room for the acts of its creation or deletion as runs. */
 typedef struct Chunk {
@@ -19,14 +21,6 @@ typedef struct Chunk {
     uint8_t *code; /* of a deletion NULL */
     NcAct *acts;
 } Chunk;
-
-/* What can't be, and must not pass unseen. */
-static void must(int good, const char *what) {
-    if (!good) {
-        fprintf(stderr, "nc_sandbox: %s\n", what);
-        abort();
-    }
-}
 
 /* ---- Acts */
 
@@ -50,7 +44,7 @@ static void put_act(uint8_t *text, const NcAct *act, const uint8_t *code, uint32
    made: where there is no memory for a moment it is called again. */
 static void serialize(void) {
     while (syscall(SYS_membarrier, MEMBARRIER_CMD_PRIVATE_EXPEDITED_SYNC_CORE, 0, 0) != 0) {
-        must(errno == ENOMEM, "membarrier failed, which the system had granted");
+        ncs_must(errno == ENOMEM, "membarrier failed, which the system had granted");
         (void)sched_yield();
     }
 }
@@ -73,14 +67,29 @@ static uint64_t changes_of(const Live *live) {
     return __atomic_load_n(&live->changes, __ATOMIC_SEQ_CST);
 }
 
+/* Lets a writer go on, also one of a lower priority, which sched_yield alone wouldn't. Ticks wait meanwhile. */
+static void wait_for_writer(Thread *t, unsigned turns) {
+    static const struct timespec pause = {0, 50000};
+    if (turns < YIELDS) {
+        (void)sched_yield();
+    } else {
+        (void)nanosleep(&pause, NULL);
+    }
+    ncs_thread_count(t);
+}
+
 /* The handler calls this on the thread that has trapped. It takes no lock. It waits for a writer that has begun its acts, and no writer
-   waits for a thread that is inside. */
+   waits for a thread that is inside. If the thread's time is over first, it comes out, whatever there is. */
 int ncs_live_meet(Live *live, Thread *t, uint32_t place) {
     uint64_t before;
     uint8_t byte;
+    unsigned turns = 0;
     do {
         while ((before = changes_of(live)) % 2 != 0) {
-            (void)sched_yield();
+            if (ncs_is_over(t)) {
+                return MET_NOTHING;
+            }
+            wait_for_writer(t, turns++);
         }
         byte = __atomic_load_n(live->writable + place, __ATOMIC_SEQ_CST);
     } while (changes_of(live) != before);
@@ -101,18 +110,18 @@ int ncs_live_meet(Live *live, Thread *t, uint32_t place) {
 /* The live code of a module, or NULL where the call is refused before it begins. */
 static Live *live_of(const NcsModule *m, NcsRefusal *why) {
     ncs_refuse(why, NCS_OK, "nothing is refused");
-    if (ncs_forked) {
-        return ncs_refuse(why, NCS_BAD_SYSTEM, "this is a forked child");
+    if (!ncs_module_is_ours(m)) {
+        return ncs_refuse(why, NCS_BAD_SYSTEM, "the module was made before this process forked");
     }
     return m->live != NULL ? m->live : ncs_refuse(why, NCS_NOT_LIVE, "the module isn't one of ncs_module_live");
 }
 
 void ncs_live_lock(Live *live) {
-    must(pthread_mutex_lock(&live->lock) == 0, "a lock failed");
+    ncs_must(pthread_mutex_lock(&live->lock) == 0, "a lock failed");
 }
 
 void ncs_live_unlock(Live *live) {
-    must(pthread_mutex_unlock(&live->lock) == 0, "a lock failed");
+    ncs_must(pthread_mutex_unlock(&live->lock) == 0, "a lock failed");
 }
 
 /* Whether there is memory for the acts, before anything is changed. */
@@ -126,7 +135,7 @@ static int has_room(Chunk *chunk) {
 static void make_runs(Live *live, const Chunk *chunk) {
     NcChange told = chunk->code != NULL ? nc_region_creation_runs(&live->region, chunk->base, chunk->acts, chunk->room)
                                         : nc_region_deletion_runs(&live->region, chunk->acts, chunk->room);
-    must(told.fault == NC_OK, "the acts of a change aren't told");
+    ncs_must(told.fault == NC_OK, "the acts of a change aren't told");
     make(live, chunk->acts, told.count, chunk);
 }
 
@@ -209,7 +218,7 @@ static uint32_t delete_chunk(Live *live, uint32_t base) {
     }
     if (begun.fault == NC_OK) {
         make_runs(live, &chunk);
-        must(nc_region_end_delete(&live->region).fault == NC_OK, "a deletion has no end");
+        ncs_must(nc_region_end_delete(&live->region).fault == NC_OK, "a deletion has no end");
     }
     free(chunk.acts);
     return begun.fault;

@@ -6,7 +6,8 @@
 #include <elf.h>
 #include <string.h>
 
-#define NAME_MOST 255u /* bytes of a name that is shown */
+#define NAME_MOST 255u          /* bytes of a name that is shown */
+#define SYMBOLS_MOST (1u << 20) /* those of a file behind them are none, so that a search takes a fraction of a second */
 
 static int file_has(const Image *image, uint64_t at, uint64_t len) {
     return at <= image->len && len <= image->len - at;
@@ -71,6 +72,7 @@ static void find_symbols(Image *image) {
         image->bytes[names.sh_offset + names.sh_size - 1] == 0) {
         image->symbols = table.sh_offset;
         image->symbol_count = table.sh_size / sizeof(Elf32_Sym);
+        image->symbol_count = image->symbol_count < SYMBOLS_MOST ? image->symbol_count : SYMBOLS_MOST;
         image->names = names.sh_offset;
         image->names_len = names.sh_size;
     }
@@ -118,17 +120,19 @@ static int is_of_code(const Image *image, const Elf32_Ehdr *h, const Elf32_Sym *
            s->st_value >= image->code_at && s->st_value - image->code_at < image->code_len;
 }
 
-/* The symbol's name, or NULL if it isn't fit to be printed: a file may name anything. */
+/* The symbol's name, or NULL if it isn't fit to be printed: a file may name anything. Nothing behind the names is read, even if the file
+   changes meanwhile. */
 static const char *shown_name(const Image *image, const Elf32_Sym *s) {
     const char *name = (const char *)image->bytes + image->names + s->st_name;
-    unsigned len = 0;
+    size_t len = 0, most;
     if (s->st_name >= image->names_len) {
         return NULL;
     }
-    while (len <= NAME_MOST && name[len] > ' ' && name[len] <= '~') {
+    most = image->names_len - s->st_name < NAME_MOST + 1 ? image->names_len - s->st_name : NAME_MOST + 1;
+    while (len < most && name[len] > ' ' && name[len] <= '~') {
         len++;
     }
-    return len != 0 && len <= NAME_MOST && name[len] == 0 && name[0] != '$' && !(name[0] == '.' && name[1] == 'L') ? name : NULL;
+    return len != 0 && len < most && name[len] == 0 && name[0] != '$' && !(name[0] == '.' && name[1] == 'L') ? name : NULL;
 }
 
 /* The nearest one at the address or below it. Of several at one address the last one of the table counts, as for nc_check. */

@@ -22,37 +22,86 @@
 
 /* Trampolines, by the bundle of the zone in which each is, and further reasons why a thread came out. */
 enum { OUT_RETURN = 1, OUT_EXIT = 2, OUT_CALLBACK = 8, OUT_END = OUT_CALLBACK + NCS_CALLBACKS };
-enum { OUT_TRAP = 0x10000, OUT_TICK = 0x20000 };
+enum { OUT_TRAP = 0x10000, OUT_TICK = 0x20000, OUT_SIGNALS = 0x30000, OUT_LOST = 0x40000 };
 enum { EAX, ECX, EDX, EBX, ESP, EBP, ESI, EDI };
 
+typedef struct Live Live;
+
+/* ---- mask.c: how a thread that is inside keeps the handlers of others away [21] */
+
+/* Whether the mask is on while the thread is outside, and each system call is a SIGSYS before it is made. */
+enum { CALLS_ALLOWED, CALLS_DISPATCHED };
+
+typedef struct Mask {
+    volatile uint8_t selector; /* one of these; the system reads it at each system call, if that is armed */
+    volatile int armed;
+    uint32_t how;              /* NCS_SIGNALS_BLOCKED, .. */
+    uint64_t hosts;            /* the host's own mask, while another one is on */
+    unsigned outs;             /* how often the thread came out since the last tick */
+    uint64_t keeps_from, waits; /* the tick from which the mask may stay on, and how many to wait after the next system call */
+    volatile int looks;        /* at the handlers before the next way in */
+    unsigned entries;          /* since the last look */
+} Mask;
+
+struct Thread;
+int ncs_mask_in(struct Thread *thread);   /* whether the thread can go in now */
+void ncs_mask_out(struct Thread *thread); /* after each way out, before any code of the host's */
+void ncs_mask_set(uint64_t mask);
+int ncs_mask_is_kept(NcsRefusal *why); /* the promise, if this thread has made it */
+/* In handlers: whether signals of others wait for the thread to come out; the host's mask is on again at the handler's return, if another
+   one has stayed on; a tick; and whether a SIGSYS was such a system call. */
+int ncs_mask_waits(const struct Thread *thread);
+void ncs_mask_take_back(struct Thread *thread, void *context);
+void ncs_mask_tick(struct Thread *thread);
+int ncs_mask_on_call(struct Thread *thread, const siginfo_t *info, void *context);
+
 /* ---- switch.S */
+
+/* A call under way on a thread, and what it found. */
+typedef struct Frame {
+    NcsBox *box;
+    uint64_t deadline; /* of the call around it */
+    uintptr_t stack;   /* on the host's stack; a call within it lies below */
+    int nested;        /* in a call of the same box */
+} Frame;
 
 /* A thread of the host that calls boxes. switch.S expects the first fields where they are. The fields marked volatile are shared with the
    handlers, which run on this thread. */
 typedef struct Thread {
     uint32_t reg[8];
-    uint32_t place, why;
+    uint32_t place, code_selector; /* a far pointer */
     uint64_t host_stack;
-    uint32_t code_selector, data_selector;
+    uint32_t why, data_selector;
+    uint32_t flags;      /* with which it goes in, if it serializes */
+    uint32_t serializes; /* at its next way in */
+    void *landing;       /* ncs_switch_landing */
     uint32_t trap, fault_at; /* of OUT_TRAP: its interrupt, and the linear address of a page fault, else 0 */
     uint32_t at_stop;        /* of OUT_TRAP: whether it was a stop of the code's own */
-    volatile uint64_t ticks; /* counted by the handler alone, while calls are under way */
+    uint32_t life;           /* of the process when it was prepared */
+    uint32_t texts;          /* ncs_texts when it last serialized */
+    volatile uint64_t ticks; /* of its processor time, as the handler saw them while calls were under way */
     volatile uint64_t deadline; /* of the innermost call, in ticks */
     NcsBox *volatile box;    /* of the innermost call */
     volatile unsigned depth;
     volatile int ticking;
     timer_t timer;
     void *stack; /* the alternate stack that the library made, or NULL */
+    size_t stack_len;
+    Mask mask;
     unsigned seat;       /* the one that it had last in live code, and tries first */
+    Live *seated;        /* the code of which it has that one, else NULL */
     uint32_t met_at;     /* where it went back to an instruction whose stop was gone, since it went in; else 0 */
     uint64_t met_changes, met_stops; /* the count of changes then; and how often that has happened */
+    Frame frames[NCS_DEPTH_MAX]; /* `depth` of them, the innermost one last */
 } Thread;
 
 extern __attribute__((tls_model("initial-exec"))) __thread Thread *ncs_thread;
 void ncs_switch_in(Thread *thread);
 extern char ncs_switch_out[], ncs_switch_landing[];
+void ncs_handler(int sig, siginfo_t *info, void *context); /* it goes on to the next */
+void ncs_handle(int sig, siginfo_t *info, void *context);
 
-/* ---- segments.c: memory and segments below 4 GiB. All but the first under ncs_lock */
+/* ---- segments.c: memory and segments below 4 GiB. The calls for segments under ncs_lock */
 
 extern pthread_mutex_t ncs_lock; /* for segments, low memory, the beginning, and the number of a module's users */
 
@@ -60,29 +109,48 @@ int ncs_segments_begin(void); /* whether the system has segments, and which are 
 uint32_t ncs_segment_code(uint32_t base, uint32_t len);
 uint32_t ncs_segment_data(uint32_t base, uint32_t len); /* both: a selector, or 0 if none is left; a length is whole pages [7, 8] */
 void ncs_segment_free(uint32_t selector);
-uint32_t ncs_low_new(uint32_t len, int protection, int file); /* its address, or 0; of a file, or with -1 of zeros */
-void ncs_low_free(uint32_t at, uint32_t len);
-int ncs_low_seal(uint32_t at, uint32_t len); /* makes it executable, and no longer writable */
+uint32_t ncs_low_new(uint32_t len, int protection, int file); /* its address, or 0; of a file, or with -1 of zeros. Under ncs_lock */
+void ncs_low_free(uint32_t at, uint32_t len); /* never under a lock */
+int ncs_low_empty(uint32_t at, uint32_t len); /* whether its pages are as new; never under a lock */
+int ncs_low_seal(uint32_t at, uint32_t len); /* makes it executable, no longer writable, and no child's */
 
 /* ---- process.c and threads.c: what has to be there before anybody enters */
 
-extern int ncs_forked;          /* this is a forked child */
 extern uint32_t ncs_landing_at; /* a page below 4 GiB that leads to ncs_switch_landing */
+extern uint32_t ncs_texts;      /* how many modules got their text, atomic */
 
+uint32_t ncs_life(void); /* a number that each child by fork has of its own, 0 in another child, and before the first module */
+int ncs_may_begin(NcsRefusal *why); /* whether this isn't a child of which the library has learned nothing */
 int ncs_prepare(NcsRefusal *why); /* whether this process can have a module or a box now */
+void ncs_unprepare(void);         /* after ncs_prepare, of what wasn't made. The first one leaves nothing behind */
 void *ncs_refuse(NcsRefusal *why, uint32_t kind, const char *sentence); /* NULL */
 int ncs_refuse_fault(NcsRefusal *why, uint32_t kind, uint32_t fault, uint32_t at); /* 0; NCS_NO_MEMORY if the fault says so */
+int ncs_refuse_signal(NcsRefusal *why, uint32_t kind, int sig); /* 0 */
+void ncs_must(int good, const char *what); /* what can't be, and must not pass unseen */
 Thread *ncs_thread_get(void); /* the calling thread, prepared; NULL if it can't be */
+int ncs_thread_has_stack(void); /* whether it has an alternate stack now that is a good one [22] */
 int ncs_thread_watch(Thread *thread); /* starts the ticks, once depth is above 0; whether they run */
+void ncs_thread_count(Thread *thread); /* reads its processor time */
 int ncs_threads_begin(void);
+void ncs_threads_end(void);
 
-/* ---- signals.c */
+/* ---- signals.c and handlers.c */
 
 #define TICK_SIGNAL (SIGRTMAX - 1)
 #define TICK_MILLISECONDS 10u
+#define SIGNALS 65
+#define SIGNAL_BIT(sig) (1ull << ((sig) - 1))
+
+extern struct sigaction ncs_before[SIGNALS]; /* what handled this library's signals before */
+
+int ncs_is_over(const Thread *thread); /* whether this call is to end, or one around it, with which it ends too */
 int ncs_signals_begin(void);
-int ncs_signals_unblock(void); /* those of this library, in this thread [24] */
-int ncs_bad_handler(void);     /* the number of a signal whose handler lacks SA_ONSTACK; 0, or -1 if the system doesn't tell [21] */
+void ncs_signals_end(void);
+int ncs_signals_unblock(void);  /* those of this library, in this thread, where no mask does it [24] */
+uint64_t ncs_signals_own(void); /* the bits of those that stay unblocked while a thread is inside */
+int ncs_signals_lost(void);     /* the number of a signal of this library that has another handler by now, or 0 */
+int ncs_signals_dispatch(void); /* whether SIGSYS is this library's now */
+int ncs_signals_promised(NcsRefusal *why); /* whether each handler has SA_ONSTACK [21] */
 
 /* ---- elf.c */
 
@@ -115,7 +183,7 @@ typedef struct Seat {
     int taken; /* by a thread that is inside, or that checks in for it; atomic */
 } __attribute__((aligned(64))) Seat;
 
-typedef struct Live {
+struct Live {
     NcRegion region;      /* under the lock */
     pthread_mutex_t lock; /* around a call on the region with its acts [28] */
     uint8_t *writable;    /* the text, from place 0, mapped a second time */
@@ -123,8 +191,7 @@ typedef struct Live {
     unsigned calls;       /* how many are under way; atomic */
     unsigned given;       /* seats; written under the lock, atomic */
     Seat seats[SEATS];
-} Live;
-
+};
 
 void ncs_live_lock(Live *live);
 void ncs_live_unlock(Live *live);
@@ -138,7 +205,7 @@ int ncs_live_meet(Live *live, Thread *thread, uint32_t place);
 uint32_t ncs_live_begin(Live *live); /* NCS_RETURNED if one more call is under way now, or why it isn't */
 void ncs_live_end(Live *live);
 void ncs_seat_take(Live *live, Thread *thread); /* and checks in: directly before the way in, in a call that was begun [16, 17, 18] */
-void ncs_seat_leave(Live *live, Thread *thread);
+void ncs_seat_leave(Thread *thread);
 uint32_t ncs_seats_reclaim(Live *live); /* under its lock */
 void ncs_live_free(NcsModule *module); /* NULL is allowed in it */
 
@@ -146,6 +213,7 @@ void ncs_live_free(NcsModule *module); /* NULL is allowed in it */
 
 struct NcsModule {
     Image image;
+    uint32_t life; /* of the process that made it */
     int users; /* itself and its boxes; under ncs_lock */
     uint32_t text_at, limit, selector; /* the linear address of place 0, and the limit of the code */
     Live *live; /* NULL if the text never changes */
@@ -172,7 +240,10 @@ struct NcsBox {
 NcsModule *ncs_module_new(const void *bytes, size_t len, NcsRefusal *why); /* with a copy of these bytes, and no text yet */
 uint32_t ncs_bundles_for(uint32_t bundles); /* of the region whose guard is behind so many [7] */
 void ncs_zone_lay(uint8_t *text); /* trampolines, and stops everywhere else below NC_START [11] */
-void ncs_module_drop(NcsModule *module); /* one user less; under ncs_lock */
+void ncs_module_drop(NcsModule *module); /* one user less */
+int ncs_module_is_ours(const NcsModule *module); /* and not that of a process that has forked */
+int ncs_is_killed(const Thread *thread); /* the box of its innermost call, or one around it */
+void ncs_calls_abandon(Thread *thread); /* those under way, which nothing returns to */
 int ncs_box_claim(NcsBox *box, Thread *thread);
 void ncs_box_release(NcsBox *box);
 int ncs_box_has(const NcsBox *box, uint64_t at, uint64_t len);

@@ -77,11 +77,15 @@ void ncs_seat_take(Live *live, Thread *t) {
         t->seat = t->seat + 1 < given_seats(live) ? t->seat + 1 : 0;
     }
     t->met_at = 0;
+    t->seated = live;
     check_in(&live->seats[t->seat]);
 }
 
-void ncs_seat_leave(Live *live, Thread *t) {
-    release(&live->seats[t->seat]);
+void ncs_seat_leave(Thread *t) {
+    if (t->seated != NULL) {
+        release(&t->seated->seats[t->seat]);
+        t->seated = NULL;
+    }
 }
 
 uint32_t ncs_seats_reclaim(Live *live) {
@@ -136,15 +140,9 @@ static uint8_t *map_writable(int file, uint32_t len) {
 }
 
 /* Under ncs_lock. What is executed can never be written, and what is written never executed. */
-static int map_twice(NcsModule *m, int file) {
-    m->live->writable = map_writable(file, m->limit);
-    if (m->live->writable == NULL) {
-        return 0;
-    }
-    ncs_zone_lay(m->live->writable);
-    memset(m->live->writable + NC_START, NC_STOP, m->limit - NC_START);
+static int map_executable(NcsModule *m, int file) {
     m->text_at = ncs_low_new(m->limit, PROT_READ | PROT_EXEC, file);
-    m->selector = m->text_at != 0 ? ncs_segment_code(m->text_at, m->limit) : 0;
+    m->selector = m->text_at != 0 && ncs_low_seal(m->text_at, m->limit) ? ncs_segment_code(m->text_at, m->limit) : 0;
     return m->selector != 0;
 }
 
@@ -163,8 +161,13 @@ static int make_text(NcsModule *m, NcsRefusal *why) {
     if (file < 0) {
         return 0;
     }
+    m->live->writable = map_writable(file, m->limit);
+    if (m->live->writable != NULL) {
+        ncs_zone_lay(m->live->writable);
+        memset(m->live->writable + NC_START, NC_STOP, m->limit - NC_START);
+    }
     (void)pthread_mutex_lock(&ncs_lock);
-    made = map_twice(m, file);
+    made = m->live->writable != NULL && map_executable(m, file);
     (void)pthread_mutex_unlock(&ncs_lock);
     (void)close(file);
     if (!made) {
@@ -185,7 +188,18 @@ static int begin(NcsModule *m, uint32_t bundles, NcsRefusal *why) {
         return ncs_refuse_fault(why, NCS_NO_MEMORY, NC_OUT_OF_MEMORY, 0);
     }
     fault = nc_region_new(bundles, SEATS, &live->region);
-    return fault == NC_OK ? ncs_prepare(why) && make_text(m, why) : ncs_refuse_fault(why, NCS_BAD_SYSTEM, fault, 0);
+    if (fault != NC_OK) {
+        return ncs_refuse_fault(why, NCS_BAD_SYSTEM, fault, 0);
+    }
+    if (!ncs_prepare(why)) {
+        return 0;
+    }
+    m->life = ncs_life();
+    if (make_text(m, why)) {
+        return 1;
+    }
+    ncs_unprepare();
+    return 0;
 }
 
 NcsModule *ncs_module_live(uint32_t bundles, NcsRefusal *why) {
@@ -203,7 +217,7 @@ NcsModule *ncs_module_live(uint32_t bundles, NcsRefusal *why) {
     if (begin(m, bundles, why)) {
         return m;
     }
-    ncs_module_free(m);
+    ncs_module_drop(m);
     return NULL;
 }
 

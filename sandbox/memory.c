@@ -12,7 +12,7 @@ int ncs_set(NcsBox *b, NcsAt at, const void *from, uint32_t len) {
         return 0;
     }
     if (len != 0) {
-        memcpy(ncs_box_data(b, at.at), from, len);
+        memmove(ncs_box_data(b, at.at), from, len);
     }
     return 1;
 }
@@ -22,7 +22,7 @@ int ncs_get(NcsBox *b, void *to, NcsAt at, uint32_t len) {
         return 0;
     }
     if (len != 0) {
-        memcpy(to, ncs_box_data(b, at.at), len);
+        memmove(to, ncs_box_data(b, at.at), len);
     }
     return 1;
 }

@@ -34,15 +34,13 @@ void ncs_zone_lay(uint8_t *text) {
     }
 }
 
-/* Fills the text with stops, trampolines and the code, if that is accepted. Whether it is. Nobody can enter before the text is sealed, so
-   there are no acts, and nothing changes it later, so there is no region and no seat [4, 5, 16, 17, 28 to 32]. */
+/* Fills the text with stops and the code, if that is accepted. Whether it is. Nobody can enter before the text is sealed, so there are no
+   acts, and nothing changes it later, so there is no region and no seat [4, 5, 16, 17, 28 to 32]. */
 static int fill_text(const NcsModule *m, NcsRefusal *why) {
     const Image *image = &m->image;
     const uint8_t *code = image->bytes + image->code_offset;
-    uint8_t *text = (uint8_t *)(uintptr_t)m->text_at;
-    NcVerdict judged;
-    ncs_zone_lay(text);
-    judged = nc_host_image(image->code_at, code, image->code_len, text + NC_START, m->limit - NC_START);
+    uint8_t *text = (uint8_t *)(uintptr_t)m->text_at + NC_START;
+    NcVerdict judged = nc_host_image(image->code_at, code, image->code_len, text, m->limit - NC_START);
     return judged.fault == NC_OK || ncs_refuse_fault(why, NCS_BAD_CODE, judged.fault, judged.at);
 }
 
@@ -65,29 +63,32 @@ static int seal_text(NcsModule *m) {
     return sealed;
 }
 
-/* Whether the code is accepted, and there. */
+/* Whether the code is accepted, and there. The process is prepared only for code that is accepted. Whoever enters serializes first. */
 static int load(NcsModule *m, NcsRefusal *why) {
-    int taken;
-    if (!ncs_prepare(why)) {
+    int taken = take_text(m);
+    if (taken && (!fill_text(m, why) || !ncs_prepare(why))) {
         return 0;
     }
-    taken = take_text(m);
-    if (taken && !fill_text(m, why)) {
-        return 0;
+    if (taken) {
+        ncs_zone_lay((uint8_t *)(uintptr_t)m->text_at);
     }
     if (!taken || !seal_text(m)) {
         ncs_refuse(why, NCS_NO_MEMORY, "there is no room below 4 GiB for the code, or no segment left");
+        if (taken) {
+            ncs_unprepare();
+        }
         return 0;
     }
+    m->life = ncs_life();
+    __atomic_add_fetch(&ncs_texts, 1, __ATOMIC_SEQ_CST);
     return 1;
 }
 
 NcsModule *ncs_module_new(const void *bytes, size_t len, NcsRefusal *why) {
     NcsModule *m;
-    if (ncs_forked) { /* nothing of nc_host's may be called there [27] */
-        return ncs_refuse(why, NCS_BAD_SYSTEM, "this is a forked child");
+    if (!ncs_may_begin(why) || !ncs_mask_is_kept(why)) { /* in such a child nothing of nc_host's may be called [27] */
+        return NULL;
     }
-    ncs_refuse(why, NCS_OK, "nothing is refused");
     m = calloc(1, sizeof *m);
     if (m == NULL || (m->image.bytes = malloc(len + 1)) == NULL) {
         free(m);
@@ -110,7 +111,7 @@ NcsModule *ncs_module_elf(const void *file, size_t len, NcsRefusal *why) {
     if (m == NULL || (wrong == NULL && load(m, why))) {
         return m;
     }
-    ncs_module_free(m);
+    ncs_module_drop(m);
     return NULL;
 }
 
@@ -130,7 +131,7 @@ NcsModule *ncs_module_code(const void *code, size_t len, NcsRefusal *why) {
     if (load(m, why)) {
         return m;
     }
-    ncs_module_free(m);
+    ncs_module_drop(m);
     return NULL;
 }
 
@@ -148,7 +149,7 @@ const char *ncs_function_at(const NcsModule *m, NcsAt at, uint32_t *offset) {
     return ncs_elf_function(&m->image, at.at, offset);
 }
 
-/* The file is only read. */
+/* The file is only read. If it changes meanwhile, the name may be wrong, but ends. */
 const char *ncs_function_in(const void *file, size_t len, NcsAt at, uint32_t *offset) {
     Image image;
     memset(&image, 0, sizeof image);
@@ -157,9 +158,16 @@ const char *ncs_function_in(const void *file, size_t len, NcsAt at, uint32_t *of
     return ncs_elf_read(&image) == NULL ? ncs_elf_function(&image, at.at, offset) : NULL;
 }
 
+/* No memory is given back under the lock, which takes time. */
 void ncs_module_drop(NcsModule *m) {
-    if (--m->users == 0) {
+    int is_last;
+    (void)pthread_mutex_lock(&ncs_lock);
+    is_last = --m->users == 0;
+    if (is_last) {
         ncs_segment_free(m->selector);
+    }
+    (void)pthread_mutex_unlock(&ncs_lock);
+    if (is_last) {
         ncs_low_free(m->text_at, m->limit);
         ncs_live_free(m);
         free(m->image.bytes);
@@ -167,10 +175,12 @@ void ncs_module_drop(NcsModule *m) {
     }
 }
 
+int ncs_module_is_ours(const NcsModule *m) {
+    return m->life == ncs_life();
+}
+
 void ncs_module_free(NcsModule *m) {
-    if (m != NULL && !ncs_forked) {
-        (void)pthread_mutex_lock(&ncs_lock);
+    if (m != NULL && ncs_module_is_ours(m)) {
         ncs_module_drop(m);
-        (void)pthread_mutex_unlock(&ncs_lock);
     }
 }

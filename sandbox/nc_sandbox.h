@@ -6,17 +6,21 @@
  * that the host gives it. For Linux on x86-64. docs/SANDBOX.md has an example, and says where each duty of a host is done.
  *
  * Duties of the host that the library can't do for it:
- *   Handlers    Each signal handler of the process has SA_ONSTACK. A new module or box is refused while one hasn't. A handler that is
- *               installed later goes unnoticed: the untrusted code then chooses which memory below 4 GiB the kernel overwrites.
- *   Signals     SIGSEGV, SIGBUS, SIGILL, SIGFPE, SIGTRAP and SIGRTMAX - 1 stay this library's. It hands on the faults of the host's own
- *               code to the handlers that were there before. A thread that calls boxes blocks none of them, and keeps its alternate stack.
+ *   Signals     SIGSEGV, SIGBUS, SIGILL, SIGFPE, SIGTRAP and SIGRTMAX - 1 stay this library's from the first module on, and so does SIGSYS,
+ *               unless the host had a handler for it. The library hands on the faults of the host's own code, with flags and mask, to the
+ *               handlers that were there before. If one of the first six gets another handler later, calls are refused from the next 10 ms
+ *               of processor time on. Until then a fault of untrusted code runs that handler, on whatever stack the code has chosen. The
+ *               handlers of all other signals may be anything.
+ *   Segments    Nobody else changes an entry of the local descriptor table (modify_ldt) that this library has made.
  *   Results     What comes out of a box is untrusted: results, arguments of call-backs, bytes of its memory. Read it once, and judge it.
- *   Call-backs  A call-back returns. It doesn't leave by longjmp, an exception or the end of its thread.
+ *   Call-backs  A call-back returns on the thread and the stack on which it was called, and makes its own calls there. One that returns
+ *               elsewhere aborts the process. One that leaves by longjmp or by the end of its thread leaves the box dead.
  *
  * Every call
  *   Threads     Any thread may call. One thread at a time is in a call of a box. A box or module is freed once, and isn't used after that.
- *               No call may be made from a signal handler. In the forked child of a process the library refuses each new module or box,
- *               each change and each call of a function. It resets and frees nothing there.
+ *               No call may be made from a signal handler. A thread makes no call once its thread-specific data was destroyed.
+ *   Children    The child of fork() makes modules and boxes of its own. Those of before the fork are refused there, since their code and
+ *               time limits stay with the parent. A child by clone or _Fork is refused everything. No child goes on inside a box.
  *   Costs       A process has at most some 3,000 boxes and modules at once, and some 3 GB of memory for them.
  *               A module's text reaches from 0 to the end of its code, and all of it is written. A file whose code lies high can
  *               therefore take up to 64 MiB.
@@ -47,14 +51,15 @@ enum {
     NCS_BAD_FILE,    /* it isn't an ELF file as nc-cc makes it */
     NCS_BAD_CODE,    /* nc_host refuses the code: `fault` and `at` say why and where */
     NCS_BAD_LIMITS,  /* a limit is 0 or too large, or there is less memory than the data needs */
-    NCS_BAD_HANDLER, /* a signal has a handler without SA_ONSTACK: `at` is its number */
+    NCS_BAD_HANDLER, /* the thread has chosen NCS_SIGNALS_PROMISED, and a handler lacks SA_ONSTACK: `at` is its signal's number */
     NCS_NO_MEMORY,   /* there is no memory, no room below 4 GiB, or no segment left */
-    NCS_BAD_SYSTEM,  /* the system refuses what boxes need, or this is a forked child */
+    NCS_BAD_SYSTEM,  /* the system refuses what boxes need, or the module or process has forked: the sentence says what */
     NCS_NOT_LIVE,    /* the module isn't one of ncs_module_live, so its code never changes */
-    NCS_BAD_CHANGE   /* nc_host refuses a change of live code: `fault` says why */
+    NCS_BAD_CHANGE,  /* nc_host refuses a change of live code: `fault` says why */
+    NCS_LOST_HANDLER /* a signal of this library has another handler by now: `at` is its number */
 };
 
-/* A refusal, after which everything is as it was. */
+/* A refusal, after which everything is as it was, the host's handlers and its memory below 4 GiB included. */
 typedef struct NcsRefusal {
     uint32_t kind;        /* one of these, NCS_OK if nothing was refused */
     uint32_t fault;       /* of refused code or a refused change, one of nc_host.h; else 0 */
@@ -76,7 +81,7 @@ NcsModule *ncs_module_elf(const void *file, size_t len, NcsRefusal *why);
 NcsModule *ncs_module_code(const void *code, size_t len, NcsRefusal *why);
 
 /* Returns the address of a global symbol of the file, or 0 if the file has no such symbol. A file may name any number. So ncs_call and the
-   calls for memory judge the address. */
+   calls for memory judge the address. This call and the next ones take the first 1048576 symbols of a file, and no others. */
 NcsAt ncs_symbol(const NcsModule *module, const char *name);
 
 /* Returns the file's entry, which `ld -e` sets, or 00010000 for code alone. A file may name any number here too. */
@@ -88,7 +93,7 @@ NcsAt ncs_entry(const NcsModule *module);
    leaves `offset` as it is. The name is valid until the module is freed. */
 const char *ncs_function_at(const NcsModule *module, NcsAt at, uint32_t *offset);
 
-/* As ncs_function_at, for a file whose code was refused. The name is in the file. */
+/* As ncs_function_at, for a file whose code was refused. The name is in the file, which nobody changes meanwhile. */
 const char *ncs_function_in(const void *file, size_t len, NcsAt at, uint32_t *offset);
 
 /* Frees a module. Its code and data stay until its last box is freed. Null is allowed. */
@@ -147,12 +152,36 @@ NcsBox *ncs_box_new(NcsModule *module, const NcsLimits *limits, NcsRefusal *why)
    it returns 0, and does nothing. If the system refuses, it returns 0, and the box is dead. */
 int ncs_reset(NcsBox *box);
 
-/* Ends the call that is under way, or else the next one, with NCS_KILLED. Any thread may ask for it. It doesn't wait: the thread comes out
-   within some 20 ms of its processor time, or when its call-back returns. A reset takes back a kill that hasn't ended a call. */
+/* Ends the call that is under way, with the calls that its call-backs have made, or else the next one, with NCS_KILLED. Any thread may ask
+   for it. It doesn't wait: the thread comes out within some 20 ms of its processor time, or when its call-back returns. A reset takes back
+   a kill that hasn't ended a call. */
 void ncs_kill(NcsBox *box);
 
 /* Frees a box, and returns 1. While a call of the box is under way it returns 0, and does nothing. Null is allowed. */
 int ncs_free(NcsBox *box);
+
+/* ---- Signals */
+
+/*
+ * How a thread keeps the handlers of others away while it is inside. A frame of theirs would be written below the untrusted stack pointer.
+ *
+ *   NCS_SIGNALS_BLOCKED   The library blocks all signals but its own while the thread is inside. They come in when it is outside, and at
+ *                         least every 10 ms of its processor time. Each thread begins so.
+ *   NCS_SIGNALS_HELD      They stay blocked, in the host's own code and in call-backs too, until the thread makes another choice. Then its
+ *                         earlier mask is on again. For runs of calls, and for threads that only call boxes. The thread keeps its alternate
+ *                         stack meanwhile.
+ *   NCS_SIGNALS_PROMISED  They aren't blocked. The host promises that each handler of the process has SA_ONSTACK at any time, whoever
+ *                         installs it, and that the thread keeps its alternate stack. A handler then finds the untrusted code's registers
+ *                         in its context: it follows none of them, and makes no call.
+ *
+ * A thread whose alternate stack is gone isn't let in under NCS_SIGNALS_BLOCKED. Under the other two a call is refused within 10 ms of
+ * processor time, and the process ends at once if a signal comes before that.
+ */
+enum { NCS_SIGNALS_BLOCKED, NCS_SIGNALS_HELD, NCS_SIGNALS_PROMISED };
+
+/* Chooses for the calling thread, and returns 1. Returns 0 and changes nothing if it is refused, with NCS_BAD_HANDLER while a handler lacks
+   SA_ONSTACK that is promised to have it. `why` gets the refusal, and may be null. */
+int ncs_signals(uint32_t how, NcsRefusal *why);
 
 /* ---- Calls */
 
@@ -162,7 +191,7 @@ enum {
     NCS_STOPPED,   /* * at a stop (hlt), which is also at each address without code */
     NCS_FAULTED,   /* * by a fault: `trap`, and `data` if that is 14 */
     NCS_LATE,      /* * its time is over. Some 30 ms more may pass, and still more if call-backs make many system calls */
-    NCS_KILLED,    /* * by ncs_kill */
+    NCS_KILLED,    /* * by ncs_kill, of this box or of one from which it was called */
     NCS_EXITED,    /* * it called NCS_EXIT: `status` */
     NCS_BAD_ENTRY, /* the function isn't at a bundle start of the code, and nothing was entered; * so isn't an address to return to */
     NCS_BAD_CALL,  /* * a call of the host where there is none, or arguments or a frame that aren't in the box's memory */
@@ -170,7 +199,9 @@ enum {
     NCS_TOO_DEEP,  /* the thread has too many calls under way, and nothing was entered */
     NCS_DEAD,      /* an earlier call has left the box dead, and nothing was entered */
     NCS_BUSY,      /* another thread is in a call of the box, or NCS_LIVE_CALLS of its module are under way; nothing was entered */
-    NCS_HOST       /* too many arguments, a thread that can't be prepared, or a forked child; * a call-back forked, and this is the child */
+    NCS_HOST       /* too many arguments, a thread that can't be prepared or has lost its alternate stack, a signal of the library with
+                      another handler, or a box of before a fork; * one of these is found while the call is under way, or a call-back
+                      didn't return */
 };
 
 typedef struct NcsEnd {
@@ -219,7 +250,8 @@ void ncs_deny(NcsBox *box);
 /* Returns a pointer to `len` bytes of the box, valid until the box is freed. Returns null unless all of them are the box's. */
 void *ncs_at(NcsBox *box, NcsAt at, uint32_t len);
 
-/* Copy into the box, or out of it, and return 1. Unless all of the range is the box's, they return 0 and copy nothing. */
+/* Copy into the box, or out of it, and return 1. The other end may overlap it. Unless all of the range is the box's, they return 0 and copy
+   nothing. */
 int ncs_set(NcsBox *box, NcsAt at, const void *from, uint32_t len);
 int ncs_get(NcsBox *box, void *to, NcsAt at, uint32_t len);
 

@@ -3,30 +3,87 @@
 #define NC_FAULT_NAMES
 #include "inner.h"
 
+#include <dlfcn.h>
+#include <stdio.h>
+#include <stdlib.h>
 #include <string.h>
 #include <sys/mman.h>
 
-int ncs_forked;
-uint32_t ncs_landing_at;
+uint32_t ncs_landing_at, ncs_texts;
+static volatile uint32_t *life_page; /* in a child it is 0, however that was made */
+static uint32_t life;
 
-/* In the child there are no timers, and locks may be in any state. */
-static void in_child(void) {
-    ncs_forked = 1;
+void ncs_must(int good, const char *what) {
+    if (!good) {
+        fprintf(stderr, "nc_sandbox: %s\n", what);
+        abort();
+    }
 }
 
-/* A far jump has an offset of 32 bits, and the host may be linked anywhere. So trampolines lead to a page of their own below 4 GiB, which
-   goes on to the host: `jmp *0(%rip)`, and behind it the address. */
+/* ---- Children */
+
+uint32_t ncs_life(void) {
+    return life_page != NULL ? *life_page : 0;
+}
+
+/* Nobody else holds the lock at a fork. The child goes on with a life of its own, in which modules and boxes of before aren't used. */
+static void before_fork(void) {
+    ncs_must(pthread_mutex_lock(&ncs_lock) == 0, "a lock failed");
+}
+
+static void after_fork(void) {
+    ncs_must(pthread_mutex_unlock(&ncs_lock) == 0, "a lock failed");
+}
+
+static void in_child(void) {
+    if (life_page != NULL) {
+        *life_page = ++life;
+    }
+    after_fork();
+}
+
+static int see_forks(void) {
+    static int sees;
+    sees = sees || pthread_atfork(before_fork, after_fork, in_child) == 0;
+    return sees;
+}
+
+static int make_life(void) {
+    void *page = mmap(NULL, PAGE, PROT_READ | PROT_WRITE, MAP_PRIVATE | MAP_ANONYMOUS, -1, 0);
+    if (page == MAP_FAILED) {
+        return 0;
+    }
+    if (madvise(page, PAGE, MADV_WIPEONFORK) != 0) {
+        (void)munmap(page, PAGE);
+        return 0;
+    }
+    life_page = page;
+    *life_page = ++life;
+    return 1;
+}
+
+static void end_life(void) {
+    (void)munmap((void *)(uintptr_t)life_page, PAGE);
+    life_page = NULL;
+}
+
+/* ---- The landing page */
+
+/* A far jump has an offset of 32 bits, and the host may be linked anywhere. So trampolines lead to a page of their own below 4 GiB. It has
+   no address of the host's, but takes it from the thread: `mov %fs:own, %r8` and `jmp *landing(%r8)`. */
 static int make_landing(void) {
-    static const uint8_t jump[] = {0xFF, 0x25, 0, 0, 0, 0};
-    uint64_t to = (uint64_t)(uintptr_t)ncs_switch_landing;
+    static const uint8_t load[] = {0x64, 0x4C, 0x8B, 0x04, 0x25}, jump[] = {0x41, 0xFF, 0x60, offsetof(Thread, landing)};
+    int32_t own = (int32_t)((intptr_t)&ncs_thread - (intptr_t)__builtin_thread_pointer());
     uint32_t at = ncs_low_new(PAGE, PROT_READ | PROT_WRITE, -1);
     uint8_t *page = (uint8_t *)(uintptr_t)at;
     if (at == 0) {
         return 0;
     }
-    memcpy(page, jump, sizeof jump);
-    memcpy(page + sizeof jump, &to, sizeof to);
-    if (!ncs_low_seal(at, PAGE)) {
+    memset(page, NC_STOP, PAGE);
+    memcpy(page, load, sizeof load);
+    memcpy(page + sizeof load, &own, sizeof own);
+    memcpy(page + sizeof load + sizeof own, jump, sizeof jump);
+    if (mprotect(page, PAGE, PROT_READ | PROT_EXEC) != 0) {
         ncs_low_free(at, PAGE);
         return 0;
     }
@@ -34,25 +91,109 @@ static int make_landing(void) {
     return 1;
 }
 
+static void end_landing(void) {
+    ncs_low_free(ncs_landing_at, PAGE);
+    ncs_landing_at = 0;
+}
+
+/* ---- The beginning */
+
 static int check_version(void) {
     return nc_host_version() == NC_VERSION;
 }
 
-static int see_forks(void) {
-    return pthread_atfork(NULL, NULL, in_child) == 0;
+static void end_nothing(void) {
 }
 
-/* Each step is made once. A later call goes on where an earlier one was refused. */
-static int begin(void) {
-    static int (*const steps[])(void) = {check_version, ncs_segments_begin, make_landing, ncs_threads_begin, see_forks, ncs_signals_begin};
-    static size_t made;
-    for (; made < sizeof steps / sizeof *steps; made++) {
-        if (!steps[made]()) {
-            return steps[made] == make_landing ? NCS_NO_MEMORY : NCS_BAD_SYSTEM;
-        }
+/* The handlers stay, so a shared library that contains this one does. A program without dlopen unloads none. */
+#pragma weak dlopen
+#pragma weak dladdr
+static int stay_loaded(void) {
+    Dl_info about;
+    if (dlopen != NULL && dladdr != NULL && dladdr(&ncs_texts, &about) != 0 && about.dli_fname != NULL) {
+        (void)dlopen(about.dli_fname, RTLD_LAZY | RTLD_NOLOAD | RTLD_NODELETE); /* fails for the program itself, which stays */
     }
-    return NCS_OK;
+    return 1;
 }
+
+/* The host's handlers come last, so no refusal replaces them. */
+static const struct Step {
+    int (*make)(void);
+    void (*end)(void);
+    uint32_t kind;
+    const char *sentence;
+} STEPS[] = {
+    {check_version, end_nothing, NCS_BAD_SYSTEM, "nc_host is of another version"},
+    {ncs_segments_begin, end_nothing, NCS_BAD_SYSTEM, "the system makes no segments (modify_ldt)"},
+    {make_landing, end_landing, NCS_NO_MEMORY, "there is no room below 4 GiB"},
+    {make_life, end_life, NCS_BAD_SYSTEM, "the system has no memory that it wipes in a child (MADV_WIPEONFORK)"},
+    {see_forks, end_nothing, NCS_BAD_SYSTEM, "the system refuses what boxes need"},
+    {ncs_threads_begin, ncs_threads_end, NCS_BAD_SYSTEM, "the system refuses what boxes need"},
+    {stay_loaded, end_nothing, NCS_BAD_SYSTEM, ""},
+    {ncs_signals_begin, ncs_signals_end, NCS_BAD_SYSTEM, "SIGRTMAX - 1 has a handler, perhaps of another copy of this library"},
+};
+#define STEP_COUNT (sizeof STEPS / sizeof *STEPS)
+static uint64_t users; /* of what these have made: all that there ever were, but for those that were refused */
+
+static void end_steps(size_t made) {
+    while (made != 0) {
+        STEPS[--made].end();
+    }
+}
+
+static int begin(NcsRefusal *why) {
+    size_t made = 0;
+    while (made < STEP_COUNT && STEPS[made].make()) {
+        made++;
+    }
+    if (made == STEP_COUNT) {
+        return 1;
+    }
+    end_steps(made);
+    ncs_refuse(why, STEPS[made].kind, STEPS[made].sentence);
+    return 0;
+}
+
+static int begin_once(NcsRefusal *why) {
+    int begun;
+    ncs_must(pthread_mutex_lock(&ncs_lock) == 0, "a lock failed");
+    begun = users != 0 || begin(why);
+    users += begun ? 1 : 0;
+    ncs_must(pthread_mutex_unlock(&ncs_lock) == 0, "a lock failed");
+    return begun;
+}
+
+void ncs_unprepare(void) {
+    ncs_must(pthread_mutex_lock(&ncs_lock) == 0, "a lock failed");
+    if (--users == 0) {
+        end_steps(STEP_COUNT);
+    }
+    ncs_must(pthread_mutex_unlock(&ncs_lock) == 0, "a lock failed");
+}
+
+static int has_handlers(NcsRefusal *why) {
+    int sig = ncs_signals_lost();
+    return sig == 0 || ncs_refuse_signal(why, NCS_LOST_HANDLER, sig);
+}
+
+int ncs_may_begin(NcsRefusal *why) {
+    int may = life_page == NULL || *life_page != 0;
+    ncs_refuse(why, may ? NCS_OK : NCS_BAD_SYSTEM, may ? "nothing is refused" : "this is a child that was made without fork()");
+    return may;
+}
+
+int ncs_prepare(NcsRefusal *why) {
+    if (!ncs_may_begin(why) || !begin_once(why)) {
+        return 0;
+    }
+    if (has_handlers(why)) {
+        return 1;
+    }
+    ncs_unprepare();
+    return 0;
+}
+
+/* ---- Refusals */
 
 void *ncs_refuse(NcsRefusal *why, uint32_t kind, const char *sentence) {
     if (why != NULL) {
@@ -72,28 +213,11 @@ int ncs_refuse_fault(NcsRefusal *why, uint32_t kind, uint32_t fault, uint32_t at
     return 0;
 }
 
-static int begin_once(void) {
-    int refused;
-    if (ncs_forked || pthread_mutex_lock(&ncs_lock) != 0) {
-        return NCS_BAD_SYSTEM;
+int ncs_refuse_signal(NcsRefusal *why, uint32_t kind, int sig) {
+    const char *bad = "a signal has a handler without SA_ONSTACK", *lost = "a signal of this library has another handler";
+    ncs_refuse(why, kind, kind == NCS_BAD_HANDLER ? bad : lost);
+    if (why != NULL) {
+        why->at = (uint32_t)sig;
     }
-    refused = begin();
-    (void)pthread_mutex_unlock(&ncs_lock);
-    return refused;
-}
-
-int ncs_prepare(NcsRefusal *why) {
-    int refused = begin_once(), sig = refused == NCS_OK ? ncs_bad_handler() : 0;
-    if (refused != NCS_OK || sig < 0) {
-        ncs_refuse(why, refused != NCS_OK ? (uint32_t)refused : NCS_BAD_SYSTEM,
-                   refused == NCS_NO_MEMORY ? "there is no room below 4 GiB" : "the system refuses what boxes need");
-        return 0;
-    }
-    if (sig != 0) {
-        ncs_refuse(why, NCS_BAD_HANDLER, "a signal has a handler without SA_ONSTACK");
-        if (why != NULL) {
-            why->at = (uint32_t)sig;
-        }
-    }
-    return sig == 0;
+    return 0;
 }

@@ -5,34 +5,71 @@
 #include <asm/ldt.h>
 #include <string.h>
 #include <sys/mman.h>
+#include <sys/random.h>
 #include <sys/syscall.h>
 #include <unistd.h>
 
-#define STEP (1u << 20)        /* each piece of low memory begins at a multiple of it */
+#ifndef MADV_DONTNEED_LOCKED
+#define MADV_DONTNEED_LOCKED 24
+#endif
+#define STEP (1u << 20)        /* pieces of low memory begin so far from each other */
 #define LOW_BEGIN 0x20000000u  /* above what a host that isn't position-independent has below 4 GiB */
 #define LOW_END 0xF0000000u
+#define SHIFT_MOST (192u << 20) /* by chance, in pages; so much isn't used where three boxes of 1 GiB fit */
+#define PIECE (16u << 20)       /* that is given back at once: the system holds a lock of the process meanwhile */
 #define SELECTOR(entry) ((entry) << 3 | 7u) /* of the local table, for user code */
 
 pthread_mutex_t ncs_lock = PTHREAD_MUTEX_INITIALIZER;
-static uint8_t taken[LDT_ENTRIES];
+
+/* ---- Segments */
+
+static uint8_t taken[LDT_ENTRIES];                    /* by this library, or by others when it last looked */
+static uint8_t table[LDT_ENTRIES * LDT_ENTRY_SIZE]; /* the local table, as the system shows it */
+
+/* Reads the entries up to `last`. Those that were never made read as 0. */
+static int read_table(unsigned last) {
+    return syscall(SYS_modify_ldt, 0, table, (size_t)(last + 1) * LDT_ENTRY_SIZE) >= 0;
+}
+
+static int is_free(unsigned k) {
+    static const uint8_t free_entry[LDT_ENTRY_SIZE];
+    return memcmp(table + k * LDT_ENTRY_SIZE, free_entry, sizeof free_entry) == 0;
+}
 
 int ncs_segments_begin(void) {
-    static const uint8_t free_entry[LDT_ENTRY_SIZE];
-    static uint8_t table[LDT_ENTRIES * LDT_ENTRY_SIZE];
-    long len = syscall(SYS_modify_ldt, 0, table, sizeof table), k;
-    for (k = 0; k < len / LDT_ENTRY_SIZE; k++) {
-        taken[k] = memcmp(table + k * LDT_ENTRY_SIZE, free_entry, sizeof free_entry) != 0;
+    unsigned k;
+    if (!read_table(LDT_ENTRIES - 1)) {
+        return 0;
     }
-    return len >= 0;
+    for (k = 0; k < LDT_ENTRIES; k++) {
+        taken[k] = taken[k] || !is_free(k);
+    }
+    return 1;
+}
+
+/* An entry that nobody has, or LDT_ENTRIES. Another user of the table may have taken one since the beginning, so each is looked at before
+   it is taken. */
+static unsigned free_entry(void) {
+    unsigned k;
+    for (k = 0; k < LDT_ENTRIES; k++) {
+        if (taken[k]) {
+            continue;
+        }
+        if (!read_table(k)) {
+            return LDT_ENTRIES;
+        }
+        if (is_free(k)) {
+            return k;
+        }
+        taken[k] = 1;
+    }
+    return k;
 }
 
 /* A segment's limit is in pages, less one. */
 static uint32_t segment_new(uint32_t base, uint32_t len, unsigned contents) {
     struct user_desc d;
-    unsigned k = 0;
-    while (k < LDT_ENTRIES && taken[k]) {
-        k++;
-    }
+    unsigned k = free_entry();
     if (k == LDT_ENTRIES) {
         return 0;
     }
@@ -75,19 +112,33 @@ void ncs_segment_free(uint32_t selector) {
     }
 }
 
+/* ---- Memory */
+
+/* Where the search for room begins. Untrusted code that learns of a way to use addresses of the host's doesn't know this one, which differs
+   from run to run. */
+static uint32_t beginning(void) {
+    uint32_t chance = 0;
+    if (getrandom(&chance, sizeof chance, GRND_NONBLOCK) != sizeof chance) {
+        chance = (uint32_t)((uintptr_t)&chance >> 4); /* the system places stacks by chance too */
+    }
+    return LOW_BEGIN + chance % (SHIFT_MOST / PAGE) * PAGE;
+}
+
 uint32_t ncs_low_new(uint32_t len, int protection, int file) {
-    static uint32_t from = LOW_BEGIN;
+    static uint32_t least, from;
     int flags = (file < 0 ? MAP_PRIVATE | MAP_ANONYMOUS | MAP_NORESERVE : MAP_SHARED) | MAP_FIXED_NOREPLACE;
-    uint64_t at = from;
+    uint64_t at;
     unsigned tries;
+    least = least != 0 ? least : beginning();
+    at = from = from != 0 ? from : least;
     for (tries = 0; tries < (LOW_END - LOW_BEGIN) / STEP; tries++, at += STEP) {
         void *got;
         if (at + len > LOW_END) {
-            at = LOW_BEGIN;
+            at = least;
         }
         got = mmap((void *)(uintptr_t)at, len, protection, flags, file, 0);
         if (got == (void *)(uintptr_t)at) {
-            from = (uint32_t)(at + len + STEP - 1) & ~(STEP - 1);
+            from = (uint32_t)(at + (len + STEP - 1) / STEP * STEP);
             return (uint32_t)at;
         }
         if (got != MAP_FAILED) { /* a kernel that doesn't know MAP_FIXED_NOREPLACE */
@@ -97,12 +148,28 @@ uint32_t ncs_low_new(uint32_t len, int protection, int file) {
     return 0;
 }
 
+/* Memory that is locked wants a request of its own, from Linux 5.18 on. */
+static int empty(uint8_t *at, uint32_t len) {
+    return madvise(at, len, MADV_DONTNEED) == 0 || madvise(at, len, MADV_DONTNEED_LOCKED) == 0;
+}
+
+/* In pieces, so that nobody who wants memory waits for all of it. */
+int ncs_low_empty(uint32_t at, uint32_t len) {
+    uint32_t done = 0;
+    while (done < len && empty((uint8_t *)(uintptr_t)at + done, len - done < PIECE ? len - done : PIECE)) {
+        done += len - done < PIECE ? len - done : PIECE;
+    }
+    return done == len;
+}
+
 void ncs_low_free(uint32_t at, uint32_t len) {
     if (at != 0) {
+        (void)ncs_low_empty(at, len);
         (void)munmap((void *)(uintptr_t)at, len); /* fails only where the system has no memory for it; the pages are lost then */
     }
 }
 
 int ncs_low_seal(uint32_t at, uint32_t len) {
-    return mprotect((void *)(uintptr_t)at, len, PROT_READ | PROT_EXEC) == 0;
+    void *text = (void *)(uintptr_t)at;
+    return mprotect(text, len, PROT_READ | PROT_EXEC) == 0 && madvise(text, len, MADV_DONTFORK) == 0;
 }

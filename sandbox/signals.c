@@ -1,4 +1,5 @@
-/* The handlers: a thread that faults inside, or whose time is over, comes out by its signal frame. TRUSTED, NOT PROVED. [21, 23, 24, 26] */
+/* The handlers: a thread that faults inside, whose time is over, or for which signals wait, comes out by its signal frame. TRUSTED, NOT
+   PROVED. [21, 23, 24, 26] */
 #define _GNU_SOURCE
 #include "inner.h"
 
@@ -7,14 +8,6 @@
 #include <sys/syscall.h>
 #include <ucontext.h>
 #include <unistd.h>
-
-static const int FAULTS[] = {SIGSEGV, SIGBUS, SIGILL, SIGFPE, SIGTRAP}; /* by which untrusted code can come out: all of them */
-#define FAULT_COUNT (sizeof FAULTS / sizeof *FAULTS)
-#define SIGNALS 65
-#define FIRST_OF_LIBC 32 /* pthread_cancel's; and behind it the one of setuid */
-#define LAST_OF_LIBC 33
-
-static struct sigaction before[SIGNALS]; /* what handled the faults before */
 
 static int is_inside(const Thread *t, const greg_t *reg) {
     return t != NULL && ((uint64_t)reg[REG_CSGSFS] & 0xFFFF) == t->code_selector;
@@ -28,32 +21,61 @@ static void come_out(Thread *t, greg_t *reg, uint32_t why) {
         t->reg[i] = (uint32_t)reg[order[i]];
     }
     t->place = (uint32_t)reg[REG_RIP];
+    t->flags = (uint32_t)reg[REG_EFL];
     t->why = why;
+    reg[REG_R8] = (greg_t)(uintptr_t)t;
     reg[REG_RIP] = (greg_t)(uintptr_t)ncs_switch_out;
     reg[REG_RSP] = (greg_t)t->host_stack;
     reg[REG_EFL] = 0x202;
     reg[REG_CSGSFS] = (greg_t)(((uint64_t)reg[REG_CSGSFS] & 0x0000FFFFFFFF0000ull) | HOST_CODE | (uint64_t)HOST_DATA << 48);
 }
 
-/* A fault of the host's own code goes to what handled it before. */
-static void hand_on(int sig, siginfo_t *info, void *context) {
-    const struct sigaction *old = &before[sig];
-    int sent = info->si_code <= 0; /* by kill or raise: there is no instruction that would fault again */
-    if (old->sa_flags & SA_SIGINFO) {
-        old->sa_sigaction(sig, info, context);
-    } else if (old->sa_handler != SIG_DFL && old->sa_handler != SIG_IGN) {
-        old->sa_handler(sig);
-    } else if (!sent || old->sa_handler == SIG_DFL) {
-        (void)signal(sig, SIG_DFL);
-        if (sent) {
-            (void)raise(sig);
-        }
+/* ---- What isn't this library's */
+
+/* With no handler there, as the system would have done it. The instruction faults again, or else the signal is sent again. */
+static void end_by(int sig, int faults_again) {
+    (void)signal(sig, SIG_DFL);
+    if (!faults_again) {
+        (void)raise(sig);
     }
 }
 
-/* Whether the innermost call is to end. */
-static int is_over(const Thread *t) {
-    return t->ticks >= t->deadline || __atomic_load_n(&t->box->killed, __ATOMIC_SEQ_CST);
+/* The mask with which the system would have begun an earlier handler. At the return the frame's mask is on again. */
+static void set_mask_of(int sig, const struct sigaction *old, const ucontext_t *context) {
+    uint64_t mask, further;
+    memcpy(&mask, &context->uc_sigmask, sizeof mask);
+    memcpy(&further, &old->sa_mask, sizeof further);
+    ncs_mask_set(mask | further | ((old->sa_flags & SA_NODEFER) ? 0 : SIGNAL_BIT(sig)));
+}
+
+/* A signal of the host's own goes to what handled it before, as the system would have done it. */
+static void hand_on(int sig, siginfo_t *info, ucontext_t *context) {
+    struct sigaction old = ncs_before[sig];
+    int sent = info->si_code <= 0, is_default = !(old.sa_flags & SA_SIGINFO) && old.sa_handler == SIG_DFL;
+    int ignores = !(old.sa_flags & SA_SIGINFO) && old.sa_handler == SIG_IGN;
+    if (is_default || (ignores && !sent)) {
+        end_by(sig, !sent && sig != SIGSYS);
+        return;
+    }
+    if (ignores) {
+        return;
+    }
+    if (old.sa_flags & SA_RESETHAND) {
+        memset(&ncs_before[sig], 0, sizeof ncs_before[sig]);
+    }
+    set_mask_of(sig, &old, context);
+    if (old.sa_flags & SA_SIGINFO) {
+        old.sa_sigaction(sig, info, context);
+    } else {
+        old.sa_handler(sig);
+    }
+}
+
+/* ---- Faults and ticks */
+
+/* Whether this call is to end, or one around it, with which it ends too. */
+int ncs_is_over(const Thread *t) {
+    return t->ticks >= t->deadline || ncs_is_killed(t);
 }
 
 /* A stop is a general protection at F4. In live code it may be one of a change that is under way, and gone by now [25]. */
@@ -70,110 +92,66 @@ static int meet(Thread *t, uint32_t place) {
 
 /* A thread that goes back to its instruction may trap there again, as long as changes are made. It goes back no more when its time is
    over. */
-static void on_fault(int sig, siginfo_t *info, void *context) {
-    greg_t *reg = ((ucontext_t *)context)->uc_mcontext.gregs;
-    Thread *t = ncs_thread;
+static void on_fault(Thread *t, siginfo_t *info, greg_t *reg) {
     int met;
-    if (!is_inside(t, reg) || info->si_code <= 0) {
-        hand_on(sig, info, context);
-        return;
-    }
     t->trap = (uint32_t)reg[REG_TRAPNO];
     t->fault_at = t->trap == PAGE_FAULT ? (uint32_t)(uintptr_t)info->si_addr : 0;
+    if (ncs_life() != t->life) { /* a child that was made on top of untrusted code has none of its text */
+        come_out(t, reg, OUT_LOST);
+        return;
+    }
     met = meet(t, (uint32_t)reg[REG_RIP]);
     t->at_stop = met == MET_STOP;
     if (met != MET_NOTHING) {
         come_out(t, reg, OUT_TRAP);
-    } else if (is_over(t)) {
+    } else if (ncs_is_over(t)) {
         come_out(t, reg, OUT_TICK);
     }
 }
 
-/* Where the thread is in the host it comes out by a later tick, or doesn't go in any more. Without a call under way the ticks end. */
-static void on_tick(int sig, siginfo_t *info, void *context) {
+/* Why a thread inside has to come out at a tick, or 0. */
+static uint32_t comes_out(const Thread *t) {
+    return ncs_is_over(t) ? OUT_TICK : ncs_signals_lost() != 0 ? OUT_LOST : ncs_mask_waits(t) ? OUT_SIGNALS : 0;
+}
+
+/* Where the thread is in the host it comes out by a later tick, or doesn't go in any more. Without a call under way the ticks end. Anybody
+   may send the signal, since the time is read from the thread's clock. */
+static void on_tick(Thread *t, greg_t *reg) {
     static const struct itimerspec never;
+    if (t->depth == 0) {
+        t->ticking = timer_settime(t->timer, 0, &never, NULL) != 0;
+        return;
+    }
+    ncs_thread_count(t);
+    ncs_mask_tick(t);
+    if (is_inside(t, reg)) {
+        uint32_t why = comes_out(t);
+        if (why != 0) {
+            come_out(t, reg, why);
+        }
+    }
+}
+
+/* By way of ncs_handler. Errors of the host's are as they were. */
+void ncs_handle(int sig, siginfo_t *info, void *context) {
     greg_t *reg = ((ucontext_t *)context)->uc_mcontext.gregs;
     Thread *t = ncs_thread;
     int kept = errno;
-    (void)sig;
-    if (t == NULL) {
+    if (sig == SIGSYS && ncs_mask_on_call(t, info, context)) {
+        errno = kept;
         return;
     }
-    if (t->depth == 0) {
-        t->ticking = timer_settime(t->timer, 0, &never, NULL) != 0;
-    } else {
-        t->ticks += 1 + (info->si_code == SI_TIMER && info->si_overrun > 0 ? (unsigned)info->si_overrun : 0);
-        if (is_inside(t, reg) && is_over(t)) {
-            come_out(t, reg, OUT_TICK);
+    if (t != NULL && !is_inside(t, reg)) {
+        ncs_mask_take_back(t, context);
+    }
+    if (sig == TICK_SIGNAL) {
+        if (t != NULL) {
+            on_tick(t, reg);
         }
+    } else if (sig != SIGSYS && is_inside(t, reg) && info->si_code > 0) {
+        on_fault(t, info, reg);
+    } else {
+        hand_on(sig, info, context);
     }
     errno = kept;
-}
-
-static int handle(int sig, void (*handler)(int, siginfo_t *, void *)) {
-    struct sigaction action;
-    memset(&action, 0, sizeof action);
-    action.sa_sigaction = handler;
-    action.sa_flags = SA_SIGINFO | SA_ONSTACK | SA_RESTART;
-    return sigemptyset(&action.sa_mask) == 0 && sigaction(sig, &action, NULL) == 0;
-}
-
-/* The signal of the ticks must be free. A later attempt goes on where one was refused, so no handler of this file is taken for one that was
-   there before. */
-int ncs_signals_begin(void) {
-    static int has_ticks;
-    static size_t faults;
-    struct sigaction tick;
-    if (!has_ticks && (sigaction(TICK_SIGNAL, NULL, &tick) != 0 || (tick.sa_flags & SA_SIGINFO) || tick.sa_handler != SIG_DFL ||
-                       !handle(TICK_SIGNAL, on_tick))) {
-        return 0;
-    }
-    has_ticks = 1;
-    for (; faults < FAULT_COUNT; faults++) {
-        if (sigaction(FAULTS[faults], NULL, &before[FAULTS[faults]]) != 0 || !handle(FAULTS[faults], on_fault)) {
-            return 0;
-        }
-    }
-    return 1;
-}
-
-int ncs_signals_unblock(void) {
-    sigset_t needed;
-    size_t i;
-    if (sigemptyset(&needed) != 0 || sigaddset(&needed, TICK_SIGNAL) != 0) {
-        return 0;
-    }
-    for (i = 0; i < FAULT_COUNT; i++) {
-        if (sigaddset(&needed, FAULTS[i]) != 0) {
-            return 0;
-        }
-    }
-    return pthread_sigmask(SIG_UNBLOCK, &needed, NULL) == 0;
-}
-
-/* An action as the system call has it. */
-typedef struct KernelAction {
-    uintptr_t handler;
-    unsigned long flags;
-    void *restorer;
-    uint64_t mask;
-} KernelAction;
-
-/* glibc hides its own two signals from sigaction, and may handle them without SA_ONSTACK. These get the flag. */
-int ncs_bad_handler(void) {
-    int sig;
-    for (sig = 1; sig < SIGNALS; sig++) {
-        KernelAction action;
-        if (syscall(SYS_rt_sigaction, sig, NULL, &action, sizeof action.mask) != 0) {
-            return -1;
-        }
-        if (action.handler <= (uintptr_t)SIG_IGN || (action.flags & SA_ONSTACK)) {
-            continue;
-        }
-        action.flags |= SA_ONSTACK;
-        if (sig < FIRST_OF_LIBC || sig > LAST_OF_LIBC || syscall(SYS_rt_sigaction, sig, &action, NULL, sizeof action.mask) != 0) {
-            return sig;
-        }
-    }
-    return 0;
 }

@@ -14,6 +14,8 @@
 #include <sys/wait.h>
 #include <unistd.h>
 
+#define MANY 20u /* calls */
+
 enum { GRANTED, REFUSED, WRONG };
 
 typedef struct Request {
@@ -34,10 +36,13 @@ static NcsModule *module, *live, *made_module;
 static NcsBox *box, *made_box;
 static Told *told; /* shared with the children */
 
-/* The kinds of refusal: where memory or a segment lacks, and where anything else does. */
+/* The kinds of refusal: where memory or a segment lacks, where a handler isn't seen, and where anything else lacks. Of memory for the
+   process, or a table that isn't told, the system is to blame. */
 static int is_right(int which, const NcsRefusal *why) {
-    uint32_t kind = which <= REFUSES_modify_ldt ? NCS_NO_MEMORY : NCS_BAD_SYSTEM;
-    return why->sentence != NULL && (why->kind == kind || (which == REFUSES_modify_ldt && why->kind == NCS_BAD_SYSTEM));
+    int of_memory = which <= REFUSES_modify_ldt, of_system = !of_memory || which >= REFUSES_madvise || which == REFUSES_mmap;
+    int of_handlers = which == REFUSES_rt_sigaction || which == REFUSES_sigaction;
+    return why->sentence != NULL && ((of_memory && why->kind == NCS_NO_MEMORY) || (of_system && why->kind == NCS_BAD_SYSTEM) ||
+                                     (of_handlers && (why->kind == NCS_LOST_HANDLER || why->kind == NCS_BAD_HANDLER)));
 }
 
 static int outcome(int given, int which, const NcsRefusal *why) {
@@ -127,18 +132,32 @@ static void undo_deletion(void) {
     CHECK(ncs_reclaim(live) == 1 && ncs_create(live, CHUNK, code, 32, NULL));
 }
 
+/* It wants glibc's handlers, the process's preparation and the thread's. Of the last it doesn't tell what lacks. */
+static int make_promise(unsigned nth, int later, int *which) {
+    NcsRefusal why;
+    int made;
+    refusing_begin(nth, later);
+    made = ncs_signals(NCS_SIGNALS_PROMISED, &why);
+    *which = refusing_end();
+    return !made && *which >= 0 && why.kind == NCS_BAD_SYSTEM ? REFUSED : outcome(made, *which, &why);
+}
+
+static void undo_promise(void) {
+    CHECK(ncs_signals(NCS_SIGNALS_BLOCKED, NULL));
+}
+
 static int returns(NcsBox *one) {
     NcsAt start = {CODE_AT};
     return ncs_call(one, start, NCS_NO_ARGS).how == NCS_RETURNED;
 }
 
-typedef struct FirstCall {
+typedef struct ThreadsCalls {
     unsigned nth;
     int later, which, ended;
-} FirstCall;
+} ThreadsCalls;
 
 static void *call_first(void *given) {
-    FirstCall *f = given;
+    ThreadsCalls *f = given;
     NcsAt start = {CODE_AT};
     stack_t none = {.ss_flags = SS_DISABLE}; /* a sanitizer has given it one */
     NcsEnd end;
@@ -153,15 +172,40 @@ static void *call_first(void *given) {
     return NULL;
 }
 
-/* Each thread prepares at its first call. */
-static int make_first_call(unsigned nth, int later, int *which) {
-    FirstCall f = {nth, later, -1, WRONG};
+static int on_a_thread(void *(*what)(void *), unsigned nth, int later, int *which) {
+    ThreadsCalls f = {nth, later, -1, WRONG};
     pthread_t thread;
-    if (pthread_create(&thread, NULL, call_first, &f) != 0 || pthread_join(thread, NULL) != 0) {
+    if (pthread_create(&thread, NULL, what, &f) != 0 || pthread_join(thread, NULL) != 0) {
         abort();
     }
     *which = f.which;
     return f.ended;
+}
+
+/* Each thread prepares at its first call. */
+static int make_first_call(unsigned nth, int later, int *which) {
+    return on_a_thread(call_first, nth, later, which);
+}
+
+/* So many that the mask may stay on between two of them. A call that is refused hasn't been made. */
+static void *call_often(void *given) {
+    ThreadsCalls *f = given;
+    NcsAt start = {CODE_AT};
+    unsigned k, refused = 0, good = 0;
+    CHECK(returns(box));
+    refusing_begin(f->nth, f->later);
+    for (k = 0; k < MANY; k++) {
+        uint32_t how = ncs_call(box, start, NCS_NO_ARGS).how;
+        good += how == NCS_RETURNED;
+        refused += how == NCS_HOST;
+    }
+    f->which = refusing_end();
+    f->ended = good + refused != MANY || !returns(box) ? WRONG : refused == 0 ? GRANTED : f->which >= 0 ? REFUSED : WRONG;
+    return NULL;
+}
+
+static int make_many_calls(unsigned nth, int later, int *which) {
+    return on_a_thread(call_often, nth, later, which);
 }
 
 /* A reset that is refused leaves the box dead; one that is granted clears its memory. */
@@ -294,11 +338,12 @@ static void try_releases(void) {
 
 int main(void) {
     static const uint8_t returning[] = {0x59, 0x83, 0xE1, 0xE0, 0xFF, 0xE1}; /* pop ecx; and ecx, -32; jmp ecx */
-    static const Request first = {"the first module", make_module, undo_module};
+    static const Request first = {"the first module", make_module, undo_module}, promise = {"a promise", make_promise, undo_promise};
     static const Request requests[] = {{"a module", make_module, undo_module},
                                        {"a module of code alone", make_code, undo_module},
                                        {"a box", make_box, undo_box},
                                        {"the first call of a thread", make_first_call, undo_nothing},
+                                       {"many calls", make_many_calls, undo_nothing},
                                        {"a reset", make_reset, undo_nothing},
                                        {"live code", make_live, undo_module},
                                        {"a creation", make_creation, undo_creation},
@@ -314,6 +359,7 @@ int main(void) {
         return 2;
     }
     refuse_first(&first);
+    refuse_first(&promise);
     module = testing_module(code);
     box = testing_box(module);
     live = ncs_module_live(2, &why);

@@ -1,6 +1,9 @@
 #define _GNU_SOURCE
 #include "refusing.h"
+#include "testing.h"
 #include "wrapping.h"
+
+#include "inner.h"
 
 #include <asm/ldt.h>
 #include <errno.h>
@@ -13,6 +16,9 @@
 #include <sys/syscall.h>
 #include <time.h>
 #include <unistd.h>
+
+#define WORDS 5 /* of a system call, at most */
+#define ON 1    /* of prctl; to end what it has begun isn't refused */
 
 int refusing_releases;
 static long blocks, mapped, timers, files;
@@ -86,8 +92,18 @@ REAL(void *, mmap, void *at, size_t len, int protection, int flags, int file, of
     return got;
 }
 
+/* Nobody waits for the library's lock while much memory is given back. */
+static void check_unlocked(size_t len) {
+    int is_free = len <= 4096 || pthread_mutex_trylock(&ncs_lock) == 0;
+    CHECK(is_free);
+    if (is_free && len > 4096) {
+        (void)pthread_mutex_unlock(&ncs_lock);
+    }
+}
+
 REAL(int, munmap, void *at, size_t len) {
     int got = -1;
+    check_unlocked(len);
     if (!refusing_releases) {
         got = __real_munmap(at, len);
         count(&mapped, got == 0 ? -(long)len : 0);
@@ -100,6 +116,9 @@ REAL(int, mprotect, void *at, size_t len, int protection) {
 }
 
 REAL(int, madvise, void *at, size_t len, int advice) {
+    if (advice == MADV_DONTNEED) {
+        check_unlocked(len);
+    }
     return refuses(REFUSES_madvise) ? -1 : __real_madvise(at, len, advice);
 }
 
@@ -123,8 +142,10 @@ REAL(int, pthread_mutex_init, pthread_mutex_t *lock, const pthread_mutexattr_t *
     return refuses(REFUSES_pthread_mutex_init) ? ENOMEM : __real_pthread_mutex_init(lock, how);
 }
 
+/* To give back a signal isn't refused. */
 REAL(int, sigaction, int sig, const struct sigaction *to, struct sigaction *was) {
-    return refuses(REFUSES_sigaction) ? -1 : __real_sigaction(sig, to, was);
+    int gives_back = was == NULL;
+    return !gives_back && refuses(REFUSES_sigaction) ? -1 : __real_sigaction(sig, to, was);
 }
 
 /* To give up a stack isn't refused. */
@@ -133,8 +154,9 @@ REAL(int, sigaltstack, const stack_t *to, stack_t *was) {
     return !gives_up && refuses(REFUSES_sigaltstack) ? -1 : __real_sigaltstack(to, was);
 }
 
+/* To give back a mask, or signals, isn't refused. */
 REAL(int, pthread_sigmask, int how, const sigset_t *to, sigset_t *was) {
-    return refuses(REFUSES_pthread_sigmask) ? EINVAL : __real_pthread_sigmask(how, to, was);
+    return was != NULL && refuses(REFUSES_pthread_sigmask) ? EINVAL : __real_pthread_sigmask(how, to, was);
 }
 
 REAL(int, pthread_key_create, pthread_key_t *key, void (*end)(void *)) {
@@ -147,6 +169,14 @@ REAL(int, pthread_setspecific, pthread_key_t key, const void *value) {
 
 REAL(int, pthread_atfork, void (*prepare)(void), void (*parent)(void), void (*child)(void)) {
     return refuses(REFUSES_pthread_atfork) ? ENOMEM : __real_pthread_atfork(prepare, parent, child);
+}
+
+REAL(int, pthread_create, pthread_t *thread, const pthread_attr_t *how, void *(*what)(void *), void *one) {
+    return refuses(REFUSES_pthread_create) ? EAGAIN : __real_pthread_create(thread, how, what, one);
+}
+
+REAL(ssize_t, getrandom, void *to, size_t len, unsigned how) {
+    return refuses(REFUSES_getrandom) ? -1 : __real_getrandom(to, len, how);
 }
 
 REAL(int, timer_create, clockid_t clock, struct sigevent *event, timer_t *timer) {
@@ -172,11 +202,11 @@ static int is_release(const long *words) {
 }
 
 REAL(long, syscall, long number, ...) {
-    long words[4];
+    long words[WORDS];
     int k, refused = 0;
     va_list more;
     va_start(more, number);
-    for (k = 0; k < 4; k++) {
+    for (k = 0; k < WORDS; k++) {
         words[k] = va_arg(more, long);
     }
     va_end(more);
@@ -184,10 +214,14 @@ REAL(long, syscall, long number, ...) {
         refused = is_release(words) ? refusing_releases : refuses(REFUSES_modify_ldt);
     } else if (number == SYS_rt_sigaction) {
         refused = refuses(REFUSES_rt_sigaction);
+    } else if (number == SYS_sigaltstack) {
+        refused = refuses(REFUSES_sigaltstack);
+    } else if (number == SYS_prctl) {
+        refused = words[1] == ON && refuses(REFUSES_prctl);
     } else if (number == SYS_membarrier && (int)words[0] == MEMBARRIER_CMD_REGISTER_PRIVATE_EXPEDITED_SYNC_CORE) {
         refused = refuses(REFUSES_membarrier);
     }
-    return refused ? -1 : __real_syscall(number, words[0], words[1], words[2], words[3]);
+    return refused ? -1 : __real_syscall(number, words[0], words[1], words[2], words[3], words[4]);
 }
 
 Holding refusing_holding(void) {

@@ -1,0 +1,195 @@
+/* While a thread is inside, the signals of others are blocked, so the system writes no frame of their handlers where untrusted code
+   chooses. TRUSTED, NOT PROVED. [21]
+
+   It takes a system call to set a mask, and two for each way in and out would cost more than the way. So the mask may stay on after a way
+   out, until the host's code makes its next system call. The system turns that into a SIGSYS first (syscall user dispatch, Linux 5.11). The
+   handler gives the host its mask back, and then the call is made. So no code of the host's can see the mask, and its signals wait no
+   longer than to the next tick. Where the host makes system calls between the calls of boxes, two changes of the mask cost less. So after
+   each such SIGSYS the thread waits before it keeps a mask again, longer each time. */
+#define _GNU_SOURCE
+#include "inner.h"
+
+#include <string.h>
+#include <sys/prctl.h>
+#include <sys/syscall.h>
+#include <ucontext.h>
+#include <unistd.h>
+
+#ifndef PR_SET_SYSCALL_USER_DISPATCH
+#define PR_SET_SYSCALL_USER_DISPATCH 59
+#define PR_SYS_DISPATCH_OFF 0
+#define PR_SYS_DISPATCH_ON 1
+#endif
+#ifndef SYS_USER_DISPATCH
+#define SYS_USER_DISPATCH 2 /* the si_code */
+#endif
+#define KEEPS_AFTER 8u   /* ways out within a tick */
+#define WAITS_MOST 127u  /* ticks */
+#define LOOKS_EACH 4096u /* ways in, even if no tick comes */
+#define CALL_LEN 2       /* bytes of the instruction of a system call */
+
+/* By the system call itself, since glibc keeps two signals out of each mask. */
+static int set_mask(const uint64_t *mask, uint64_t *old) {
+    long made;
+    register long len __asm__("r10") = sizeof *mask;
+    __asm__ volatile("syscall"
+                     : "=a"(made)
+                     : "a"(SYS_rt_sigprocmask), "D"(SIG_SETMASK), "S"(mask), "d"(old), "r"(len)
+                     : "rcx", "r11", "memory");
+    return made == 0;
+}
+
+void ncs_mask_set(uint64_t mask) {
+    ncs_must(set_mask(&mask, NULL), "a thread can't have its mask");
+}
+
+/* One instruction, so no handler comes between. Whether the mask has stayed on until now. No handler takes it back any more. */
+static int claim(Mask *m) {
+    uint8_t was = CALLS_ALLOWED;
+    __asm__ volatile("xchgb %0, %1" : "+q"(was), "+m"(m->selector) : : "memory");
+    return was == CALLS_DISPATCHED;
+}
+
+static void arm(Mask *m, int on) {
+    long made = on ? syscall(SYS_prctl, PR_SET_SYSCALL_USER_DISPATCH, PR_SYS_DISPATCH_ON, 0, 0, &m->selector)
+                   : syscall(SYS_prctl, PR_SET_SYSCALL_USER_DISPATCH, PR_SYS_DISPATCH_OFF, 0, 0, 0);
+    m->armed = on && made == 0;
+    if (on && made != 0) {
+        m->keeps_from = UINT64_MAX;
+    }
+}
+
+/* Whether handlers and alternate stack are there. The stack of this thread can't have gone without a system call, so it is looked at unless
+   the mask has stayed on. Another thread can replace a handler at any time, so these are looked at for each tick. */
+static int can_go(Mask *m, int stayed_on) {
+    int looks = m->looks || ++m->entries >= LOOKS_EACH;
+    if ((looks || !stayed_on) && !ncs_thread_has_stack()) {
+        return 0;
+    }
+    if (!looks) {
+        return 1;
+    }
+    m->entries = 0;
+    m->looks = 0;
+    if (ncs_signals_lost() != 0) {
+        m->looks = 1;
+        return 0;
+    }
+    return 1;
+}
+
+/* A thread that can't go in has the host's mask. */
+int ncs_mask_in(Thread *t) {
+    Mask *m = &t->mask;
+    int stayed_on = claim(m), blocks = m->how == NCS_SIGNALS_BLOCKED;
+    if (blocks && !stayed_on) {
+        uint64_t inside = ~ncs_signals_own();
+        ncs_must(set_mask(&inside, &m->hosts), "a thread can't have its mask");
+    }
+    if (can_go(m, stayed_on || !blocks)) {
+        return 1;
+    }
+    if (blocks) {
+        ncs_mask_set(m->hosts);
+    }
+    return 0;
+}
+
+static int may_stay_on(Thread *t) {
+    Mask *m = &t->mask;
+    if (++m->outs < KEEPS_AFTER || t->ticks < m->keeps_from || t->why == OUT_SIGNALS) {
+        return 0;
+    }
+    if (!m->armed && ncs_signals_dispatch()) {
+        arm(m, 1);
+    }
+    return m->armed;
+}
+
+void ncs_mask_out(Thread *t) {
+    if (t->mask.how != NCS_SIGNALS_BLOCKED) {
+        return;
+    }
+    if (may_stay_on(t)) {
+        t->mask.selector = CALLS_DISPATCHED;
+    } else {
+        ncs_mask_set(t->mask.hosts);
+    }
+}
+
+/* ---- For the handlers */
+
+int ncs_mask_waits(const Thread *t) {
+    uint64_t waiting = 0;
+    return t->mask.how == NCS_SIGNALS_BLOCKED && syscall(SYS_rt_sigpending, &waiting, sizeof waiting) == 0 &&
+           (waiting & ~ncs_signals_own() & ~t->mask.hosts) != 0;
+}
+
+void ncs_mask_take_back(Thread *t, void *context) {
+    Mask *m = &t->mask;
+    if (claim(m)) {
+        memcpy(&((ucontext_t *)context)->uc_sigmask, &m->hosts, sizeof m->hosts);
+        arm(m, 0);
+    }
+}
+
+void ncs_mask_tick(Thread *t) {
+    Mask *m = &t->mask;
+    m->outs = 0;
+    m->looks = 1;
+    m->waits = m->armed ? 0 : m->waits;
+}
+
+int ncs_mask_on_call(Thread *t, const siginfo_t *info, void *context) {
+    Mask *m;
+    if (t == NULL || info->si_code != SYS_USER_DISPATCH || !t->mask.armed) {
+        return 0;
+    }
+    m = &t->mask;
+    ncs_mask_take_back(t, context);
+    m->waits = m->waits < WAITS_MOST ? 2 * m->waits + 1 : WAITS_MOST;
+    m->keeps_from = t->ticks + 1 + m->waits;
+    ((ucontext_t *)context)->uc_mcontext.gregs[REG_RIP] -= CALL_LEN;
+    return 1;
+}
+
+/* ---- The choice of the host's */
+
+static void choose(Mask *m, uint32_t how) {
+    if (claim(m) || m->how == NCS_SIGNALS_HELD) {
+        ncs_mask_set(m->hosts);
+    }
+    if (how == NCS_SIGNALS_HELD) {
+        uint64_t held = ~ncs_signals_own();
+        ncs_must(set_mask(&held, &m->hosts), "a thread can't have its mask");
+    }
+    if (how == NCS_SIGNALS_PROMISED) {
+        ncs_must(ncs_signals_unblock(), "a thread can't have its mask");
+    }
+    m->looks = 1;
+    m->how = how;
+}
+
+int ncs_mask_is_kept(NcsRefusal *why) {
+    return ncs_thread == NULL || ncs_thread->mask.how != NCS_SIGNALS_PROMISED || ncs_signals_promised(why);
+}
+
+int ncs_signals(uint32_t how, NcsRefusal *why) {
+    Thread *t;
+    ncs_refuse(why, NCS_OK, "nothing is refused");
+    if (how > NCS_SIGNALS_PROMISED) {
+        ncs_refuse(why, NCS_BAD_LIMITS, "there is no such way to treat signals");
+        return 0;
+    }
+    if ((how == NCS_SIGNALS_PROMISED && !ncs_signals_promised(why)) || !ncs_prepare(why)) {
+        return 0;
+    }
+    t = ncs_thread_get();
+    if (t == NULL) {
+        ncs_unprepare();
+        ncs_refuse(why, NCS_BAD_SYSTEM, "this thread can't be prepared for boxes");
+        return 0;
+    }
+    choose(&t->mask, how);
+    return 1;
+}
