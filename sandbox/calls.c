@@ -104,18 +104,10 @@ static int can_enter(const NcsBox *b, uint32_t place) {
     return place % NC_BUNDLE == 0 && place >= NC_START && place < b->module->limit;
 }
 
-int ncs_is_killed(const Thread *t) {
-    unsigned k = 0;
-    while (k < t->depth && !__atomic_load_n(&t->frames[k].box->killed, __ATOMIC_SEQ_CST)) {
-        k++;
-    }
-    return k < t->depth;
-}
-
 /* Why the thread, which is in the host, can't go in, or NCS_RETURNED if it can. What happens behind this look the next tick sees. */
 static uint32_t refuses(NcsBox *b, const Thread *t) {
     return !can_enter(b, t->place) ? NCS_BAD_ENTRY : !ncs_module_is_ours(b->module) ? NCS_HOST : ncs_is_killed(t) ? NCS_KILLED
-         : t->ticks >= t->deadline ? NCS_LATE : NCS_RETURNED;
+         : t->used >= t->deadline ? NCS_LATE : NCS_RETURNED;
 }
 
 /* Whether this thread's first instruction inside may be one that it has fetched before: of live code, or of a text that is new [18]. */
@@ -240,7 +232,7 @@ static __attribute__((noinline, no_sanitize_address)) NcsEnd call(NcsBox *b, Thr
         _pthread_cleanup_push(&buffer, on_left, c);
     }
     if (ncs_thread_watch(t)) {
-        uint64_t own = t->ticks + (b->limits.milliseconds - 1) / TICK_MILLISECONDS + 2;
+        uint64_t own = t->used + b->limits.milliseconds * MILLISECOND + 2 * TICK; /* the last tick may be that long ago */
         t->deadline = t->depth > 1 && c->deadline < own ? c->deadline : own;
         end = run(b, t);
     }

@@ -38,7 +38,7 @@ typedef struct Mask {
     uint32_t how;              /* NCS_SIGNALS_BLOCKED, .. */
     uint64_t hosts;            /* the host's own mask, while another one is on */
     unsigned outs;             /* how often the thread came out since the last tick */
-    uint64_t keeps_from, waits; /* the tick from which the mask may stay on, and how many to wait after the next system call */
+    uint64_t keeps_from, waits; /* the time from which the mask may stay on, and how many ticks to wait after the next system call */
     volatile int looks;        /* at the handlers before the next way in */
     unsigned entries;          /* since the last look */
 } Mask;
@@ -79,8 +79,8 @@ typedef struct Thread {
     uint32_t at_stop;        /* of OUT_TRAP: whether it was a stop of the code's own */
     uint32_t life;           /* of the process when it was prepared */
     uint32_t texts;          /* ncs_texts when it last serialized */
-    volatile uint64_t ticks; /* of its processor time, as the handler saw them while calls were under way */
-    volatile uint64_t deadline; /* of the innermost call, in ticks */
+    volatile uint64_t used;  /* of its processor time, in nanoseconds, at the last tick while calls were under way */
+    volatile uint64_t deadline; /* of the innermost call */
     NcsBox *volatile box;    /* of the innermost call */
     volatile unsigned depth;
     volatile int ticking;
@@ -137,16 +137,18 @@ void ncs_threads_end(void);
 /* ---- signals.c and handlers.c */
 
 #define TICK_SIGNAL (SIGRTMAX - 1)
-#define TICK_MILLISECONDS 10u
+#define MILLISECOND 1000000ull /* nanoseconds */
+#define TICK (10 * MILLISECOND)
 #define SIGNALS 65
 #define SIGNAL_BIT(sig) (1ull << ((sig) - 1))
 
 extern struct sigaction ncs_before[SIGNALS]; /* what handled this library's signals before */
 
+int ncs_is_killed(const Thread *thread); /* the box of its innermost call, or one around it */
 int ncs_is_over(const Thread *thread); /* whether this call is to end, or one around it, with which it ends too */
 int ncs_signals_begin(void);
 void ncs_signals_end(void);
-int ncs_signals_unblock(void);  /* those of this library, in this thread, where no mask does it [24] */
+int ncs_signals_unblock(void);  /* those of this library, in this thread [24] */
 uint64_t ncs_signals_own(void); /* the bits of those that stay unblocked while a thread is inside */
 int ncs_signals_lost(void);     /* the number of a signal of this library that has another handler by now, or 0 */
 int ncs_signals_dispatch(void); /* whether SIGSYS is this library's now */
@@ -242,7 +244,6 @@ uint32_t ncs_bundles_for(uint32_t bundles); /* of the region whose guard is behi
 void ncs_zone_lay(uint8_t *text); /* trampolines, and stops everywhere else below NC_START [11] */
 void ncs_module_drop(NcsModule *module); /* one user less */
 int ncs_module_is_ours(const NcsModule *module); /* and not that of a process that has forked */
-int ncs_is_killed(const Thread *thread); /* the box of its innermost call, or one around it */
 void ncs_calls_abandon(Thread *thread); /* those under way, which nothing returns to */
 int ncs_box_claim(NcsBox *box, Thread *thread);
 void ncs_box_release(NcsBox *box);

@@ -97,7 +97,7 @@ int ncs_mask_in(Thread *t) {
 
 static int may_stay_on(Thread *t) {
     Mask *m = &t->mask;
-    if (++m->outs < KEEPS_AFTER || t->ticks < m->keeps_from || t->why == OUT_SIGNALS) {
+    if (++m->outs < KEEPS_AFTER || t->used < m->keeps_from || t->why == OUT_SIGNALS) {
         return 0;
     }
     if (!m->armed && ncs_signals_dispatch()) {
@@ -148,7 +148,7 @@ int ncs_mask_on_call(Thread *t, const siginfo_t *info, void *context) {
     m = &t->mask;
     ncs_mask_take_back(t, context);
     m->waits = m->waits < WAITS_MOST ? 2 * m->waits + 1 : WAITS_MOST;
-    m->keeps_from = t->ticks + 1 + m->waits;
+    m->keeps_from = t->used + (1 + m->waits) * TICK;
     ((ucontext_t *)context)->uc_mcontext.gregs[REG_RIP] -= CALL_LEN;
     return 1;
 }

@@ -73,9 +73,17 @@ static void hand_on(int sig, siginfo_t *info, ucontext_t *context) {
 
 /* ---- Faults and ticks */
 
+int ncs_is_killed(const Thread *t) {
+    unsigned k = 0;
+    while (k < t->depth && !__atomic_load_n(&t->frames[k].box->killed, __ATOMIC_SEQ_CST)) {
+        k++;
+    }
+    return k < t->depth;
+}
+
 /* Whether this call is to end, or one around it, with which it ends too. */
 int ncs_is_over(const Thread *t) {
-    return t->ticks >= t->deadline || ncs_is_killed(t);
+    return t->used >= t->deadline || ncs_is_killed(t);
 }
 
 /* A stop is a general protection at F4. In live code it may be one of a change that is under way, and gone by now [25]. */

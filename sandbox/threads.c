@@ -1,4 +1,4 @@
-/* What each thread needs before it calls a box: a stack for handlers, and a timer. TRUSTED, NOT PROVED. [20, 22] */
+/* What each thread needs before it calls a box: a stack for handlers, its signals, and a timer. TRUSTED, NOT PROVED. [20, 22, 24] */
 #define _GNU_SOURCE
 #include "inner.h"
 
@@ -17,7 +17,6 @@
 #define FRAME_LEAST 4096u /* of a signal, where the system doesn't tell */
 #define HANDLERS 32768u   /* for handlers of the host's, at least, in a stack that is kept */
 #define REPORTER 262144u  /* for one that the library hands a fault on to; what isn't used takes no memory */
-#define TICK_NANOSECONDS (TICK_MILLISECONDS * 1000000u)
 
 _Static_assert(offsetof(Thread, place) == 32 && offsetof(Thread, code_selector) == 36 && offsetof(Thread, host_stack) == 40 &&
                    offsetof(Thread, why) == 48 && offsetof(Thread, data_selector) == 52 && offsetof(Thread, flags) == 56 &&
@@ -113,14 +112,14 @@ static int make_timer(Thread *t) {
 
 void ncs_thread_count(Thread *t) {
     struct timespec used;
-    if (clock_gettime(CLOCK_THREAD_CPUTIME_ID, &used) == 0) {
-        t->ticks = (uint64_t)used.tv_sec * (1000 / TICK_MILLISECONDS) + (uint64_t)used.tv_nsec / TICK_NANOSECONDS;
+    if (syscall(SYS_clock_gettime, CLOCK_THREAD_CPUTIME_ID, &used) == 0) {
+        t->used = (uint64_t)used.tv_sec * 1000 * MILLISECOND + (uint64_t)used.tv_nsec;
     }
 }
 
 /* The handler ends the ticks only where it finds depth 0, so they run on until the calls end. */
 int ncs_thread_watch(Thread *t) {
-    static const struct itimerspec each = {{0, TICK_NANOSECONDS}, {0, TICK_NANOSECONDS}};
+    static const struct itimerspec each = {{0, TICK}, {0, TICK}};
     if (t->ticking) {
         return 1;
     }
@@ -163,11 +162,11 @@ static int prepare(Thread *t) {
     if (!make_stack(t)) {
         return 0;
     }
-    if (!make_timer(t)) {
-        end_stack(t);
-        return 0;
+    if (ncs_signals_unblock() && make_timer(t)) {
+        return 1;
     }
-    return 1;
+    end_stack(t);
+    return 0;
 }
 
 /* The child of a fork has none of the timers. The calls that were under way there have been the parent's. */

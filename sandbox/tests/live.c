@@ -399,7 +399,7 @@ static void try_memory(void) {
 static void try_waiting(void) {
     NcsModule *m = codes_module(BUNDLES);
     NcsBox *box = codes_box(m, SHORT);
-    Thread late = {.ticks = 5, .deadline = 5, .box = box};
+    Thread late = {.used = UINT64_MAX, .deadline = 5, .box = box};
     CHECK(codes_create_number(m, HERE, 5));
     m->live->changes++; /* a writer has begun */
     CHECK(ncs_live_meet(m->live, &late, HERE) == MET_NOTHING && late.met_stops == 0);

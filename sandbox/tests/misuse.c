@@ -358,18 +358,26 @@ static void try_landing(void) {
 }
 
 /* A page that nobody may touch lies below the alternate stack. */
-static void try_guard(void) {
-    FILE *maps = fopen("/proc/self/maps", "r");
+static void *find_guard(void *box) {
+    stack_t stack, none = {.ss_flags = SS_DISABLE}; /* a sanitizer has given the thread one */
+    FILE *maps;
     char line[512];
     unsigned guards = 0;
-    stack_t stack;
-    CHECK(sigaltstack(NULL, &stack) == 0 && (stack.ss_flags & SS_DISABLE) == 0);
+    CHECK(sigaltstack(&none, NULL) == 0 && returns(box) && sigaltstack(NULL, &stack) == 0 && (stack.ss_flags & SS_DISABLE) == 0);
+    maps = fopen("/proc/self/maps", "r");
     while (maps != NULL && fgets(line, sizeof line, maps) != NULL) {
         unsigned long from = 0, to = 0;
         char rights[5] = "";
         guards += sscanf(line, "%lx-%lx %4s", &from, &to, rights) == 3 && to == (unsigned long)stack.ss_sp && strncmp(rights, "--", 2) == 0;
     }
     CHECK(guards == 1 && stack.ss_size >= 2 * (size_t)sysconf(_SC_MINSIGSTKSZ) + (200u << 10) && maps != NULL && fclose(maps) == 0);
+    return NULL;
+}
+
+static void try_guard(void) {
+    NcsBox *box = asides_box(module, LONG);
+    join_new(find_guard, box, NULL);
+    CHECK(ncs_free(box));
     puts("the guard of the alternate stack");
 }
 

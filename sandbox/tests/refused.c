@@ -134,8 +134,10 @@ static void undo_deletion(void) {
 
 /* It wants glibc's handlers, the process's preparation and the thread's. Of the last it doesn't tell what lacks. */
 static int make_promise(unsigned nth, int later, int *which) {
+    stack_t none = {.ss_flags = SS_DISABLE}; /* a sanitizer has given it one */
     NcsRefusal why;
     int made;
+    CHECK(sigaltstack(&none, NULL) == 0);
     refusing_begin(nth, later);
     made = ncs_signals(NCS_SIGNALS_PROMISED, &why);
     *which = refusing_end();
