@@ -28,7 +28,9 @@ CRATES = ["nc_sandbox", "nc_host"]
 PAGES_AND_EXAMPLES = [
     "README.md", "SECURITY.md", "CHANGELOG.md", "CONTRIBUTING.md", "VERSION", "docs", "docs/charts",
     "examples/check", "examples/host", "examples/sandbox", "examples/jit", "examples/run", "examples/boxes", "examples/boxes/calculator",
-    "examples/boxes/costs", "examples/boxes/document", "examples/boxes/picture", "examples/boxes/plugins", "examples/compile/sample.c",
+    "examples/boxes/costs", "examples/boxes/document", "examples/boxes/picture", "examples/boxes/plugins",
+    *["examples/boxes/hosts" + part for part in ("", "/java", "/node", "/perl", "/postgres", "/prefork", "/python")],
+    "examples/compile/sample.c",
     "examples/first.script", "examples/first.replies", "examples/vet.lines", "examples/vet.replies",
 ]
 
