@@ -37,8 +37,9 @@ typedef struct Mask {
     volatile int armed;
     uint32_t how;              /* NCS_SIGNALS_BLOCKED, .. */
     uint64_t hosts;            /* the host's own mask, while another one is on */
-    unsigned outs;             /* how often the thread came out since the last tick */
-    uint64_t keeps_from, waits; /* the time from which the mask may stay on, and how many ticks to wait after the next system call */
+    unsigned outs;             /* how often the thread came out since a system call was last dispatched */
+    unsigned doubled;          /* how often the number of those was doubled after which the mask stays on */
+    int is_useless;            /* the system dispatches no calls */
     volatile int looks;        /* at the handlers before the next way in */
     unsigned entries;          /* since the last look */
 } Mask;
@@ -49,10 +50,9 @@ void ncs_mask_out(struct Thread *thread); /* after each way out, before any code
 void ncs_mask_set(uint64_t mask);
 int ncs_mask_is_kept(NcsRefusal *why); /* the promise, if this thread has made it */
 /* In handlers: whether signals of others wait for the thread to come out; the host's mask is on again at the handler's return, if another
-   one has stayed on; a tick; and whether a SIGSYS was such a system call. */
+   one has stayed on; and whether a SIGSYS was such a system call. */
 int ncs_mask_waits(const struct Thread *thread);
 void ncs_mask_take_back(struct Thread *thread, void *context);
-void ncs_mask_tick(struct Thread *thread);
 int ncs_mask_on_call(struct Thread *thread, const siginfo_t *info, void *context);
 
 /* ---- switch.S */

@@ -4,8 +4,8 @@
    It takes a system call to set a mask, and two for each way in and out would cost more than the way. So the mask may stay on after a way
    out, until the host's code makes its next system call. The system turns that into a SIGSYS first (syscall user dispatch, Linux 5.11). The
    handler gives the host its mask back, and then the call is made. So no code of the host's can see the mask, and its signals wait no
-   longer than to the next tick. Where the host makes system calls between the calls of boxes, two changes of the mask cost less. So after
-   each such SIGSYS the thread waits before it keeps a mask again, longer each time. */
+   longer than to the next tick. A SIGSYS costs as much as a few masks. So the mask stays on only after some ways out without one, and after
+   more of them each time if that didn't pay. */
 #define _GNU_SOURCE
 #include "inner.h"
 
@@ -23,8 +23,9 @@
 #ifndef SYS_USER_DISPATCH
 #define SYS_USER_DISPATCH 2 /* the si_code */
 #endif
-#define KEEPS_AFTER 8u   /* ways out within a tick */
-#define WAITS_MOST 127u  /* ticks */
+#define KEEPS_AFTER 8u   /* ways out, at first */
+#define DOUBLED_MOST 8u  /* so often, where it doesn't pay */
+#define PAYS 8u          /* ways out behind these, by which a SIGSYS pays */
 #define LOOKS_EACH 4096u /* ways in, even if no tick comes */
 #define CALL_LEN 2       /* bytes of the instruction of a system call */
 
@@ -54,9 +55,7 @@ static void arm(Mask *m, int on) {
     long made = on ? syscall(SYS_prctl, PR_SET_SYSCALL_USER_DISPATCH, PR_SYS_DISPATCH_ON, 0, 0, &m->selector)
                    : syscall(SYS_prctl, PR_SET_SYSCALL_USER_DISPATCH, PR_SYS_DISPATCH_OFF, 0, 0, 0);
     m->armed = on && made == 0;
-    if (on && made != 0) {
-        m->keeps_from = UINT64_MAX;
-    }
+    m->is_useless = on && made != 0;
 }
 
 /* Whether handlers and alternate stack are there. The stack of this thread can't have gone without a system call, so it is looked at unless
@@ -97,7 +96,7 @@ int ncs_mask_in(Thread *t) {
 
 static int may_stay_on(Thread *t) {
     Mask *m = &t->mask;
-    if (++m->outs < KEEPS_AFTER || t->used < m->keeps_from || t->why == OUT_SIGNALS) {
+    if (++m->outs < KEEPS_AFTER << m->doubled || m->is_useless || t->why == OUT_SIGNALS) {
         return 0;
     }
     if (!m->armed && ncs_signals_dispatch()) {
@@ -133,13 +132,6 @@ void ncs_mask_take_back(Thread *t, void *context) {
     }
 }
 
-void ncs_mask_tick(Thread *t) {
-    Mask *m = &t->mask;
-    m->outs = 0;
-    m->looks = 1;
-    m->waits = m->armed ? 0 : m->waits;
-}
-
 int ncs_mask_on_call(Thread *t, const siginfo_t *info, void *context) {
     Mask *m;
     if (t == NULL || info->si_code != SYS_USER_DISPATCH || !t->mask.armed) {
@@ -147,8 +139,8 @@ int ncs_mask_on_call(Thread *t, const siginfo_t *info, void *context) {
     }
     m = &t->mask;
     ncs_mask_take_back(t, context);
-    m->waits = m->waits < WAITS_MOST ? 2 * m->waits + 1 : WAITS_MOST;
-    m->keeps_from = t->used + (1 + m->waits) * TICK;
+    m->doubled = m->outs >= (KEEPS_AFTER << m->doubled) + PAYS ? 0 : m->doubled < DOUBLED_MOST ? m->doubled + 1 : m->doubled;
+    m->outs = 0;
     ((ucontext_t *)context)->uc_mcontext.gregs[REG_RIP] -= CALL_LEN;
     return 1;
 }

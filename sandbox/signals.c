@@ -131,7 +131,7 @@ static void on_tick(Thread *t, greg_t *reg) {
         return;
     }
     ncs_thread_count(t);
-    ncs_mask_tick(t);
+    t->mask.looks = 1;
     if (is_inside(t, reg)) {
         uint32_t why = comes_out(t);
         if (why != 0) {

@@ -173,7 +173,7 @@ static int prepare(Thread *t) {
 static Thread *revive(Thread *t) {
     t->ticking = 0;
     t->mask.armed = 0;
-    t->mask.keeps_from = 0;
+    t->mask.is_useless = 0;
     if (!make_timer(t)) {
         return NULL;
     }

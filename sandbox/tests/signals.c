@@ -238,8 +238,7 @@ static void try_ticks(void) {
     unsigned k, good = 0;
     CHECK(asides_call(box, RETURNS, 0).how == NCS_RETURNED && pthread_create(&other, NULL, send_ticks, &self) == 0);
     for (k = 0; k < 4 * MANY; k++) {
-        ncs_thread->mask.outs = 100; /* as after many calls, and no system call for long */
-        ncs_thread->mask.keeps_from = 0;
+        ncs_thread->mask.outs = 100000; /* as after many calls, and no system call for long */
         good += asides_call(box, RETURNS, 0).how == NCS_RETURNED && mask_now() == before;
     }
     __atomic_store_n(&has_ended, 1, __ATOMIC_SEQ_CST);
