@@ -112,7 +112,8 @@ void ncs_segment_free(uint32_t selector);
 uint32_t ncs_low_new(uint32_t len, int protection, int file); /* its address, or 0; of a file, or with -1 of zeros. Under ncs_lock */
 void ncs_low_free(uint32_t at, uint32_t len); /* never under a lock */
 int ncs_low_empty(uint32_t at, uint32_t len); /* whether its pages are as new; never under a lock */
-int ncs_low_seal(uint32_t at, uint32_t len); /* makes it executable, no longer writable, and no child's */
+int ncs_low_keep(uint32_t at, uint32_t len); /* no child gets it */
+int ncs_low_seal(uint32_t at, uint32_t len); /* the same, and makes it executable, and no longer writable */
 
 /* ---- process.c and threads.c: what has to be there before anybody enters */
 

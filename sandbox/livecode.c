@@ -142,7 +142,7 @@ static uint8_t *map_writable(int file, uint32_t len) {
 /* Under ncs_lock. What is executed can never be written, and what is written never executed. */
 static int map_executable(NcsModule *m, int file) {
     m->text_at = ncs_low_new(m->limit, PROT_READ | PROT_EXEC, file);
-    m->selector = m->text_at != 0 && ncs_low_seal(m->text_at, m->limit) ? ncs_segment_code(m->text_at, m->limit) : 0;
+    m->selector = m->text_at != 0 && ncs_low_keep(m->text_at, m->limit) ? ncs_segment_code(m->text_at, m->limit) : 0;
     return m->selector != 0;
 }
 

@@ -169,7 +169,10 @@ void ncs_low_free(uint32_t at, uint32_t len) {
     }
 }
 
+int ncs_low_keep(uint32_t at, uint32_t len) {
+    return madvise((void *)(uintptr_t)at, len, MADV_DONTFORK) == 0;
+}
+
 int ncs_low_seal(uint32_t at, uint32_t len) {
-    void *text = (void *)(uintptr_t)at;
-    return mprotect(text, len, PROT_READ | PROT_EXEC) == 0 && madvise(text, len, MADV_DONTFORK) == 0;
+    return mprotect((void *)(uintptr_t)at, len, PROT_READ | PROT_EXEC) == 0 && ncs_low_keep(at, len);
 }

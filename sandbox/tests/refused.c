@@ -194,6 +194,7 @@ static void *call_often(void *given) {
     ThreadsCalls *f = given;
     NcsAt start = {CODE_AT};
     unsigned k, refused = 0, good = 0;
+    sigset_t blocked;
     CHECK(returns(box));
     refusing_begin(f->nth, f->later);
     for (k = 0; k < MANY; k++) {
@@ -202,6 +203,7 @@ static void *call_often(void *given) {
         refused += how == NCS_HOST;
     }
     f->which = refusing_end();
+    CHECK(pthread_sigmask(SIG_SETMASK, NULL, &blocked) == 0 && !sigismember(&blocked, SIGUSR1));
     f->ended = good + refused != MANY || !returns(box) ? WRONG : refused == 0 ? GRANTED : f->which >= 0 ? REFUSED : WRONG;
     return NULL;
 }
