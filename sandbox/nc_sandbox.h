@@ -266,6 +266,51 @@ NcsAt ncs_take(NcsBox *box, uint32_t len);
 /* Takes room for these bytes as ncs_take does, copies them there, and returns their address. Returns 0 if there is no room. */
 NcsAt ncs_put(NcsBox *box, const void *from, uint32_t len);
 
+/* ---- A second wall */
+
+/*
+ * The system builds it around the whole process, for code that has come out of a box by a fault of this library. ncs_wall gives up for good
+ * what a process doesn't need that only runs boxes:
+ *   Code     No memory becomes executable. A call that would make a module ends the process. Boxes are made, called, reset and freed as
+ *            before, and live code is changed.
+ *   Files    None is opened, except below the folders that the host names. A file that is open stays open. With a folder, the process can
+ *            still find out whether other files are there, and how long they are.
+ *   Calls    A system call that isn't needed ends the process by SIGSYS, and calls no handler. The process makes no socket and no other
+ *            process, executes no program, and signals nobody else. What stays is read, write, lseek, fstat, close, memory, locks, clocks,
+ *            timers and its own signals. ioctl fails with ENOTTY. newfstatat, by which a C library may do fstat, fails with ENOSYS.
+ * This holds for all threads, but the rule for files only for the calling thread and those that it starts. So the host builds the wall
+ * before it starts others. A forked child and an executed program are behind it too, if the host names the system calls that make them.
+ */
+
+/* A folder below which files may be opened. */
+typedef struct NcsFolder {
+    int file;     /* the folder, open in any way, also by O_PATH */
+    int writable; /* whether regular files are made, written and cut there, besides being read */
+} NcsFolder;
+
+#define NCS_WALL_CALLS 256u
+
+/* What the host needs besides. */
+typedef struct NcsWall {
+    const NcsFolder *folders;
+    unsigned folder_count;
+    const int *calls;    /* further system calls, such as SYS_poll, which may have any arguments */
+    unsigned call_count; /* at most NCS_WALL_CALLS */
+    int threads;         /* whether threads may be started */
+} NcsWall;
+
+/* What stands. */
+enum {
+    NCS_NO_WALL,
+    NCS_WALL_FILTER, /* all but the rule for files, with a system that has no Landlock. Any file is opened then, if there is a folder */
+    NCS_WALL_WHOLE
+};
+
+/* Builds the wall, and returns what stands. It is refused with NCS_BAD_LIMITS for a number that is no system call's, or for too many of
+   them. It is refused with NCS_BAD_SYSTEM if it stands already, if a folder isn't one, or if the system can't build it, as before Linux
+   4.14. Such a refusal may leave the rule for files. */
+int ncs_wall(const NcsWall *wall, NcsRefusal *why);
+
 #ifdef __cplusplus
 }
 #endif

@@ -201,6 +201,20 @@ static int is_release(const long *words) {
     return words[0] == 0x11 && d->seg_not_present;
 }
 
+/* Whether a system call of the second wall is refused. */
+static int refuses_number(long number) {
+    static const struct {
+        long number;
+        int which;
+    } known[] = {{SYS_seccomp, REFUSES_seccomp}, {444, REFUSES_landlock_create_ruleset}, {445, REFUSES_landlock_add_rule},
+                 {446, REFUSES_landlock_restrict_self}};
+    size_t k = 0;
+    while (k < sizeof known / sizeof *known && known[k].number != number) {
+        k++;
+    }
+    return k < sizeof known / sizeof *known && refuses(known[k].which);
+}
+
 REAL(long, syscall, long number, ...) {
     long words[WORDS];
     int k, refused = 0;
@@ -220,8 +234,22 @@ REAL(long, syscall, long number, ...) {
         refused = words[1] == ON && refuses(REFUSES_prctl);
     } else if (number == SYS_membarrier && (int)words[0] == MEMBARRIER_CMD_REGISTER_PRIVATE_EXPEDITED_SYNC_CORE) {
         refused = refuses(REFUSES_membarrier);
+    } else {
+        refused = refuses_number(number);
     }
     return refused ? -1 : __real_syscall(number, words[0], words[1], words[2], words[3], words[4]);
+}
+
+REAL(int, prctl, int option, ...) {
+    unsigned long words[4];
+    int k;
+    va_list more;
+    va_start(more, option);
+    for (k = 0; k < 4; k++) {
+        words[k] = va_arg(more, unsigned long);
+    }
+    va_end(more);
+    return refuses(REFUSES_prctl) ? -1 : __real_prctl(option, words[0], words[1], words[2], words[3]);
 }
 
 Holding refusing_holding(void) {
