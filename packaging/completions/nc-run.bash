@@ -4,12 +4,14 @@ _nc_run() {
     case ${COMP_WORDS[COMP_CWORD - 1]} in
     --time) words="0 1000 10000" ;;
     --memory) words="256M 1G" ;;
+    --write) words="1M 1G" ;;
+    --wall) words="try must" ;;
     --call) words= ;;
     --dir | --dir-rw)
         mapfile -t COMPREPLY < <(compgen -d -- "$word")
         return
         ;;
-    *) [[ $word != -* ]] || words="--time --memory --call --dir --dir-rw --help --version -h -V" ;;
+    *) [[ $word != -* ]] || words="--time --memory --call --dir --dir-rw --write --wall --no-wall --help --version -h -V" ;;
     esac
     mapfile -t COMPREPLY < <(compgen -W "$words" -- "$word")
 }

@@ -10,8 +10,10 @@
  *            stack grows down from the data to 00010000. It has 64 MiB, or as much as nc-cc --data leaves.
  * Errors     A call that fails returns a negative number, such as -9 for EBADF. Errors have the numbers of Linux. A pointer outside the
  *            memory is EFAULT, unless it is to 0 bytes. A call with EFAULT does nothing.
- * Files      0, 1 and 2 are nc-run's own. A call on one that isn't open is EBADF. A program gets others by nc_open, and has at most 64 in
- *            all.
+ * Files      0, 1 and 2 are nc-run's own. 0 is only read, and 1 and 2 are only written; anything else is EBADF. They have no place. A
+ *            program gets other files by nc_open, and has at most 64 in all. A call on one that isn't open is EBADF.
+ * Limit      nc-run --write says how many bytes the program may write to files of the folder. Each file that is made counts 4096 more, and
+ *            so does the first write after nc_lseek or nc_read. A write gets what is left. If nothing is left, that is ENOSPC.
  * Addresses  Call k is at 00000100 + 32 k, and nc_exit at 00000040. The arguments lie on the stack above the address to return to. One of
  *            64 bits is two words. The result is in EAX, or in EDX and EAX. A call overwrites these two and ECX, and no other register.
  *
@@ -22,7 +24,7 @@
  *     2  00000140  clock(clock)            nanoseconds, 64 bits     EINVAL
  *     3  00000160  memory()                address
  *     4  00000180  open(path, how, mode)   file                     EFAULT, ENAMETOOLONG, EINVAL, EACCES, EROFS, EMFILE, EISDIR, ENOENT,
- *                                                                   EEXIST, ENOTDIR, ELOOP
+ *                                                                   EEXIST, ENOTDIR, ELOOP, ENOSPC
  *     5  000001a0  close(file)             0                        EBADF
  *     6  000001c0  lseek(file, low, high,  place, 64 bits           EBADF, EINVAL, ESPIPE
  *                  from)
@@ -63,8 +65,9 @@ extern "C" {
 /* Ends the program, with the low 8 bits of the status. */
 __attribute__((noreturn)) void nc_exit(int status);
 
-/* Read or write at most `len` bytes, and return their number, which is 0 at the end of a file. Fewer than `len` are no error. A read waits
-   until there are some, unless the file doesn't wait, which is EAGAIN. A write that nobody reads any more is EPIPE. */
+/* Read or write at most `len` bytes, and return their number, which is 0 at the end of a file. Fewer than `len` are no error, and no call
+   moves more than 1048576. A read waits until there are some, unless the file doesn't wait, which is EAGAIN. A write that nobody reads any
+   more is EPIPE. */
 int nc_read(int file, void *to, unsigned len);
 int nc_write(int file, const void *from, unsigned len);
 
@@ -75,15 +78,16 @@ long long nc_clock(int clock);
 unsigned nc_memory(void);
 
 /* Opens a regular file below the folder of nc-run --dir or --dir-rw, and returns its number, the least that is free. The low 9 bits of
-   `mode` count if a file is created. EACCES without such a folder, for a path that leads out of it, and for devices and pipes. EISDIR for a
-   folder. EROFS for more than reading, without --dir-rw. EMFILE if the program has 64 files. EINVAL for another way to open. */
+   `mode` count if a file is created. EACCES without such a folder, for a path that leads out of it, for devices and pipes, and for files of
+   the kernel's own, as in /proc. EISDIR for a folder. EROFS for more than reading, without --dir-rw. EMFILE if the program has 64 files.
+   EINVAL for another way to open. ENOENT for a link that leads to nothing, also if a file is to be created. */
 int nc_open(const char *path, int how, unsigned mode);
 
 /* Closes a file, which may be 0, 1 or 2. nc_open may then give its number again. */
 int nc_close(int file);
 
 /* Sets the place at which the next read or write begins, and returns it, in bytes from the file's beginning. `offset` counts from the
-   beginning if `from` is 0, from the present place if it is 1, and from the file's end if it is 2. ESPIPE for a pipe. */
+   beginning if `from` is 0, from the present place if it is 1, and from the file's end if it is 2. ESPIPE for a standard file. */
 long long nc_lseek(int file, long long offset, int from);
 
 /* Returns a regular file's length in bytes. ESPIPE for anything else. */

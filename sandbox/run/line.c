@@ -10,6 +10,7 @@
 
 #define PAGE 4096u
 #define MEMORY_DEFAULT (256u << 20)
+#define WRITE_DEFAULT (1u << 30)
 
 static const char HELP[] =
     "Run a program that nc-cc has compiled for the sandbox\n"
@@ -26,6 +27,9 @@ static const char HELP[] =
     "      --call <NAME>     Call this function of the file, and print its result\n"
     "      --dir <DIR>       Let the program read files below this folder\n"
     "      --dir-rw <DIR>    Let the program read, write and make files below this folder\n"
+    "      --write <SIZE>    Bytes to write to files below it, as for --memory; a new file counts 4096 [default: 1G]\n"
+    "      --wall <HOW>      Whether to run without a whole second wall [default: try] [possible values: try, must]\n"
+    "      --no-wall         Leave out the second wall, so that a program out of its box could do all that you can\n"
     "  -h, --help            Print help\n"
     "  -V, --version         Print version\n";
 
@@ -61,23 +65,20 @@ static int read_time(const char *text, Line *line) {
     return 1;
 }
 
-/* It is rounded up to whole pages. */
-static int read_size(const char *text, Line *line) {
+/* Bytes, up to so many. */
+static int read_size(const char *text, uint64_t most, uint64_t *size) {
     static const char units[] = "KMG";
-    uint64_t size;
     const char *rest, *unit;
-    if (!read_number(text, 10, NCS_MEMORY_MAX, &size, &rest)) {
+    unsigned shift;
+    if (!read_number(text, 10, most, size, &rest)) {
         return 0;
     }
     unit = *rest != 0 ? strchr(units, *rest) : NULL;
-    if (unit != NULL) {
-        size <<= 10 * (unit - units + 1);
-        rest++;
-    }
-    if (*rest != 0 || size == 0 || size > NCS_MEMORY_MAX) {
+    shift = unit != NULL ? 10 * (unsigned)(unit - units + 1) : 0;
+    if (rest[unit != NULL] != 0 || *size > most >> shift) {
         return 0;
     }
-    line->memory = ((uint32_t)size + PAGE - 1) & ~(PAGE - 1);
+    *size <<= shift;
     return 1;
 }
 
@@ -114,8 +115,30 @@ static int take_time(const char *value, Line *line) {
     return read_time(value, line) ? -1 : wrong("--time wants milliseconds from 0 to 4294967295: ", value);
 }
 
+/* It is rounded up to whole pages. */
 static int take_memory(const char *value, Line *line) {
-    return read_size(value, line) ? -1 : wrong("--memory wants bytes, such as 1048576, 1024K or 1M, up to 1G: ", value);
+    uint64_t size;
+    if (!read_size(value, NCS_MEMORY_MAX, &size) || size == 0) {
+        return wrong("--memory wants bytes, such as 1048576, 1024K or 1M, up to 1G: ", value);
+    }
+    line->memory = ((uint32_t)size + PAGE - 1) & ~(PAGE - 1);
+    return -1;
+}
+
+static int take_write(const char *value, Line *line) {
+    int good = read_size(value, UINT64_MAX, &line->write);
+    return good ? -1 : wrong("--write wants bytes, such as 1048576, 1024K or 1M, below 2^64: ", value);
+}
+
+static int take_wall(const char *value, Line *line) {
+    line->wall = strcmp(value, "must") == 0 ? WALL_MUST : WALL_TRY;
+    return line->wall == WALL_MUST || strcmp(value, "try") == 0 ? -1 : wrong("--wall wants try or must: ", value);
+}
+
+static int take_no_wall(const char *value, Line *line) {
+    (void)value;
+    line->wall = WALL_NONE;
+    return -1;
 }
 
 static int take_call(const char *value, Line *line) {
@@ -158,6 +181,9 @@ static const struct Option {
     {"--call", take_call, 1},
     {"--dir", take_folder, 1},
     {"--dir-rw", take_writable, 1},
+    {"--write", take_write, 1},
+    {"--wall", take_wall, 1},
+    {"--no-wall", take_no_wall, 0},
     {"--help", take_help, 0},
     {"-h", take_help, 0},
     {"--version", take_version, 0},
@@ -198,6 +224,7 @@ int line_read(int argc, char **argv, Line *line) {
     memset(line, 0, sizeof *line);
     line->milliseconds = UINT32_MAX;
     line->memory = MEMORY_DEFAULT;
+    line->write = WRITE_DEFAULT;
     while (status < 0 && *word != NULL && (*word)[0] == '-' && strcmp(*word, "--") != 0) {
         status = take_option(&word, line);
         word++;

@@ -8,6 +8,7 @@
 #include <stdio.h>
 #include <stdlib.h>
 #include <string.h>
+#include <sys/prctl.h>
 #include <unistd.h>
 
 #define FILE_MOST ((size_t)1 << 30)
@@ -142,19 +143,45 @@ static int start(Run *run) {
     return finish(run, entry, &end);
 }
 
-/* A write that nobody reads, and one beyond the longest file allowed, are errors of the program's call. */
-static int run_all(Run *run) {
+/* Before anything untrusted is read. No other process of this user reads or writes the memory from here on. A write that nobody reads, and
+   one beyond the longest file allowed, are errors of the program's call. NULL, or what failed, with errno. */
+static const char *prepare(Run *run) {
     const char *what = files_begin(&run->files);
-    int status;
-    if (what != NULL || signal(SIGPIPE, SIG_IGN) == SIG_ERR || signal(SIGXFSZ, SIG_IGN) == SIG_ERR) {
-        return report_system(what != NULL ? what : "a signal", errno);
+    if (what == NULL && prctl(PR_SET_DUMPABLE, 0ul, 0ul, 0ul, 0ul) != 0) {
+        what = "prctl";
     }
-    what = run->line.folder != NULL ? files_folder(&run->files, run->line.folder, run->line.writable) : NULL;
-    if (what != NULL) {
-        return report_system(what, errno);
+    if (what == NULL && (signal(SIGPIPE, SIG_IGN) == SIG_ERR || signal(SIGXFSZ, SIG_IGN) == SIG_ERR)) {
+        what = "a signal";
     }
-    status = load(run);
+    if (what == NULL && run->line.folder != NULL) {
+        what = opening_folder(&run->files, run->line.folder, run->line.writable, run->line.write);
+    }
+    return what;
+}
+
+/* Gives up what the program's calls don't need: files from the parent, and by the second wall all that the system can take away. */
+static int give_up(const Run *run) {
+    const NcsFolder folder = {.file = run->files.folder, .writable = run->files.writable};
+    const NcsWall wall = {.folders = &folder, .folder_count = folder.file >= 0};
+    NcsRefusal why;
+    int stands, status;
+    files_leave_others(&run->files);
+    if (run->line.wall == WALL_NONE) {
+        return ON;
+    }
+    stands = ncs_wall(&wall, &why);
+    if (stands == NCS_WALL_WHOLE) {
+        return ON;
+    }
+    status = report_wall(stands, &why);
+    return run->line.wall == WALL_MUST ? status : ON;
+}
+
+static int run_all(Run *run) {
+    const char *what = prepare(run);
+    int status = what != NULL ? report_system(what, errno) : load(run);
     status = status == ON ? make_box(run) : status;
+    status = status == ON ? give_up(run) : status;
     return status != ON ? status : run->line.call != NULL ? call_function(run) : start(run);
 }
 

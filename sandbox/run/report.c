@@ -97,3 +97,7 @@ int report_end(const Run *run, const NcsEnd *end, int was_entered) {
     fputc('\n', stderr);
     return end->how == NCS_LATE ? STATUS_LATE : STATUS_CRASHED;
 }
+
+int report_wall(int stands, const NcsRefusal *why) {
+    return report_system(stands == NCS_WALL_FILTER ? "the system has no Landlock, so the second wall isn't whole" : why->sentence, 0);
+}

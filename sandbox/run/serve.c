@@ -10,41 +10,48 @@
 #include <time.h>
 #include <unistd.h>
 
+#define PIECE_MOST (1u << 20)
+
 static uint64_t failed(int error) {
     return (uint64_t)-(int64_t)error;
 }
 
-/* What a system call returned, with its errno. */
-static uint64_t result(int64_t returned) {
-    return returned < 0 ? failed(errno) : (uint64_t)returned;
-}
-
 /* Writes to a file from the box's memory, or reads from it. It waits as long as the file makes it: the time that is limited is the
-   processor's. */
-static uint64_t transfer(const Run *run, const uint32_t *args, int writes) {
-    int file = files_host(&run->files, args[0]);
+   processor's. So it moves no more at once than it can between two ticks. */
+static uint64_t transfer(Run *run, const uint32_t *args, int use) {
+    int file = files_host(&run->files, args[0], use);
     void *bytes = ncs_at(run->box, (NcsAt){args[1]}, args[2]);
+    size_t len = args[2] < PIECE_MOST ? args[2] : PIECE_MOST;
     ssize_t moved;
     if (file < 0) {
         return failed(EBADF);
     }
-    if (bytes == NULL && args[2] != 0) {
+    if (bytes == NULL && len != 0) {
         return failed(EFAULT);
     }
+    len = use == TO_WRITE ? files_room(&run->files, args[0], len) : len;
     do {
-        moved = writes ? write(file, bytes, args[2]) : read(file, bytes, args[2]);
+        moved = use == TO_WRITE ? write(file, bytes, len) : read(file, bytes, len);
     } while (moved < 0 && errno == EINTR);
-    return result(moved);
+    if (moved < 0 || (len == 0 && args[2] != 0)) {
+        return failed(moved < 0 ? errno : ENOSPC);
+    }
+    if (use == TO_WRITE) {
+        files_wrote(&run->files, args[0], (size_t)moved);
+    } else {
+        files_moved(&run->files, args[0]);
+    }
+    return (uint64_t)moved;
 }
 
 static uint64_t call_read(NcsBox *box, void *user, const uint32_t *args) {
     (void)box;
-    return transfer(user, args, 0);
+    return transfer(user, args, TO_READ);
 }
 
 static uint64_t call_write(NcsBox *box, void *user, const uint32_t *args) {
     (void)box;
-    return transfer(user, args, 1);
+    return transfer(user, args, TO_WRITE);
 }
 
 static uint64_t call_clock(NcsBox *box, void *user, const uint32_t *args) {
@@ -73,7 +80,7 @@ static uint64_t call_open(NcsBox *box, void *user, const uint32_t *args) {
     if (len < 0 || len == PATH_MAX - 1) {
         return failed(len < 0 ? EFAULT : ENAMETOOLONG);
     }
-    return (uint64_t)(int64_t)files_open(&run->files, path, args[1], args[2]);
+    return (uint64_t)(int64_t)opening_open(&run->files, path, args[1], args[2]);
 }
 
 static uint64_t call_close(NcsBox *box, void *user, const uint32_t *args) {
@@ -82,26 +89,36 @@ static uint64_t call_close(NcsBox *box, void *user, const uint32_t *args) {
     return (uint64_t)(int64_t)files_close(&run->files, args[0]);
 }
 
+/* The standard files have places too, but others share these with nc-run. */
 static uint64_t call_lseek(NcsBox *box, void *user, const uint32_t *args) {
     static const int from[] = {SEEK_SET, SEEK_CUR, SEEK_END};
-    const Run *run = user;
-    int file = files_host(&run->files, args[0]);
+    Run *run = user;
+    int file = files_host(&run->files, args[0], TO_ASK);
+    off_t place;
     (void)box;
     if (file < 0 || args[3] >= sizeof from / sizeof *from) {
         return failed(file < 0 ? EBADF : EINVAL);
     }
-    return result(lseek(file, (off_t)((uint64_t)args[2] << 32 | args[1]), from[args[3]]));
+    if (files_is_standard(file)) {
+        return failed(ESPIPE);
+    }
+    place = lseek(file, (off_t)((uint64_t)args[2] << 32 | args[1]), from[args[3]]);
+    if (place < 0) {
+        return failed(errno);
+    }
+    files_moved(&run->files, args[0]);
+    return (uint64_t)place;
 }
 
 static uint64_t call_size(NcsBox *box, void *user, const uint32_t *args) {
     const Run *run = user;
-    int file = files_host(&run->files, args[0]);
+    int file = files_host(&run->files, args[0], TO_ASK);
     struct stat about;
     (void)box;
     if (file < 0) {
         return failed(EBADF);
     }
-    if (fstat(file, &about) != 0) {
+    if (files_stat(file, &about) != 0) {
         return failed(errno);
     }
     return S_ISREG(about.st_mode) ? (uint64_t)about.st_size : failed(ESPIPE);

@@ -129,6 +129,47 @@ static int seek(const char *path) {
     line(1, "write", nc_write(file, bytes, 1));
     return 0;
 }
+/* The places of the standard files, and of a file that has the number of one. */
+static int places(const char *path) {
+    line(1, "of 0", nc_lseek(0, 0, 1));
+    line(1, "of 1", nc_lseek(1, 0, 1));
+    line(1, "of 2", nc_lseek(2, 0, 0));
+    line(1, "from 3", nc_lseek(0, 0, 3));
+    line(1, "close", nc_close(0));
+    line(1, "file", nc_open(path, NC_OPEN_READ, 0));
+    line(1, "to 2", nc_lseek(0, 2, 0));
+    return 0;
+}
+/* Moves as many bytes at once as it can, which are more than 900 MiB. */
+static int most(const char *path, int how) {
+    u32 len = nc_memory() - (u32)_end;
+    int file = nc_open(path, how, 0);
+    line(1, "asked for enough", len > 900u << 20);
+    line(1, "read", nc_read(file, _end, len));
+    line(1, "write", nc_write(file, _end, len));
+    return 0;
+}
+
+/* Makes a file, and writes to it until a write fails. */
+static int fill(const char *path) {
+    int file = nc_open(path, NC_OPEN_WRITE | NC_OPEN_CREATE, 0644), put;
+    u32 all = 0;
+    while ((put = nc_write(file, many, 5000)) > 0) all += (u32)put;
+    line(1, "bytes", all);
+    line(1, "write", put);
+    return 0;
+}
+/* Writes single bytes, each a page behind the one before, to which it seeks or reads, until one fails. */
+static int comb(const char *path, int reads) {
+    int file = nc_open(path, NC_OPEN_BOTH, 0), put, bytes_put = 0;
+    do {
+        if (reads) nc_read(file, bytes, 4095);
+        else nc_lseek(file, 4096ll * bytes_put + 4095, 0);
+    } while ((put = nc_write(file, bytes, 1)) > 0 && ++bytes_put < 1000);
+    line(1, "bytes", bytes_put);
+    line(1, "write", put);
+    return 0;
+}
 /* Opens as many files as it can; one number is given anew. */
 static int all(const char *path) {
     int file, last = 0;
@@ -199,7 +240,12 @@ int start(int argc, char **argv) {
     if (same(what, "set")) return set(path, how, argc > 4 ? argv[4] : "");
     if (same(what, "spill") && nc_open(path, NC_OPEN_WRITE, 0) >= 0) __asm__ volatile("hlt");
     if (same(what, "seek")) return seek(path);
+    if (same(what, "places")) return places(path);
+    if (same(what, "most")) return most(path, how);
+    if (same(what, "fill")) return fill(path);
+    if (same(what, "comb")) return comb(path, how);
     if (same(what, "all")) return all(path);
+    if (same(what, "clock")) return line(1, "clock", nc_clock(NC_CLOCK_REAL)), 0;
     if (same(what, "size")) return line(1, "size", nc_size(number_of(path))), 0;
     if (same(what, "put")) return line(2, "write", nc_write(number_of(path), "x", 1)), 0;
     if (same(what, "get")) return line(2, "read", nc_read(number_of(path), bytes, 1)), 0;

@@ -1,0 +1,113 @@
+/* Makes a program below which it is loaded (LD_PRELOAD) do what untrusted code would that came out of a box, or meet a system that lacks
+   something, or a folder in which somebody else is at work. The environment says what is wanted:
+
+   BREAKING   what clock_gettime does in place of its work, by a system call: one of the names below. The result is that of the system call
+   LACKING    the number of a system call that `syscall` finds missing
+   NO_PROC    set: /proc isn't there
+   SWAPPED    a name in the folder `dir`, to which `dir/pipe` is renamed once the program has asked for the first time what is there */
+#define _GNU_SOURCE
+#include <errno.h>
+#include <fcntl.h>
+#include <linux/openat2.h>
+#include <stdarg.h>
+#include <stdint.h>
+#include <stdio.h>
+#include <stdlib.h>
+#include <string.h>
+#include <sys/mman.h>
+#include <sys/ptrace.h>
+#include <sys/socket.h>
+#include <sys/syscall.h>
+#include <time.h>
+
+typedef struct Act {
+    const char *name;
+    long number, words[4];
+} Act;
+
+static char page[4096] __attribute__((aligned(4096)));
+static char *const true_words[] = {"true", NULL};
+
+static const Act acts[] = {
+    {"execve", SYS_execve, {(long)"/bin/true", (long)true_words, (long)(true_words + 1)}},
+    {"socket", SYS_socket, {AF_INET, SOCK_STREAM}},
+    {"ptrace", SYS_ptrace, {PTRACE_TRACEME}},
+    {"protect", SYS_mprotect, {(long)page, sizeof page, PROT_READ | PROT_EXEC}},
+    {"open", SYS_openat, {AT_FDCWD, (long)"secret", O_RDONLY}},
+    {"open-within", SYS_openat, {AT_FDCWD, (long)"dir/file", O_RDONLY}},
+    {"write-within", SYS_openat, {AT_FDCWD, (long)"dir/file", O_WRONLY}},
+    {"read-9", SYS_read, {9, (long)page, 1}},
+};
+
+static long raw(long number, long a, long b, long c, long d) {
+    register long fourth __asm__("r10") = d;
+    long result;
+    __asm__ volatile("syscall" : "=a"(result) : "0"(number), "D"(a), "S"(b), "d"(c), "r"(fourth) : "rcx", "r11", "memory");
+    if (result < 0) {
+        errno = (int)-result;
+    }
+    return result < 0 ? -1 : result;
+}
+
+static int is_set(const char *name, const char *value) {
+    const char *found = getenv(name);
+    return found != NULL && strcmp(found, value) == 0;
+}
+
+int clock_gettime(clockid_t clock, struct timespec *now) {
+    size_t k;
+    for (k = 0; k < sizeof acts / sizeof *acts; k++) {
+        if (is_set("BREAKING", acts[k].name)) {
+            const long *words = acts[k].words;
+            now->tv_sec = 0;
+            now->tv_nsec = 0;
+            return raw(acts[k].number, words[0], words[1], words[2], words[3]) < 0 ? -1 : 0;
+        }
+    }
+    return (int)raw(SYS_clock_gettime, clock, (long)now, 0, 0);
+}
+
+/* Whether somebody asks what is at the name. */
+static int asks(long number, const long *words) {
+    const struct open_how *how = (const struct open_how *)words[2];
+    return number == SYS_openat2 && (how->flags & O_PATH) != 0 && is_set("SWAPPED", (const char *)words[1]);
+}
+
+long syscall(long number, ...) {
+    static int swapped;
+    const char *lacking = getenv("LACKING");
+    char to[64];
+    long words[4], result;
+    va_list more;
+    int k;
+    va_start(more, number);
+    for (k = 0; k < 4; k++) {
+        words[k] = va_arg(more, long);
+    }
+    va_end(more);
+    if (lacking != NULL && number == atol(lacking)) {
+        errno = ENOSYS;
+        return -1;
+    }
+    result = raw(number, words[0], words[1], words[2], words[3]);
+    if (asks(number, words) && !swapped) {
+        int kept = errno;
+        snprintf(to, sizeof to, "dir/%s", (const char *)words[1]);
+        swapped = rename("dir/pipe", to) == 0;
+        errno = kept;
+    }
+    return result;
+}
+
+int open(const char *path, int flags, ...) {
+    va_list more;
+    int mode;
+    va_start(more, flags);
+    mode = va_arg(more, int);
+    va_end(more);
+    if (getenv("NO_PROC") != NULL && strncmp(path, "/proc", 5) == 0) {
+        errno = ENOENT;
+        return -1;
+    }
+    return (int)raw(SYS_openat, AT_FDCWD, (long)path, flags, mode);
+}
