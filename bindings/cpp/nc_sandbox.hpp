@@ -434,6 +434,21 @@ class Box : public Access {
     }
 };
 
+/* ---- A second wall */
+
+using Folder = NcsFolder;
+
+/* ncs_wall, for this process. The value is what stands, NCS_WALL_FILTER or NCS_WALL_WHOLE. */
+inline Result<int> build_wall(Span<const Folder> folders = {}, Span<const int> calls = {}, bool threads = false) noexcept {
+    const NcsWall wall = {folders.data(), static_cast<unsigned>(folders.size()), calls.data(), static_cast<unsigned>(calls.size()), threads};
+    NcsRefusal why{};
+    const int stands = ncs_wall(&wall, &why);
+    if (stands == NCS_NO_WALL) {
+        return Refusal(why);
+    }
+    return stands;
+}
+
 } // namespace ncs
 
 #endif

@@ -315,6 +315,23 @@ void children() {
     CHECK(box.call(at("count")).result<int>() == 41);
 }
 
+// A child builds a wall, and no second one. It can still read what is open.
+void walls() {
+    std::fflush(stdout);
+    pid_t child = fork();
+    if (child == 0) {
+        const int calls[] = {-1};
+        char byte;
+        bool refused = ncs::build_wall({}, calls).fault().number() == NCS_BAD_LIMITS;
+        auto built = ncs::build_wall();
+        bool stands = built.ok() ? *built != NCS_NO_WALL && ncs::build_wall().fault().number() == NCS_BAD_SYSTEM && read(-1, &byte, 1) == -1
+                                 : built.fault().number() == NCS_BAD_SYSTEM;
+        _exit(refused && stands ? 0 : 1);
+    }
+    int status = -1;
+    CHECK(child > 0 && waitpid(child, &status, 0) == child && WIFEXITED(status) && WEXITSTATUS(status) == 0);
+}
+
 } // namespace
 
 int main(int argc, char **argv) {
@@ -328,7 +345,7 @@ int main(int argc, char **argv) {
     guest = std::move(made).value();
     names_of_places(file);
     for (auto test : {calls, memory, callbacks, results_of_callbacks, within_itself, exceptions, exceptions_of_others, lives, left_behind,
-                      live_code, refusals, threads, children}) {
+                      live_code, refusals, threads, children, walls}) {
         test();
     }
     if (failures == 0) {

@@ -37,6 +37,11 @@ pub const NCS_CALLBACKS: u32 = 64;
 pub const NCS_CALLBACK_ARGS: u32 = 12;
 pub const NCS_EXIT: u32 = 0x40;
 
+pub const NCS_WALL_CALLS: u32 = 256;
+pub const NCS_NO_WALL: u32 = 0;
+pub const NCS_WALL_FILTER: u32 = 1;
+pub const NCS_WALL_WHOLE: u32 = 2;
+
 /// Where call-back `k` is.
 pub const fn ncs_callback_at(k: u32) -> u32 {
     0x100 + 32 * k
@@ -87,6 +92,23 @@ pub struct NcsEnd {
     pub status: u32,
 }
 
+#[repr(C)]
+#[derive(Clone, Copy, Debug)]
+pub struct NcsFolder {
+    pub file: c_int,
+    pub writable: c_int,
+}
+
+#[repr(C)]
+#[derive(Clone, Copy, Debug)]
+pub struct NcsWall {
+    pub folders: *const NcsFolder,
+    pub folder_count: c_uint,
+    pub calls: *const c_int,
+    pub call_count: c_uint,
+    pub threads: c_int,
+}
+
 pub type NcsCallback = unsafe extern "C" fn(box_: *mut NcsBox, user: *mut c_void, args: *const u32) -> u64;
 
 extern "C" {
@@ -123,4 +145,5 @@ extern "C" {
     pub fn ncs_text(box_: *mut NcsBox, to: *mut c_char, room: usize, at: NcsAt) -> c_long;
     pub fn ncs_take(box_: *mut NcsBox, len: u32) -> NcsAt;
     pub fn ncs_put(box_: *mut NcsBox, from: *const c_void, len: u32) -> NcsAt;
+    pub fn ncs_wall(wall: *const NcsWall, why: *mut NcsRefusal) -> c_int;
 }

@@ -45,6 +45,7 @@ mod refusal;
 mod sandbox;
 mod shared;
 mod stack;
+mod wall;
 mod words;
 
 pub use access::Access;
@@ -53,4 +54,5 @@ pub use end::End;
 pub use module::Module;
 pub use refusal::Refusal;
 pub use sandbox::{Killer, Limits, Sandbox};
+pub use wall::{Folder, Stands, Wall};
 pub use words::{Args, At, Returned, Word};

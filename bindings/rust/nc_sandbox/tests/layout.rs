@@ -19,6 +19,8 @@ fn said() -> (String, String) {
         NcsRefusal { kind, fault, at, sentence }
         NcsLimits { memory, depth, milliseconds }
         NcsEnd { how, result, high, place, trap, data, status }
+        NcsFolder { file, writable }
+        NcsWall { folders, folder_count, calls, call_count, threads }
     }
     number! { out, c,
         NCS_OK NCS_BAD_FILE NCS_BAD_CODE NCS_BAD_LIMITS NCS_BAD_HANDLER NCS_NO_MEMORY NCS_BAD_SYSTEM
@@ -26,6 +28,7 @@ fn said() -> (String, String) {
         NCS_RETURNED NCS_STOPPED NCS_FAULTED NCS_LATE NCS_KILLED NCS_EXITED NCS_BAD_ENTRY NCS_BAD_CALL NCS_DENIED
         NCS_TOO_DEEP NCS_DEAD NCS_BUSY NCS_HOST
         NCS_MEMORY_MAX NCS_DEPTH_MAX NCS_ARGS_MAX NCS_CALLBACKS NCS_CALLBACK_ARGS NCS_EXIT
+        NCS_WALL_CALLS NCS_NO_WALL NCS_WALL_FILTER NCS_WALL_WHOLE
     }
     for k in [0, 63] {
         writeln!(out, "{}", ncs_callback_at(k)).unwrap();
