@@ -1,7 +1,8 @@
 /* Makes a program below which it is loaded (LD_PRELOAD) do what untrusted code would that came out of a box, or meet a system that lacks
    something, or a folder in which somebody else is at work. The environment says what is wanted:
 
-   BREAKING   what clock_gettime does in place of its work, by a system call: one of the names below. The result is that of the system call
+   BREAKING   what clock_gettime does in place of its work, by a system call: one of the names below. It fails as that does, and tells its
+              result as a time of so many nanoseconds, unless that is the number of a file
    LACKING    the number of a system call that `syscall` finds missing
    NO_PROC    set: /proc isn't there
    SWAPPED    a name in the folder `dir`, to which `dir/pipe` is renamed once the program has asked for the first time what is there */
@@ -15,6 +16,7 @@
 #include <stdlib.h>
 #include <string.h>
 #include <sys/mman.h>
+#include <sys/prctl.h>
 #include <sys/ptrace.h>
 #include <sys/socket.h>
 #include <sys/syscall.h>
@@ -37,6 +39,7 @@ static const Act acts[] = {
     {"open-within", SYS_openat, {AT_FDCWD, (long)"dir/file", O_RDONLY}},
     {"write-within", SYS_openat, {AT_FDCWD, (long)"dir/file", O_WRONLY}},
     {"read-9", SYS_read, {9, (long)page, 1}},
+    {"dumpable", SYS_prctl, {PR_GET_DUMPABLE}},
 };
 
 static long raw(long number, long a, long b, long c, long d) {
@@ -58,10 +61,10 @@ int clock_gettime(clockid_t clock, struct timespec *now) {
     size_t k;
     for (k = 0; k < sizeof acts / sizeof *acts; k++) {
         if (is_set("BREAKING", acts[k].name)) {
-            const long *words = acts[k].words;
+            const long *words = acts[k].words, result = raw(acts[k].number, words[0], words[1], words[2], words[3]);
             now->tv_sec = 0;
-            now->tv_nsec = 0;
-            return raw(acts[k].number, words[0], words[1], words[2], words[3]) < 0 ? -1 : 0;
+            now->tv_nsec = acts[k].number == SYS_openat || acts[k].number == SYS_socket ? 0 : result;
+            return result < 0 ? -1 : 0;
         }
     }
     return (int)raw(SYS_clock_gettime, clock, (long)now, 0, 0);
