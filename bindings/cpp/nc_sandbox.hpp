@@ -440,7 +440,8 @@ using Folder = NcsFolder;
 
 /* ncs_wall, for this process. The value is what stands, NCS_WALL_FILTER or NCS_WALL_WHOLE. */
 inline Result<int> build_wall(Span<const Folder> folders = {}, Span<const int> calls = {}, bool threads = false) noexcept {
-    const NcsWall wall = {folders.data(), static_cast<unsigned>(folders.size()), calls.data(), static_cast<unsigned>(calls.size()), threads};
+    const auto folder_count = static_cast<unsigned>(folders.size()), call_count = static_cast<unsigned>(calls.size());
+    const NcsWall wall = {folders.data(), folder_count, calls.data(), call_count, threads};
     NcsRefusal why{};
     const int stands = ncs_wall(&wall, &why);
     if (stands == NCS_NO_WALL) {

@@ -27,8 +27,9 @@
 #define X32 0x40000000
 #define SOCKET 100 /* the number of a socket that the test has */
 
-/* How a process ends: its status, which is the error of a row's system call, or 0; or by SIGSYS; or by another signal. */
-enum { MADE = 0, KILLED = -1, SIGNALLED = 1000 };
+/* How a process ends: with the error of a row's system call as its status, or 0; with BAD, if something else was wrong; by SIGSYS; or by
+   another signal. */
+enum { MADE = 0, BAD = 200, KILLED = -1, SIGNALLED = 1000 };
 
 typedef struct Row {
     const char *name;
@@ -109,7 +110,7 @@ static int try_row(const void *given) {
     long result;
     build(trial->wall);
     result = raw(trial->row->number, trial->row->words);
-    return testing_wrong != 0 ? SIGNALLED : result < 0 ? (int)-result : MADE;
+    return testing_wrong != 0 ? BAD : result < 0 ? (int)-result : MADE;
 }
 
 static void try_rows(const char *name, const NcsWall *wall, const Row *rows, size_t count) {
@@ -217,8 +218,8 @@ static int old_way(const void *given) {
     if (given != NULL) {
         build(given);
     }
-    __asm__ volatile("int $0x80" : "+a"(result) : : "memory");
-    return result > 0 ? MADE : SIGNALLED;
+    __asm__ volatile("int $0x80" : "+a"(result) : : "r8", "r9", "r10", "r11", "memory");
+    return result > 0 ? MADE : BAD;
 }
 
 static int signal_itself(const void *given) {
@@ -265,7 +266,7 @@ static int later_thread(const void *given) {
     int error = -1;
     build(given);
     CHECK(pthread_create(&thread, NULL, open_outside, &error) == 0 && pthread_join(thread, NULL) == 0);
-    return testing_wrong != 0 ? SIGNALLED : error;
+    return testing_wrong != 0 ? BAD : error;
 }
 
 static void try_ways(void) {
@@ -334,7 +335,7 @@ static int use_boxes(const void *given) {
     CHECK(ncs_free(m.box) && ncs_free(later));
     codes_end(m.live, m.live_box);
     ncs_module_free(m.module);
-    return testing_wrong != 0 ? SIGNALLED : MADE;
+    return testing_wrong != 0 ? BAD : MADE;
 }
 
 static int make_module(const void *given) {
@@ -382,7 +383,7 @@ static int build_wrongly(const void *given) {
     CHECK(prctl(PR_GET_NO_NEW_PRIVS, 0ul, 0ul, 0ul, 0ul) == 0 && made(SYS_getppid, 0) == MADE);
     build(good);
     CHECK(is_refused(good, NCS_BAD_SYSTEM));
-    return testing_wrong != 0 ? SIGNALLED : MADE;
+    return testing_wrong != 0 ? BAD : MADE;
 }
 
 static int build_with_many(const void *given) {
@@ -392,7 +393,7 @@ static int build_with_many(const void *given) {
     int next = next_file();
     (void)given;
     build(&wall);
-    return raw(SYS_openat, words) == next ? made(SYS_fstatfs, -1) : SIGNALLED;
+    return raw(SYS_openat, words) == next ? made(SYS_fstatfs, -1) : BAD;
 }
 
 static void try_refusals(void) {
@@ -426,7 +427,7 @@ static int build_refused(const void *given) {
         CHECK(why.kind == NCS_OK && (*r->which < 0 || *r->which == REFUSES_landlock_create_ruleset));
         CHECK(stands == (*r->which < 0 ? NCS_WALL_WHOLE : NCS_WALL_FILTER));
     }
-    return testing_wrong != 0 ? SIGNALLED : made(SYS_fstatfs, -1);
+    return testing_wrong != 0 ? BAD : made(SYS_fstatfs, -1);
 }
 
 static void try_refused(int *which) {
