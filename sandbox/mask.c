@@ -52,8 +52,8 @@ static int claim(Mask *m) {
 }
 
 static void arm(Mask *m, int on) {
-    long made = on ? syscall(SYS_prctl, PR_SET_SYSCALL_USER_DISPATCH, PR_SYS_DISPATCH_ON, 0, 0, &m->selector)
-                   : syscall(SYS_prctl, PR_SET_SYSCALL_USER_DISPATCH, PR_SYS_DISPATCH_OFF, 0, 0, 0);
+    int made = on ? prctl(PR_SET_SYSCALL_USER_DISPATCH, (long)PR_SYS_DISPATCH_ON, 0l, 0l, &m->selector)
+                  : prctl(PR_SET_SYSCALL_USER_DISPATCH, (long)PR_SYS_DISPATCH_OFF, 0l, 0l, 0l);
     m->armed = on && made == 0;
     m->is_useless = on && made != 0;
 }

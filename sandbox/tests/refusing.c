@@ -18,7 +18,6 @@
 #include <unistd.h>
 
 #define WORDS 5 /* of a system call, at most */
-#define ON 1    /* of prctl; to end what it has begun isn't refused */
 
 int refusing_releases;
 static long blocks, mapped, timers, files;
@@ -230,8 +229,6 @@ REAL(long, syscall, long number, ...) {
         refused = refuses(REFUSES_rt_sigaction);
     } else if (number == SYS_sigaltstack) {
         refused = refuses(REFUSES_sigaltstack);
-    } else if (number == SYS_prctl) {
-        refused = words[1] == ON && refuses(REFUSES_prctl);
     } else if (number == SYS_membarrier && (int)words[0] == MEMBARRIER_CMD_REGISTER_PRIVATE_EXPEDITED_SYNC_CORE) {
         refused = refuses(REFUSES_membarrier);
     } else {
@@ -240,6 +237,7 @@ REAL(long, syscall, long number, ...) {
     return refused ? -1 : __real_syscall(number, words[0], words[1], words[2], words[3], words[4]);
 }
 
+/* To end what it has begun isn't refused. */
 REAL(int, prctl, int option, ...) {
     unsigned long words[4];
     int k;
@@ -249,7 +247,7 @@ REAL(int, prctl, int option, ...) {
         words[k] = va_arg(more, unsigned long);
     }
     va_end(more);
-    return refuses(REFUSES_prctl) ? -1 : __real_prctl(option, words[0], words[1], words[2], words[3]);
+    return words[0] != 0 && refuses(REFUSES_prctl) ? -1 : __real_prctl(option, words[0], words[1], words[2], words[3]);
 }
 
 Holding refusing_holding(void) {
