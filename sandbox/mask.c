@@ -15,14 +15,8 @@
 #include <ucontext.h>
 #include <unistd.h>
 
-#ifndef PR_SET_SYSCALL_USER_DISPATCH
-#define PR_SET_SYSCALL_USER_DISPATCH 59
-#define PR_SYS_DISPATCH_OFF 0
-#define PR_SYS_DISPATCH_ON 1
-#endif
-#ifndef SYS_USER_DISPATCH
-#define SYS_USER_DISPATCH 2 /* the si_code */
-#endif
+/* Older headers lack these. */
+enum { SET_DISPATCH = 59, DISPATCH_OFF = 0, DISPATCH_ON = 1, DISPATCHED_CALL = 2 }; /* of prctl; the last is an si_code */
 #define KEEPS_AFTER 8u   /* ways out, at first */
 #define DOUBLED_MOST 8u  /* so often, where it doesn't pay */
 #define PAYS 8u          /* ways out behind these, by which a SIGSYS pays */
@@ -52,8 +46,8 @@ static int claim(Mask *m) {
 }
 
 static void arm(Mask *m, int on) {
-    int made = on ? prctl(PR_SET_SYSCALL_USER_DISPATCH, (long)PR_SYS_DISPATCH_ON, 0l, 0l, &m->selector)
-                  : prctl(PR_SET_SYSCALL_USER_DISPATCH, (long)PR_SYS_DISPATCH_OFF, 0l, 0l, 0l);
+    int made = on ? prctl(SET_DISPATCH, (long)DISPATCH_ON, 0l, 0l, &m->selector)
+                  : prctl(SET_DISPATCH, (long)DISPATCH_OFF, 0l, 0l, 0l);
     m->armed = on && made == 0;
     m->is_useless = on && made != 0;
 }
@@ -134,7 +128,7 @@ void ncs_mask_take_back(Thread *t, void *context) {
 
 int ncs_mask_on_call(Thread *t, const siginfo_t *info, void *context) {
     Mask *m;
-    if (t == NULL || info->si_code != SYS_USER_DISPATCH || !t->mask.armed) {
+    if (t == NULL || info->si_code != DISPATCHED_CALL || !t->mask.armed) {
         return 0;
     }
     m = &t->mask;

@@ -102,9 +102,6 @@ static int check_version(void) {
     return nc_host_version() == NC_VERSION;
 }
 
-static void end_nothing(void) {
-}
-
 /* The handlers stay, so a shared library that contains this one does. A program without dlopen unloads none. */
 #pragma weak dlopen
 #pragma weak dladdr
@@ -123,13 +120,13 @@ static const struct Step {
     uint32_t kind;
     const char *sentence;
 } STEPS[] = {
-    {check_version, end_nothing, NCS_BAD_SYSTEM, "nc_host is of another version"},
-    {ncs_segments_begin, end_nothing, NCS_BAD_SYSTEM, "the system makes no segments (modify_ldt)"},
+    {check_version, NULL, NCS_BAD_SYSTEM, "nc_host is of another version"},
+    {ncs_segments_begin, NULL, NCS_BAD_SYSTEM, "the system makes no segments (modify_ldt)"},
     {make_landing, end_landing, NCS_NO_MEMORY, "there is no room below 4 GiB"},
     {make_life, end_life, NCS_BAD_SYSTEM, "the system has no memory that it wipes in a child (MADV_WIPEONFORK)"},
-    {see_forks, end_nothing, NCS_BAD_SYSTEM, "the system refuses what boxes need"},
+    {see_forks, NULL, NCS_BAD_SYSTEM, "the system refuses what boxes need"},
     {ncs_threads_begin, ncs_threads_end, NCS_BAD_SYSTEM, "the system refuses what boxes need"},
-    {stay_loaded, end_nothing, NCS_BAD_SYSTEM, ""},
+    {stay_loaded, NULL, NCS_BAD_SYSTEM, ""},
     {ncs_signals_begin, ncs_signals_end, NCS_BAD_SYSTEM, "SIGRTMAX - 1 has a handler, perhaps of another copy of this library"},
 };
 #define STEP_COUNT (sizeof STEPS / sizeof *STEPS)
@@ -137,7 +134,9 @@ static uint64_t users; /* of what these have made: all that there ever were, but
 
 static void end_steps(size_t made) {
     while (made != 0) {
-        STEPS[--made].end();
+        if (STEPS[--made].end != NULL) {
+            STEPS[made].end();
+        }
     }
 }
 

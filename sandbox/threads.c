@@ -66,12 +66,6 @@ static int map_stack(Thread *t, stack_t *stack) {
     return mprotect(at + PAGE, len, PROT_READ | PROT_WRITE) == 0 && is_good(stack);
 }
 
-static void unmap_stack(Thread *t) {
-    if (t->stack != NULL) {
-        (void)munmap(t->stack, t->stack_len);
-    }
-}
-
 /* The stack that the thread has already is kept if it is a good one. */
 static int make_stack(Thread *t) {
     stack_t stack;
@@ -81,7 +75,9 @@ static int make_stack(Thread *t) {
     if (map_stack(t, &stack) && sigaltstack(&stack, NULL) == 0) {
         return 1;
     }
-    unmap_stack(t);
+    if (t->stack != NULL) {
+        (void)munmap(t->stack, t->stack_len);
+    }
     return 0;
 }
 
@@ -94,7 +90,7 @@ static void end_stack(Thread *t) {
         return;
     }
     if ((sigaltstack(NULL, &now) == 0 && now.ss_sp != (uint8_t *)t->stack + PAGE) || sigaltstack(&none, NULL) == 0) {
-        unmap_stack(t);
+        (void)munmap(t->stack, t->stack_len);
     }
 }
 

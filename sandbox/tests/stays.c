@@ -133,36 +133,6 @@ static void try_callback(void) {
     puts("a slow call-back");
 }
 
-/* More threads end in a call-back than calls may be under way at once. */
-#define ENDINGS (NCS_LIVE_CALLS + 45u)
-
-static uint64_t end_thread(NcsBox *box, void *user, const uint32_t *args) {
-    (void)box;
-    (void)user;
-    (void)args;
-    pthread_exit(NULL);
-}
-
-static void *call_and_end(void *box) {
-    (void)codes_run(box, CALLS);
-    return box;
-}
-
-static void try_endings(void) {
-    NcsBox *box = codes_box(module, LONG);
-    unsigned k, ended = 0;
-    CHECK(ncs_callback(box, end_thread, NULL, 0).at == NCS_CALLBACK(0) && codes_create_number(module, GIVEN, 4));
-    for (k = 0; k < ENDINGS; k++) {
-        void *result = box;
-        pthread_t thread;
-        CHECK(pthread_create(&thread, NULL, call_and_end, box) == 0 && pthread_join(thread, &result) == 0);
-        ended += result == NULL && ncs_reset(box);
-    }
-    CHECK(ended == ENDINGS && codes_returns(box, GIVEN, 4) && codes_delete(module, GIVEN) && ncs_reclaim(module) == 1);
-    CHECK(ncs_free(box));
-    puts("threads that end in a call-back");
-}
-
 static void try_late(void) {
     unsigned freed = 0;
     Stay s;
@@ -333,7 +303,6 @@ int main(void) {
     try_loops();
     try_many();
     try_crowd();
-    try_endings();
     try_child();
     ncs_module_free(module);
     printf("%u wrong\n", testing_wrong);

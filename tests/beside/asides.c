@@ -23,15 +23,19 @@ static const struct {
     {STOPS, 1, {0xF4}},
 };
 
-NcsModule *asides_module(void) {
-    uint8_t code[STOPS + 32 - CODE_AT];
-    NcsRefusal why;
-    NcsModule *module;
+void asides_lay(uint8_t code[ASIDES_LEN]) {
     size_t k;
-    memset(code, 0x90, sizeof code);
+    memset(code, 0x90, ASIDES_LEN);
     for (k = 0; k < sizeof PARTS / sizeof *PARTS; k++) {
         memcpy(code + PARTS[k].at - CODE_AT, PARTS[k].code, PARTS[k].len);
     }
+}
+
+NcsModule *asides_module(void) {
+    uint8_t code[ASIDES_LEN];
+    NcsRefusal why;
+    NcsModule *module;
+    asides_lay(code);
     module = ncs_module_code(code, sizeof code, &why);
     if (module == NULL) {
         printf("%s: boxes: %s\n", why.kind == NCS_BAD_SYSTEM ? "skipped" : "refused", why.sentence);

@@ -105,6 +105,26 @@ static void try_end(void) {
     puts("a call-back that ends its thread");
 }
 
+/* More threads end in a call-back than calls of live code may be under way at once. */
+static void try_endings(void) {
+    NcsModule *all = module;
+    uint8_t code[ASIDES_LEN];
+    unsigned k, ended = 0;
+    NcsBox *box;
+    asides_lay(code);
+    module = ncs_module_live(ASIDES_LEN / 32, NULL);
+    CHECK(module != NULL && ncs_create(module, (NcsAt){CODE_AT}, code, sizeof code, NULL));
+    box = box_with(LONG, end_thread, NULL);
+    for (k = 0; k < NCS_LIVE_CALLS + 45; k++) {
+        join_new(call_and_end, box, NULL);
+        ended += ncs_reset(box);
+    }
+    CHECK(ended == NCS_LIVE_CALLS + 45 && returns(box) && ncs_free(box));
+    ncs_module_free(module);
+    module = all;
+    puts("threads that end in call-backs of live code");
+}
+
 static ucontext_t fiber, first, second;
 static char fiber_stack[1 << 18];
 static int is_second;
@@ -483,6 +503,7 @@ int main(void) {
     module = asides_module();
     try_jump();
     try_end();
+    try_endings();
     try_outer_kill();
     try_fork();
     try_clone();

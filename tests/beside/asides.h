@@ -15,9 +15,11 @@ enum {
     COUNTS = 0x100A0,  /* counts in the word at COUNT, without end, and stops if a flag that it sets is lost */
     STOPS = 0x100C0
 };
+#define ASIDES_LEN (STOPS + 32 - CODE_AT)
 #define COUNT 0x110000u
 #define ASIDES_MEMORY (4u << 20)
 
+void asides_lay(uint8_t code[ASIDES_LEN]); /* at CODE_AT */
 NcsModule *asides_module(void); /* it ends the process with SKIPPED if the system has no boxes */
 NcsBox *asides_box(NcsModule *module, uint32_t milliseconds);
 NcsEnd asides_call(NcsBox *box, uint32_t function, uint32_t argument);
