@@ -7,6 +7,9 @@
  *   Values      Module owns a module, and Box a box. They are moved and never copied. A default-constructed and a moved-from value are
  *               empty and may be used. Their calls are refused. A call of a function then ends with NCS_HOST. A module's code stays until
  *               its last box is gone, so the module may go first.
+ *   Untrusted   A number that comes out of a box is an Untrusted<T>, and gives its T only to a check. An address is an At, which only calls
+ *               of a box can follow. Ranges of bytes and texts stay bytes, which mean nothing yet. What is made of them is judged where
+ *               that is done.
  *   Call-backs  A box keeps its call-backs, with what they capture, until it is destroyed. A call-back that throws ends its call with
  *               NCS_DENIED. The exception is thrown on from Access::call, once no untrusted code is left between.
  *   Threads     One thread at a time uses a Box. Any thread may use a Killer, and any number of them a Module that isn't assigned to.
@@ -67,17 +70,17 @@ class [[nodiscard]] End {
     const char *name() const noexcept { return ncs_how(end_.how); } /* ncs_how */
     explicit operator bool() const noexcept { return end_.how == NCS_RETURNED; }
 
-    /* The result of the function, read as a T; 0 if it hasn't returned. */
+    /* The result of the function, read as a T; 0 if it hasn't returned. An At comes out as it is, and a number as an Untrusted<T>. */
     template <class T>
-    T result() const noexcept {
+    detail::Out<T> result() const noexcept {
         const std::uint32_t words[] = {end_.result, end_.high};
-        return detail::Word<T>::of(words);
+        return detail::Out<T>(detail::Word<T>::of(words));
     }
 
     At place() const noexcept { return At(end_.place); }
     std::uint32_t trap() const noexcept { return end_.trap; }
     At data() const noexcept { return At(end_.data); }
-    std::uint32_t status() const noexcept { return end_.status; }
+    Untrusted<std::uint32_t> status() const noexcept { return Untrusted<std::uint32_t>(end_.status); }
 
   private:
     NcsEnd end_;
@@ -215,7 +218,7 @@ class Access {
     Access(const Access &) = delete;
     Access &operator=(const Access &) = delete;
 
-    /* ncs_call, with integers up to 64 bits and addresses. An exception of a call-back comes out here. */
+    /* ncs_call, with addresses and integers up to 64 bits, which may be untrusted. An exception of a call-back comes out here. */
     template <class... Args>
     End call(At function, Args... args) {
         constexpr unsigned count = (0u + ... + detail::Word<Args>::count);
@@ -235,8 +238,21 @@ class Access {
     /* ncs_set and ncs_get. They return whether all was copied. If not, nothing was. */
     [[nodiscard]] bool set(At at, Bytes from) noexcept { return set(at, from.data(), from.size()); }
     [[nodiscard]] bool set(At at, std::string_view from) noexcept { return set(at, from.data(), from.size()); }
-    [[nodiscard]] bool get(Span<std::uint8_t> to, At at) noexcept {
-        return box() != nullptr && to.size() <= NCS_MEMORY_MAX && ncs_get(box(), to.data(), at, static_cast<std::uint32_t>(to.size())) != 0;
+    [[nodiscard]] bool get(Span<std::uint8_t> to, At at) noexcept { return get(to.data(), at, to.size()); }
+
+    /* ncs_get. Reads an integer, an address or a structure once. Returns nothing unless all of it is the box's. A structure has the layout
+       of i386, where no member is aligned to more than 4 bytes. Its members may get any bits, so none may be a bool. */
+    template <class T>
+    [[nodiscard]] std::optional<detail::Out<T>> get(At at) noexcept {
+        if constexpr (std::is_class_v<T> && !detail::is_out<T>) {
+            static_assert(std::is_trivially_copyable_v<T>, "a structure of a box is copied byte by byte");
+            static_assert(alignof(T) <= 4, "a structure of a box has no member that is aligned to more than 4 bytes");
+            T value{};
+            return get(&value, at, sizeof value) ? std::optional(Untrusted<T>(value)) : std::nullopt;
+        } else {
+            std::uint32_t words[2] = {};
+            return get(words, at, sizeof(T)) ? std::optional(detail::Out<T>(detail::Word<T>::of(words))) : std::nullopt;
+        }
     }
 
     /* ncs_text. Returns the text, cut to `most` bytes without the 0, or nothing if it leaves the box. */
@@ -279,6 +295,9 @@ class Access {
             }
         }
         return End(end);
+    }
+    bool get(void *to, At at, std::size_t len) noexcept {
+        return box() != nullptr && len <= NCS_MEMORY_MAX && ncs_get(box(), to, at, static_cast<std::uint32_t>(len)) != 0;
     }
     bool set(At at, const void *from, std::size_t len) noexcept {
         return box() != nullptr && len <= NCS_MEMORY_MAX && ncs_set(box(), at, from, static_cast<std::uint32_t>(len)) != 0;
@@ -396,8 +415,9 @@ class Box : public Access {
     }
 
     /* ncs_callback, with anything that can be called in one way, such as a function, a lambda or a std::function. Its first parameter may
-       be a Caller &. The others are the arguments of the code, which are integers up to 64 bits and addresses. It returns one of these, or
-       nothing. It is called again while it is under way if it calls code that calls back. Returns its address, or 0 if it isn't given. */
+       be a Caller &. The others are the arguments of the code, each an At or an Untrusted integer up to 64 bits. It returns one of
+       these, an integer, or nothing. It is called again while it is under way if it calls code that calls back. Returns its address, or 0
+       if it isn't given. */
     template <class F>
     At callback(F &&function) {
         using Stored = detail::CallableOf<std::decay_t<F>>;

@@ -6,15 +6,17 @@
 #include <iterator>
 
 static void unpack(const ncs::Module &module, ncs::Box &box, std::string_view packed) {
-    ncs::At in = box.put(packed), out = box.take(64);
+    std::uint8_t text[64];
+    ncs::At in = box.put(packed), out = box.take(sizeof text);
     ncs::End end = box.call(module.symbol("unpack"), out, in, static_cast<std::uint32_t>(packed.size()));
-    auto len = end.result<std::uint32_t>(); // untrusted, so the range is judged
-    auto text = box.bytes(out, len <= 64 ? len : 0);
+    auto len = end.result<std::uint32_t>().at_most(sizeof text); // the box may name any length
     std::printf("%.*s: ", int(packed.size()), packed.data());
     if (!end) {
         std::printf("%s by interrupt %u\n", end.name(), unsigned(end.trap()));
+    } else if (len && box.get({text, *len}, out)) {
+        std::printf("%.*s\n", int(*len), reinterpret_cast<const char *>(text));
     } else {
-        std::printf("%.*s\n", int(text.size()), reinterpret_cast<const char *>(text.data()));
+        std::printf("a length that is untrue\n");
     }
 }
 

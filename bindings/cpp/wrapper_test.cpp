@@ -37,6 +37,25 @@ static_assert(!std::is_copy_constructible_v<ncs::Box> && !std::is_copy_assignabl
 static_assert(!std::is_move_constructible_v<ncs::Caller> && !std::is_move_constructible_v<ncs::Access>);
 static_assert(std::is_copy_constructible_v<ncs::Killer> && sizeof(ncs::At) == sizeof(NcsAt));
 
+// Untrusted values convert to nothing and cost nothing.
+using ncs::Untrusted;
+static_assert(sizeof(Untrusted<char>) == 1 && sizeof(Untrusted<long long>) == 8 && std::is_trivially_copyable_v<Untrusted<int>>);
+static_assert(!std::is_constructible_v<int, Untrusted<int>> && !std::is_constructible_v<bool, Untrusted<bool>>);
+static_assert(!std::is_convertible_v<int, Untrusted<int>> && !std::is_convertible_v<Untrusted<unsigned>, ncs::At>);
+
+// Checks of them, on both sides of each bound. Bounds of other types are the numbers that they are.
+constexpr Untrusted<unsigned> ZERO(0), FIVE(5), LAST(0xFFFFFFFF);
+constexpr Untrusted<int> MINUS(-1);
+static_assert(FIVE.checked([](unsigned n) { return n == 5; }) == 5u && !FIVE.checked([](unsigned n) { return n != 5; }));
+static_assert(FIVE.at_most(5) == 5u && !FIVE.at_most(4) && ZERO.at_most(0) == 0u && !ZERO.at_most(-1));
+static_assert(LAST.at_most(0x100000000) == 0xFFFFFFFF && !LAST.at_most(0xFFFFFFFE) && !LAST.at_most(-1));
+static_assert(FIVE.below(6) == 5u && !FIVE.below(5) && !ZERO.below(0) && !ZERO.below(-1) && LAST.below(0x100000000) == 0xFFFFFFFF);
+static_assert(FIVE.in(5, 5) == 5u && !FIVE.in(6, 9) && !FIVE.in(1, 4) && FIVE.in(-1, 9ull) == 5u && !LAST.in(-1, 5));
+static_assert(MINUS.in(-1, 5u) == -1 && !MINUS.in(0, 5) && !MINUS.in(0u, 0xFFFFFFFF) && !MINUS.in(-5, -2));
+static_assert(Untrusted<signed char>(-128).in(-128ll, 0) == -128 && !Untrusted<signed char>(-128).in(-127, 0));
+static_assert(FIVE.is(5) && !FIVE.is(4) && !FIVE.is(6) && MINUS.is(-1) && !MINUS.is(0xFFFFFFFF) && !LAST.is(-1));
+static_assert(FIVE.unchecked() == 5 && Untrusted<bool>(true).unchecked() && ncs::At(FIVE) == ncs::At(5) && ncs::At(5).number().is(5));
+
 ncs::Bytes bytes_of(const char *text, std::size_t len) {
     return {reinterpret_cast<const std::uint8_t *>(text), len};
 }
@@ -54,18 +73,18 @@ ncs::At at(const char *name) {
 void calls() {
     ncs::Box box = new_box();
     const auto sum = box.call(at("add"), 2, 3u);
-    CHECK(sum && sum.result<int>() == 5 && sum.how() == NCS_RETURNED && std::strcmp(sum.name(), "returned") == 0);
-    CHECK(box.call(at("add"), -7, 3).result<int>() == -4);
-    CHECK(box.call(at("add"), static_cast<signed char>(-1), true).result<bool>() == false);
-    CHECK(box.call(at("wide"), 0x0123456789ABCDEFull).result<unsigned long long>() == 0x0123456789ABCDEFull);
-    CHECK(box.call(at("wide"), -2ll).result<long long>() == -2);
+    CHECK(sum && sum.result<int>().is(5) && sum.how() == NCS_RETURNED && std::strcmp(sum.name(), "returned") == 0);
+    CHECK(box.call(at("add"), -7, 3).result<int>().is(-4));
+    CHECK(box.call(at("add"), static_cast<signed char>(-1), true).result<bool>().is(false));
+    CHECK(box.call(at("wide"), 0x0123456789ABCDEFull).result<unsigned long long>().is(0x0123456789ABCDEFull));
+    CHECK(box.call(at("wide"), -2ll).result<long long>().is(-2));
     CHECK(box.call(at("ninth"), 1, 2, 3, 4, 5, 6, 7, 8, at("add")).result<ncs::At>() == at("add"));
-    CHECK(box.call(at("nothing"), 1).how() == NCS_BAD_ENTRY && box.call(at("count")).result<int>() == 41);
+    CHECK(box.call(at("nothing"), 1).how() == NCS_BAD_ENTRY && box.call(at("count")).result<int>().is(41));
     const auto left = box.call(at("leave"), 9);
-    CHECK(!left && left.how() == NCS_EXITED && left.status() == 9 && left.place() == ncs::At(NCS_EXIT));
-    CHECK(box.call(at("count")).how() == NCS_DEAD && box.reset() && box.call(at("count")).result<int>() == 41);
+    CHECK(!left && left.how() == NCS_EXITED && left.status().is(9) && left.place() == ncs::At(NCS_EXIT));
+    CHECK(box.call(at("count")).how() == NCS_DEAD && box.reset() && box.call(at("count")).result<int>().is(41));
     const auto touched = box.call(at("touch"), 0x1234);
-    CHECK(touched.how() == NCS_FAULTED && touched.trap() == 14 && touched.data() == ncs::At(0x1234) && touched.result<int>() == 0);
+    CHECK(touched.how() == NCS_FAULTED && touched.trap() == 14 && touched.data() == ncs::At(0x1234) && touched.result<int>().is(0));
 }
 
 void memory() {
@@ -83,32 +102,58 @@ void memory() {
     CHECK(box.bytes(ncs::At(LIMITS.memory), 1).empty() && box.bytes(at("buffer"), std::size_t(1) << 32).empty());
     const std::vector<std::uint8_t> threes(256, 3);
     ncs::At in = box.put(threes);
-    CHECK(in && in != box.put(threes) && box.call(at("sum"), in, 256u).result<std::uint32_t>() == 768);
+    CHECK(in && in != box.put(threes) && box.call(at("sum"), in, 256u).result<std::uint32_t>().is(768));
     CHECK(box.take(1) && !box.take(LIMITS.memory) && !box.take(std::size_t(1) << 32));
 }
 
-unsigned twice(unsigned n) noexcept {
-    return 2 * n;
+// A structure as the code in the box has it.
+struct Header {
+    std::uint32_t kind;
+    std::uint16_t len;
+    std::uint8_t tag[2];
+};
+
+// The buffer begins with "first", then it has zeros.
+void words_of_memory() {
+    ncs::Box box = new_box();
+    const ncs::At buffer = at("buffer"), last(LIMITS.memory - 4);
+    CHECK(box.get<char>(buffer)->is('f') && box.get<unsigned short>(buffer + 1)->is(0x7269) && box.get<unsigned>(buffer)->is(0x73726966));
+    CHECK(box.get<unsigned long long>(buffer)->is(0x7473726966) && box.get<ncs::At>(buffer) == ncs::At(0x73726966));
+    CHECK(box.get<bool>(buffer)->is(true) && box.get<bool>(buffer + 5)->is(false) && box.get<Untrusted<int>>(buffer + 4)->is('t'));
+    CHECK(box.set(buffer + 8, "\xFE\xFF") && box.get<signed char>(buffer + 8)->is(-2) && box.get<short>(buffer + 8)->is(-2));
+    CHECK(box.get<int>(buffer + 8)->is(0xFFFE));
+    auto header = box.get<Header>(buffer);
+    CHECK(header && header->checked([](const Header &h) { return h.kind == 0x73726966 && h.len == 0x74 && h.tag[1] == 0; }));
+    CHECK(!header->checked([](Header h) { return h.len > 0x74; }) && header->unchecked().len == 0x74);
+    CHECK(box.get<int>(last) && !box.get<int>(last + 1) && !box.get<char>(last + 4));
+    CHECK(box.get<Header>(ncs::At(LIMITS.memory - 8)) && !box.get<Header>(last));
+}
+
+unsigned twice(Untrusted<unsigned> n) noexcept {
+    return 2 * n.unchecked();
 }
 
 void callbacks() {
     ncs::Box box = new_box();
     unsigned all = 0;
     auto owned = std::make_unique<unsigned>(100); // nobody can copy what the lambda has
-    ncs::At logs = box.callback([&all, owned = std::move(owned)](ncs::Caller &caller, unsigned n) mutable {
-        all += n;
+    ncs::At logs = box.callback([&all, owned = std::move(owned)](ncs::Caller &caller, Untrusted<unsigned> n) mutable {
+        all += n.unchecked();
         *owned += 1;
         return caller.call(at("add"), n, *owned).result<unsigned>();
     });
-    CHECK(logs == ncs::At(NCS_CALLBACK(0)) && box.call(at("logged"), 5).result<unsigned>() == 5 + 101 + 1);
-    CHECK(box.call(at("each"), 3, logs).result<unsigned>() == 3 + 2 + 1 + 102 + 103 + 104 && all == 5 + 6);
-    CHECK(box.call(at("each"), 3, box.callback(twice)).result<unsigned>() == 12);
-    CHECK(box.call(at("each"), 3, box.callback(std::function<unsigned(unsigned)>(twice))).result<unsigned>() == 12);
-    CHECK(box.call(at("each"), 3, box.callback([] {})).result<unsigned>() == 0);
-    CHECK(box.call(at("each"), 1, box.callback([](signed char c) { return c; })).result<int>() == 1);
+    CHECK(logs == ncs::At(NCS_CALLBACK(0)) && box.call(at("logged"), 5).result<unsigned>().is(5 + 101 + 1));
+    CHECK(box.call(at("each"), 3, logs).result<unsigned>().is(3 + 2 + 1 + 102 + 103 + 104) && all == 5 + 6);
+    CHECK(box.call(at("each"), 3, box.callback(twice)).result<unsigned>().is(12));
+    CHECK(box.call(at("each"), 3, box.callback(std::function<unsigned(Untrusted<unsigned>)>(twice))).result<unsigned>().is(12));
+    CHECK(box.call(at("each"), 3, box.callback([] {})).result<unsigned>().is(0));
+    CHECK(box.call(at("each"), 1, box.callback([](Untrusted<signed char> c) { return c; })).result<int>().is(1));
     unsigned long long seen = 0;
-    ncs::At wide = box.callback([&](unsigned long long first, ncs::At second) { seen = first + second.number(); return -1ll; });
-    CHECK(box.call(wide, 1).how() == NCS_BAD_ENTRY && box.call(at("each"), 1, wide).result<int>() == -1 && seen != 0);
+    ncs::At wide = box.callback([&](Untrusted<unsigned long long> first, ncs::At second) {
+        seen = first.unchecked() + second.number().unchecked();
+        return -1ll;
+    });
+    CHECK(box.call(wide, 1).how() == NCS_BAD_ENTRY && box.call(at("each"), 1, wide).result<int>().is(-1) && seen != 0);
     auto held = std::make_shared<int>(5);
     unsigned given = 6;
     for (; box.callback([held] { return *held; }); given++) {
@@ -131,26 +176,27 @@ void results_of_callbacks() {
     auto box = ncs::Box::make(module, LIMITS);
     long long result = -2;
     CHECK(box && box->callback([&] { return result; }));
-    CHECK(box->call(ncs::At(0x10000)).result<long long>() == -2);
+    CHECK(box->call(ncs::At(0x10000)).result<long long>().is(-2));
     result = 0x123456789ABCDE00;
     const auto end = box->call(ncs::At(0x10000));
-    CHECK(end.result<long long>() == result && end.result<unsigned>() == 0x9ABCDE00 && end.result<ncs::At>() == ncs::At(0x9ABCDE00));
-    CHECK(end.result<bool>() == false && end.result<short>() == -0x2200 && end.result<unsigned char>() == 0);
+    CHECK(end.result<long long>().is(result) && end.result<unsigned>().is(0x9ABCDE00) && end.result<ncs::At>() == ncs::At(0x9ABCDE00));
+    CHECK(end.result<bool>().is(false) && end.result<short>().is(-0x2200) && end.result<unsigned char>().is(0));
 }
 
 // A call-back that is called while it is under way.
 void within_itself() {
     ncs::Box box = new_box();
     unsigned deepest = 0;
-    ncs::At f = box.callback([&](ncs::Caller &caller, unsigned n) -> unsigned {
+    ncs::At f = box.callback([&](ncs::Caller &caller, Untrusted<unsigned> given) {
+        const unsigned n = given.unchecked();
         deepest = n > deepest ? n : deepest;
-        return n < 3 ? caller.call(at("logged"), n + 1).result<unsigned>() : n;
+        return n < 3 ? caller.call(at("logged"), n + 1).result<unsigned>() : given;
     });
-    CHECK(f && box.call(at("logged"), 0).result<unsigned>() == 3 + 4 && deepest == 3);
+    CHECK(f && box.call(at("logged"), 0).result<unsigned>().is(3 + 4) && deepest == 3);
     CHECK(box.callback([](ncs::Caller &caller) { caller.deny(); }) == ncs::At(NCS_CALLBACK(1)));
     const auto denied = box.call(at("each"), 3, ncs::At(NCS_CALLBACK(1)));
     CHECK(denied.how() == NCS_DENIED && denied.trap() == 0 && box.call(at("count")).how() == NCS_DEAD);
-    CHECK(box.reset() && box.call(at("logged"), 0).result<unsigned>() == 7);
+    CHECK(box.reset() && box.call(at("logged"), 0).result<unsigned>().is(7));
 }
 
 #ifdef __cpp_exceptions
@@ -165,16 +211,16 @@ std::string message_of(ncs::Box &box, const char *name, unsigned n) {
 void exceptions() {
     ncs::Box box = new_box();
     bool is_caught = false;
-    CHECK(box.callback([&](ncs::Caller &caller, unsigned n) -> unsigned {
-        if (n == 0) {
+    CHECK(box.callback([&](ncs::Caller &caller, Untrusted<unsigned> n) {
+        if (n.is(0)) {
             throw std::runtime_error("zero");
         }
         try {
-            return caller.call(at("logged"), n - 1).result<unsigned>();
+            return caller.call(at("logged"), n.unchecked() - 1).result<unsigned>();
         } catch (const std::runtime_error &) {
             CHECK(caller.call(at("count")).how() == NCS_DEAD);
             if (is_caught) {
-                return 0;
+                return n;
             }
             throw;
         }
@@ -183,15 +229,15 @@ void exceptions() {
     CHECK(box.reset() && message_of(box, "logged", 3) == "zero" && box.reset());
     is_caught = true;
     const auto end = box.call(at("logged"), 2);
-    CHECK(end.how() == NCS_DENIED && box.reset() && box.call(at("count")).result<int>() == 41);
+    CHECK(end.how() == NCS_DENIED && box.reset() && box.call(at("count")).result<int>().is(41));
     CHECK(message_of(box, "count", 0) == "returned");
 }
 
 // From a box through a call-back of another one.
 void exceptions_of_others() {
     ncs::Box outer = new_box(), inner = new_box();
-    CHECK(inner.callback([](unsigned) { throw std::runtime_error("inner"); }));
-    CHECK(outer.callback([&](unsigned n) { return inner.call(at("logged"), n).result<unsigned>(); }));
+    CHECK(inner.callback([](Untrusted<unsigned>) { throw std::runtime_error("inner"); }));
+    CHECK(outer.callback([&](Untrusted<unsigned> n) { return inner.call(at("logged"), n).result<unsigned>(); }));
     CHECK(message_of(outer, "logged", 1) == "inner");
     CHECK(inner.call(at("count")).how() == NCS_DEAD && outer.call(at("count")).how() == NCS_DEAD);
 }
@@ -204,25 +250,27 @@ void lives() {
     ncs::Box box = new_box(), other = std::move(box), none;
     CHECK(box.call(at("count")).how() == NCS_HOST && !box.reset() && !box.put("x") && !box.take(1) && !box.callback(twice)); // NOLINT
     CHECK(box.bytes(at("buffer"), 1).empty() && !box.text(at("buffer"), 1) && !box.set(at("buffer"), "x") && box.handle() == nullptr);
-    CHECK(!none.killer().kill() && !ncs::Killer().kill() && other.call(at("count")).result<int>() == 41);
+    CHECK(!box.get<int>(at("buffer")) && !box.get<Header>(at("buffer")));
+    CHECK(!none.killer().kill() && !ncs::Killer().kill() && other.call(at("count")).result<int>().is(41));
     int held = 0;
     auto count = std::shared_ptr<int>(&held, [](int *n) { ++*n; });
     CHECK(other.callback([count = std::move(count)] { return *count; }));
     other = new_box();
-    CHECK(held == 1 && other.call(at("count")).result<int>() == 41);
+    CHECK(held == 1 && other.call(at("count")).result<int>().is(41));
     ncs::Box moved;
-    CHECK(other.callback([&](ncs::Caller &caller, unsigned n) {
+    CHECK(other.callback([&](ncs::Caller &caller, Untrusted<unsigned> n) {
         moved = std::move(other);
         return caller.call(at("add"), n, 1).result<unsigned>();
     }));
-    CHECK(other.call(at("logged"), 1).result<unsigned>() == 3 && other.handle() == nullptr && moved.call(at("count")).result<int>() == 42);
+    CHECK(other.call(at("logged"), 1).result<unsigned>().is(3) && other.handle() == nullptr);
+    CHECK(moved.call(at("count")).result<int>().is(42));
     std::uint8_t add[32];
     std::memset(add, 0x90, sizeof add);
     std::memcpy(add, "\x8B\x44\x24\x04\x03\x44\x24\x08\x59\x83\xE1\xE0\xFF\xE1", 14);
     auto made = ncs::Module::code(add);
     auto small = ncs::Box::make(*made, LIMITS);
     *made = ncs::Module(); // its box keeps it
-    CHECK(small && small->call(ncs::At(0x10000), 7, 8).result<int>() == 15 && !made->symbol("add"));
+    CHECK(small && small->call(ncs::At(0x10000), 7, 8).result<int>().is(15) && !made->symbol("add"));
 }
 
 // A box that a call-back of its own lets go of stays as it is, for that call. The killer also shows it to a detector of leaks.
@@ -231,11 +279,11 @@ void left_behind() {
     auto box = std::make_unique<ncs::Box>(new_box());
     ncs::Box *same = box.get();
     killer = box->killer();
-    CHECK(box->callback([&](ncs::Caller &caller, unsigned n) {
+    CHECK(box->callback([&](ncs::Caller &caller, Untrusted<unsigned> n) {
         box.reset();
         return caller.call(at("add"), n, 1).result<unsigned>();
     }));
-    CHECK(same->call(at("logged"), 1).result<unsigned>() == 3 && box == nullptr && killer.kill());
+    CHECK(same->call(at("logged"), 1).result<unsigned>().is(3) && box == nullptr && killer.kill());
 }
 
 void names_of_places(const std::vector<char> &file) {
@@ -257,19 +305,19 @@ void live_code() {
     std::memset(code + 11, 0x90, NC_BUNDLE - 11);
     auto box = ncs::Box::make(*made, LIMITS);
     CHECK(box && box->call(start).how() == NCS_STOPPED && box->reset());
-    CHECK(made->create(start, code) && box->call(start).result<int>() == 5);
-    CHECK(made->patch(start, other) && box->call(start).result<int>() == 7);
-    CHECK(made->patch(start + 1, other).fault().number() == NCS_BAD_CHANGE && box->call(start).result<int>() == 7);
+    CHECK(made->create(start, code) && box->call(start).result<int>().is(5));
+    CHECK(made->patch(start, other) && box->call(start).result<int>().is(7));
+    CHECK(made->patch(start + 1, other).fault().number() == NCS_BAD_CHANGE && box->call(start).result<int>().is(7));
     CHECK(made->delete_chunk(start) && box->call(start).how() == NCS_STOPPED && box->reset());
     auto occupied = made->create(start, code);
     CHECK(occupied.fault().number() == NCS_BAD_CHANGE && occupied.fault().verdict().number() == NC_OCCUPIED);
-    CHECK(made->reclaim() == 1 && made->reclaim() == 0 && made->create(start, code) && box->call(start).result<int>() == 5);
+    CHECK(made->reclaim() == 1 && made->reclaim() == 0 && made->create(start, code) && box->call(start).result<int>().is(5));
     code[20] = 0xC3;
     auto refused = made->create(start + 64, code);
-    CHECK(refused.fault().number() == NCS_BAD_CODE && refused.fault().at() == start.number() + 64 + 20);
+    CHECK(refused.fault().number() == NCS_BAD_CODE && refused.fault().at() == 0x10000 + 64 + 20);
     CHECK(guest.delete_chunk(start).fault().number() == NCS_NOT_LIVE && guest.reclaim() == 0);
     *made = ncs::Module();
-    CHECK(made->delete_chunk(start).fault().number() == NCS_NOT_LIVE && box->call(start).result<int>() == 5);
+    CHECK(made->delete_chunk(start).fault().number() == NCS_NOT_LIVE && box->call(start).result<int>().is(5));
 }
 
 void refusals() {
@@ -289,7 +337,7 @@ void threads() {
     ncs::Box box = new_box(), brief = new_box(BRIEF);
     ncs::Killer killer = box.killer(), same = killer;
     std::thread spins([mine = std::move(box)]() mutable {
-        CHECK(mine.call(at("spin")).how() == NCS_KILLED && mine.reset() && mine.call(at("count")).result<int>() == 41);
+        CHECK(mine.call(at("spin")).how() == NCS_KILLED && mine.reset() && mine.call(at("count")).result<int>().is(41));
     });
     CHECK(brief.call(at("spin")).how() == NCS_LATE);
     CHECK(same.kill());
@@ -312,7 +360,7 @@ void children() {
     }
     int status = -1;
     CHECK(child > 0 && waitpid(child, &status, 0) == child && WIFEXITED(status) && WEXITSTATUS(status) == 0);
-    CHECK(box.call(at("count")).result<int>() == 41);
+    CHECK(box.call(at("count")).result<int>().is(41));
 }
 
 // A child builds a wall, and no second one. It can still read what is open.
@@ -344,8 +392,8 @@ int main(int argc, char **argv) {
     }
     guest = std::move(made).value();
     names_of_places(file);
-    for (auto test : {calls, memory, callbacks, results_of_callbacks, within_itself, exceptions, exceptions_of_others, lives, left_behind,
-                      live_code, refusals, threads, children, walls}) {
+    for (auto test : {calls, memory, words_of_memory, callbacks, results_of_callbacks, within_itself, exceptions, exceptions_of_others,
+                      lives, left_behind, live_code, refusals, threads, children, walls}) {
         test();
     }
     if (failures == 0) {
