@@ -1,16 +1,16 @@
 //! Unpacks runs of letters by a decoder that nobody has to trust: `unpack UNPACK.ELF`. It does what examples/boxes/host.c does.
 
-use nc_sandbox::{Access, At, End, Limits, Module, Sandbox};
+use nc_sandbox::{Access, At, End, Limits, Module, Sandbox, Untrusted};
 use std::error::Error;
 
 fn unpack(sandbox: &mut Sandbox, function: At, packed: &str) -> Result<(), Box<dyn Error>> {
     let (given, out) = (sandbox.put(packed.as_bytes())?, sandbox.take(64)?);
-    match sandbox.call::<u32>(function, (out, given, packed.len() as u32)) {
-        Ok(len) if len <= 64 => {
-            let text = sandbox.bytes(out, len as usize)?;
+    match sandbox.call::<Untrusted<u32>>(function, (out, given, packed.len() as u32)).map(|len| len.at_most(64)) {
+        Ok(Some(len)) => {
+            let text = sandbox.bytes(out, len)?;
             println!("{packed}: {}", String::from_utf8_lossy(text));
         }
-        Ok(len) => println!("{packed}: {len} bytes, which is untrue"),
+        Ok(None) => println!("{packed}: a length that is untrue"),
         Err(End::Faulted { trap, .. }) => println!("{packed}: faulted by interrupt {trap}"),
         Err(end) => println!("{packed}: {end}"),
     }

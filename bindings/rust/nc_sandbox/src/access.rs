@@ -35,7 +35,8 @@ pub(crate) mod sealed {
 /// }
 /// ```
 pub trait Access: sealed::Inside {
-    /// `ncs_call`: calls a function of the box with a tuple of arguments, such as `(at, 5u32)`, or with words.
+    /// `ncs_call`: calls a function of the box with a tuple of arguments, such as `(at, 5u32)`, or with words. It returns a number as an
+    /// [`Untrusted`](crate::Untrusted), an address as an [`At`], or nothing.
     ///
     /// If a call-back of this call panics, the call ends, and the panic is resumed here.
     fn call<R: Returned>(&mut self, function: At, args: impl Args) -> Result<R, End> {
@@ -52,7 +53,7 @@ pub trait Access: sealed::Inside {
         Ok(R::of(end.result, end.high))
     }
 
-    /// `ncs_at`: a range of the box's memory, to be read where it is.
+    /// `ncs_at`: a range of the box's memory, to be read where it is. The bytes are whatever the code has written.
     fn bytes(&self, at: At, len: usize) -> Result<&[u8], Refusal> {
         let data = range(self.shared(), at, len)?;
         // SAFETY: "Outside", as long as `self` is borrowed. All of the range is memory that can be read, and stays until the box is freed.
@@ -70,6 +71,14 @@ pub trait Access: sealed::Inside {
     fn get(&self, to: &mut [u8], at: At) -> Result<(), Refusal> {
         to.copy_from_slice(self.bytes(at, to.len())?);
         Ok(())
+    }
+
+    /// Reads an integer or an address of the box's memory, as `call` returns it. It makes the call `ncs_at`.
+    fn read<R: Returned>(&self, at: At) -> Result<R, Refusal> {
+        let mut word = [0; 8];
+        self.get(&mut word[..size_of::<R>()], at)?;
+        let bits = u64::from_le_bytes(word);
+        Ok(R::of(bits as u32, (bits >> 32) as u32))
     }
 
     /// Copies all of `from` into the box, as `ncs_set` does. It makes the call `ncs_at`.
@@ -94,7 +103,7 @@ pub trait Access: sealed::Inside {
         let taken = unsafe { ffi::ncs_take(self.shared().raw(), len) };
         match taken.at {
             0 => Err(Refusal::NoRoom),
-            at => Ok(At(at)),
+            at => Ok(At::new(at)),
         }
     }
 

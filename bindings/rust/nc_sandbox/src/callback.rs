@@ -3,7 +3,7 @@
 use crate::access::sealed::Inside;
 use crate::ffi::{self, NcsBox};
 use crate::shared::{locked, Shared};
-use crate::Access;
+use crate::{Access, Untrusted};
 use std::ffi::c_void;
 use std::fmt;
 use std::marker::PhantomData;
@@ -11,7 +11,8 @@ use std::panic::{catch_unwind, AssertUnwindSafe};
 use std::slice;
 use std::sync::{Arc, Mutex};
 
-type Function = Box<dyn FnMut(&mut Caller<'_>, &[u32]) -> u64 + Send>;
+/// A call-back, whose result goes to EDX and EAX.
+type Function = Box<dyn FnMut(&mut Caller<'_>, &[Untrusted<u32>]) -> u64 + Send>;
 
 /// The box whose code has called back, for as long as the call-back lasts. By [`Access`], the call-back may call it and read and write its
 /// memory.
@@ -64,7 +65,7 @@ impl Slot {
 
     /// Calls the function. While it is under way it is denied instead, since the code may call back as it likes and there is only one
     /// `&mut`. A panic is kept for the call that has called back, and ends that call.
-    fn answer(&self, args: &[u32]) -> u64 {
+    fn answer(&self, args: &[Untrusted<u32>]) -> u64 {
         let mut caller = Caller { shared: &self.shared, one_thread: PhantomData };
         let taken = locked(&self.function).take();
         let Some(mut function) = taken else {
@@ -89,7 +90,7 @@ impl Slot {
 pub(crate) unsafe extern "C" fn serve(_box: *mut NcsBox, user: *mut c_void, args: *const u32) -> u64 {
     // SAFETY: as above. A slot is only ever borrowed by `&`, also by calls within calls.
     let slot = unsafe { &*user.cast_const().cast::<Slot>() };
-    // SAFETY: as above. The library has copied the arguments to where nobody changes them during this call.
-    let args = unsafe { slice::from_raw_parts(args, slot.args) };
+    // SAFETY: as above. The library has copied the arguments to where nobody changes them during this call. An `Untrusted` is transparent.
+    let args = unsafe { slice::from_raw_parts(args.cast::<Untrusted<u32>>(), slot.args) };
     slot.answer(args)
 }

@@ -1,16 +1,17 @@
 //! Ends of calls.
 
 use crate::ffi::{self, NcsEnd};
-use crate::At;
+use crate::{At, Untrusted};
 use std::error::Error;
 use std::fmt;
 
 /// The end of a call that hasn't returned. `Stopped` and those down to `Denied` leave the box dead until [`Sandbox::reset`], and so do
-/// `BadEntry` and `Host` if something was entered. `place` is the address in the code at which the call ended.
+/// `BadEntry` and `Host` if something was entered. `place` is the address in the code at which the call ended. Since a status is untrusted,
+/// ends can't be compared, and `matches!` tells them apart.
 ///
 /// [`Sandbox::reset`]: crate::Sandbox::reset
 #[non_exhaustive]
-#[derive(Clone, Copy, Debug, PartialEq, Eq, Hash)]
+#[derive(Clone, Copy, Debug)]
 pub enum End {
     /// At a stop (`hlt`), which is also at each address without code.
     Stopped {
@@ -38,8 +39,8 @@ pub enum End {
     },
     /// The code called `NCS_EXIT`.
     Exited {
-        /// With this status.
-        status: u32,
+        /// With this status, which the code chooses.
+        status: Untrusted<u32>,
     },
     /// A call of the host where there is none, or arguments or a frame that aren't in the box's memory.
     BadCall {
@@ -73,14 +74,16 @@ pub enum End {
 impl End {
     /// `Ok` if the function has returned.
     pub(crate) fn check(end: &NcsEnd) -> Result<(), End> {
-        let place = At(end.place);
+        let place = At::new(end.place);
         Err(match end.how {
             ffi::NCS_RETURNED => return Ok(()),
             ffi::NCS_STOPPED => End::Stopped { place },
-            ffi::NCS_FAULTED => End::Faulted { place, trap: end.trap, data: (end.trap == 14).then_some(At(end.data)) },
+            ffi::NCS_FAULTED => {
+                End::Faulted { place, trap: end.trap, data: (end.trap == 14).then_some(At::new(end.data)) }
+            }
             ffi::NCS_LATE => End::Late { place },
             ffi::NCS_KILLED => End::Killed { place },
-            ffi::NCS_EXITED => End::Exited { status: end.status },
+            ffi::NCS_EXITED => End::Exited { status: Untrusted::new(end.status) },
             ffi::NCS_BAD_ENTRY => End::BadEntry { place },
             ffi::NCS_BAD_CALL => End::BadCall { place },
             ffi::NCS_DENIED => End::Denied { place },
@@ -103,8 +106,8 @@ impl fmt::Display for End {
             }
             End::Late { place } => write!(f, "late at {place}"),
             End::Killed { place } => write!(f, "killed at {place}"),
-            End::Exited { status } => write!(f, "exited with status {status}"),
-            End::BadEntry { place: At(0) } => f.write_str("bad entry"),
+            End::Exited { status } => write!(f, "exited with status {}", status.unchecked()), // any number can be printed
+            End::BadEntry { place } if place == At::new(0) => f.write_str("bad entry"),
             End::BadEntry { place } => write!(f, "bad entry at {place}"),
             End::BadCall { place } => write!(f, "bad call at {place}"),
             End::Denied { place } => write!(f, "denied at {place}"),

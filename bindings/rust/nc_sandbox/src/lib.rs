@@ -7,15 +7,19 @@
 //! it, and reads and writes its memory. Call-backs are closures, which get a [`Caller`] that can do the same. A [`Killer`] ends calls from
 //! other threads.
 //!
+//! What comes out of a box may be anything. A number is an [`Untrusted`], and gives its value only to a check. An address is an [`At`],
+//! which only calls of a box can follow. A range of bytes stays a slice of `u8`, since bytes mean nothing yet. What is made of them is judged
+//! where they are parsed.
+//!
 //! Types keep most of what the header asks of its caller. The rest stays with the host:
 //!
 //! - Its handlers of signals have `SA_ONSTACK`.
 //! - It leaves the library's own signals and alternate stacks alone.
 //! - It makes no call from a signal handler.
-//! - It judges what comes out of a box. Results, arguments of call-backs and bytes of a box's memory may be anything.
+//! - It judges what it makes of a box's bytes.
 //!
 //! ```
-//! use nc_sandbox::{Access, At, Limits, Module, Sandbox};
+//! use nc_sandbox::{Access, At, Limits, Module, Sandbox, Untrusted};
 //!
 //! /// mov eax, [esp + 4]; add eax, [esp + 8]; pop ecx; and ecx, -32; jmp ecx
 //! const ADD: [u8; 14] = [0x8B, 0x44, 0x24, 4, 0x03, 0x44, 0x24, 8, 0x59, 0x83, 0xE1, 0xE0, 0xFF, 0xE1];
@@ -25,8 +29,8 @@
 //! code[..ADD.len()].copy_from_slice(&ADD);
 //! let module = Module::code(&code)?;
 //! let mut sandbox = Sandbox::new(&module, Limits { memory: 2 << 20, depth: 1, milliseconds: 100 })?;
-//! let sum: u32 = sandbox.call(At(0x10000), (7u32, 8u32))?;
-//! assert_eq!(sum, 15);
+//! let sum: Untrusted<u32> = sandbox.call(At::new(0x10000), (7u32, 8u32))?;
+//! assert_eq!(sum.at_most(100), Some(15));
 //! # Ok(())
 //! # }
 //! ```
@@ -45,6 +49,7 @@ mod refusal;
 mod sandbox;
 mod shared;
 mod stack;
+mod untrusted;
 mod wall;
 mod words;
 
@@ -54,5 +59,6 @@ pub use end::End;
 pub use module::Module;
 pub use refusal::Refusal;
 pub use sandbox::{Killer, Limits, Sandbox};
+pub use untrusted::Untrusted;
 pub use wall::{Folder, Stands, Wall};
 pub use words::{Args, At, Returned, Word};

@@ -37,13 +37,13 @@ impl Module {
         let name = CString::new(name).ok()?;
         // SAFETY: the module is there as long as this value, and the name ends with a 0.
         let found = unsafe { ffi::ncs_symbol(self.handle.as_ptr(), name.as_ptr()) };
-        (found.at != 0).then_some(At(found.at))
+        (found.at != 0).then_some(At::new(found.at))
     }
 
     /// `ncs_entry`: the file's entry, or 00010000 for code alone. A file may name any number.
     pub fn entry(&self) -> At {
         // SAFETY: the module is there as long as this value.
-        At(unsafe { ffi::ncs_entry(self.handle.as_ptr()) }.at)
+        At::new(unsafe { ffi::ncs_entry(self.handle.as_ptr()) }.at)
     }
 
     /// `ncs_function_at`: the function of the file in which an address of the code lies, and its distance in bytes from the beginning.

@@ -64,7 +64,7 @@ impl Refusal {
         ptr::NonNull::new(call(&mut why)).ok_or_else(|| Refusal::of(why))
     }
 
-    /// `Ok` if a change was made, as its call says, or else its refusal. The call gets a place for the refusal.
+    /// `Ok` if a call has made what it was to make, or else its refusal. The call gets a place for the refusal.
     pub(crate) fn unless_made(call: impl FnOnce(*mut NcsRefusal) -> c_int) -> Result<(), Refusal> {
         let mut why = NcsRefusal { kind: ffi::NCS_OK, fault: 0, at: 0, sentence: ptr::null() };
         match call(&mut why) {
@@ -77,7 +77,7 @@ impl Refusal {
         let sentence = sentence(&why);
         match why.kind {
             ffi::NCS_BAD_FILE => Refusal::BadFile(sentence),
-            ffi::NCS_BAD_CODE => Refusal::BadCode { fault: why.fault, at: At(why.at), sentence },
+            ffi::NCS_BAD_CODE => Refusal::BadCode { fault: why.fault, at: At::new(why.at), sentence },
             ffi::NCS_BAD_LIMITS => Refusal::BadLimits(sentence),
             ffi::NCS_BAD_HANDLER => Refusal::BadHandler { signal: why.at },
             ffi::NCS_NO_MEMORY => Refusal::NoMemory(sentence),
@@ -100,7 +100,7 @@ fn sentence(why: &NcsRefusal) -> &'static str {
 impl fmt::Display for Refusal {
     fn fmt(&self, f: &mut fmt::Formatter<'_>) -> fmt::Result {
         match *self {
-            Refusal::BadCode { at: At(0), sentence, .. } => f.write_str(sentence),
+            Refusal::BadCode { at, sentence, .. } if at == At::new(0) => f.write_str(sentence),
             Refusal::BadCode { at, sentence, .. } => write!(f, "{sentence} ({at})"),
             Refusal::BadHandler { signal } => write!(f, "signal {signal} has a handler without SA_ONSTACK"),
             Refusal::NotLive => f.write_str("the code of this module never changes"),

@@ -4,7 +4,7 @@ use crate::access::sealed::Inside;
 use crate::callback::{serve, Slot};
 use crate::ffi::{self, NcsLimits};
 use crate::shared::Shared;
-use crate::{stack, Access, At, Caller, Module, Refusal};
+use crate::{stack, Access, At, Caller, Module, Refusal, Untrusted, Word};
 use std::cell::Cell;
 use std::fmt;
 use std::marker::PhantomData;
@@ -64,7 +64,7 @@ impl Sandbox {
     }
 
     /// `ncs_callback`: gives the box a call-back with so many 32-bit arguments, at most 12, and returns its address. The box keeps it until
-    /// it is dropped, also over a reset. Its result goes to EDX and EAX.
+    /// it is dropped, also over a reset. Its arguments are whatever the code passes. Its result, a [`Word`], goes to EDX and EAX.
     ///
     /// If it panics, the call of the code that has called back ends with [`End::Denied`](crate::End::Denied), and the panic is resumed from
     /// [`Access::call`]. It is denied a second call while it is under way, which the code of the box may try when the call-back calls it.
@@ -73,8 +73,8 @@ impl Sandbox {
     /// # use nc_sandbox::{Access, At, Refusal, Sandbox};
     /// fn gives(sandbox: &mut Sandbox) -> Result<At, Refusal> {
     ///     let mut seen = Vec::new();
-    ///     sandbox.callback(1, move |caller, args| {
-    ///         seen.extend(caller.text(At(args[0]), 80));
+    ///     sandbox.callback(2, move |caller, args| {
+    ///         seen.extend(caller.text(At::from(args[0]), args[1].at_most(80).unwrap_or(0)));
     ///         seen.len() as u64
     ///     })
     /// }
@@ -89,12 +89,14 @@ impl Sandbox {
     ///     let _ = sandbox.callback(0, move |_, _| *seen);
     /// }
     /// ```
-    pub fn callback<F>(&mut self, args: usize, function: F) -> Result<At, Refusal>
+    pub fn callback<F, R>(&mut self, args: usize, mut function: F) -> Result<At, Refusal>
     where
-        F: FnMut(&mut Caller<'_>, &[u32]) -> u64 + Send + 'static,
+        F: FnMut(&mut Caller<'_>, &[Untrusted<u32>]) -> R + Send + 'static,
+        R: Word,
     {
         let count = u32::try_from(args).map_err(|_| Refusal::NoCallback)?;
-        let slot = Slot::new(Arc::clone(&self.shared), args, Box::new(function));
+        let function = Box::new(move |caller: &mut Caller<'_>, args: &[Untrusted<u32>]| function(caller, args).bits());
+        let slot = Slot::new(Arc::clone(&self.shared), args, function);
         let user = Arc::as_ptr(&slot).cast_mut().cast();
         self.slots.push(slot);
         // SAFETY: "One thread". What `serve` asks for is kept: the slot stays in `slots` as long as the box can be called, which needs this
@@ -104,7 +106,7 @@ impl Sandbox {
             self.slots.pop();
             return Err(Refusal::NoCallback);
         }
-        Ok(At(given.at))
+        Ok(At::new(given.at))
     }
 
     /// `ncs_reset`: gives the box its first memory again, and revives it. Its call-backs stay. The reset takes back a kill that hasn't

@@ -1,13 +1,26 @@
 //! Addresses, and what a call takes and returns, as words of 32 bits.
 
 use crate::ffi::{NcsAt, NCS_ARGS_MAX};
+use crate::Untrusted;
 use std::fmt;
 
-/// An address of a box. It can't be followed: [`Access::bytes`](crate::Access::bytes) judges a range. 0 is never a good one.
+/// An address of a box, which the library judges at each use, as [`Access::bytes`](crate::Access::bytes) does. So it may be made of an
+/// untrusted number. 0 is never a good one.
+#[repr(transparent)]
 #[derive(Clone, Copy, Debug, Default, PartialEq, Eq, PartialOrd, Ord, Hash)]
-pub struct At(pub u32);
+pub struct At(u32);
 
 impl At {
+    /// The address with this number.
+    pub const fn new(number: u32) -> At {
+        At(number)
+    }
+
+    /// The number of the address. It is untrusted, since the address may have come out of a box.
+    pub const fn number(self) -> Untrusted<u32> {
+        Untrusted::new(self.0)
+    }
+
     /// The address so many bytes further. It wraps at 4 GiB, as addresses of a box do.
     pub const fn offset(self, bytes: u32) -> At {
         At(self.0.wrapping_add(bytes))
@@ -15,6 +28,12 @@ impl At {
 
     pub(crate) fn raw(self) -> NcsAt {
         NcsAt { at: self.0 }
+    }
+}
+
+impl From<Untrusted<u32>> for At {
+    fn from(number: Untrusted<u32>) -> At {
+        At(number.unchecked())
     }
 }
 
@@ -56,7 +75,7 @@ impl Words {
     }
 }
 
-/// Arguments of a call: a tuple of [`Word`]s, or words of 32 bits as they are. A call with more than 16 of them ends with
+/// Arguments of a call: a tuple of [`Word`]s, or words of 32 bits as they are, such as the arguments of a call-back. A call with more than 16 of them ends with
 /// [`End::Host`](crate::End::Host).
 pub trait Args: Sealed {
     #[doc(hidden)]
@@ -71,7 +90,22 @@ impl Args for &[u32] {
     }
 }
 
-/// A result of a call: a [`Word`], or nothing.
+impl Sealed for &[Untrusted<u32>] {}
+
+impl Args for &[Untrusted<u32>] {
+    fn lay(self, to: &mut Words) {
+        self.iter().for_each(|word| to.push(word.unchecked()));
+    }
+}
+
+/// What comes out of a box: an [`Untrusted`] [`Word`], an address, which is an [`At`], or nothing. A plain number doesn't:
+///
+/// ```compile_fail,E0277
+/// # use nc_sandbox::{Access, At, Sandbox};
+/// fn count(sandbox: &mut Sandbox, function: At) -> u32 {
+///     sandbox.call(function, ()).unwrap_or(0)
+/// }
+/// ```
 pub trait Returned: Sealed {
     #[doc(hidden)]
     fn of(low: u32, high: u32) -> Self;
@@ -81,30 +115,51 @@ impl Returned for () {
     fn of(_low: u32, _high: u32) {}
 }
 
-/// An integer, a truth value or an address, as C for i386 passes it. One of 64 bits is two words, the lower one first, and a shorter one is
-/// extended by its sign. `usize` isn't one, since `size_t` has 32 bits in a box:
+impl Returned for At {
+    fn of(low: u32, _high: u32) -> At {
+        At(low)
+    }
+}
+
+impl<T: Word> Returned for Untrusted<T> {
+    fn of(low: u32, high: u32) -> Untrusted<T> {
+        Untrusted::from_bits(u64::from(high) << 32 | u64::from(low))
+    }
+}
+
+/// What goes into a box: an integer, a truth value or an address, as C for i386 passes it, or an [`Untrusted`] one. One of 64 bits is two
+/// words, the lower one first, and a shorter one is extended by its sign. `usize` isn't one, since `size_t` has 32 bits in a box:
 ///
 /// ```compile_fail,E0277
 /// fn is_word<T: nc_sandbox::Word>() {}
 /// is_word::<usize>();
 /// ```
-pub trait Word: Returned {
+pub trait Word: Sealed + Copy {
     #[doc(hidden)]
     fn bits(self) -> u64;
     #[doc(hidden)]
+    fn from_bits(bits: u64) -> Self;
+    #[doc(hidden)]
     const COUNT: usize;
+}
+
+impl<T: Word> Sealed for Untrusted<T> {}
+
+impl<T: Word> Word for Untrusted<T> {
+    const COUNT: usize = T::COUNT;
+
+    fn bits(self) -> u64 {
+        self.unchecked().bits()
+    }
+
+    fn from_bits(bits: u64) -> Untrusted<T> {
+        Untrusted::new(T::from_bits(bits))
+    }
 }
 
 macro_rules! words {
     ($($of:ty: $count:literal, |$value:ident| $bits:expr, |$got:ident| $from:expr;)*) => {$(
         impl Sealed for $of {}
-
-        impl Returned for $of {
-            fn of(low: u32, high: u32) -> $of {
-                let $got = u64::from(high) << 32 | u64::from(low);
-                $from
-            }
-        }
 
         impl Word for $of {
             const COUNT: usize = $count;
@@ -112,6 +167,11 @@ macro_rules! words {
             fn bits(self) -> u64 {
                 let $value = self;
                 $bits
+            }
+
+            fn from_bits(bits: u64) -> $of {
+                let $got = bits;
+                $from
             }
         }
     )*};
