@@ -5,6 +5,7 @@ import os
 import re
 import shutil
 import subprocess
+import sys
 from typing import NamedTuple
 
 from examples import TOP
@@ -107,12 +108,47 @@ def try_misuses(name, jobs):
     return wrong
 
 
+def cxx_text(compiler, header, flags=()):
+    """A way to compile a text behind a header. The flags come first, so they may name a folder with another header of this name."""
+    words = [compiler, "-std=c++17", *flags, *WARN, "-x", "c++", "-fsyntax-only", "-"]
+    return lambda text: subprocess.run(words, input='#include "%s"\n%s\n' % (header, text), capture_output=True, text=True)
+
+
 def try_cxx_misuses(header, known, flags=()):
     """How many misuses of a header aren't refused by each compiler."""
-    def by(compiler):
-        words = [compiler, "-std=c++17", *WARN, *flags, "-x", "c++", "-fsyntax-only", "-"]
-        return lambda text: subprocess.run(words, input='#include "%s"\n%s\n' % (header, text), capture_output=True, text=True)
-    return try_misuses(header, [(by(compiler), misuse, compiler) for compiler in filter(shutil.which, COMPILERS) for misuse in known])
+    ways = [(compiler, cxx_text(compiler, header, flags)) for compiler in filter(shutil.which, COMPILERS)]
+    return try_misuses(header, [(way, misuse, compiler) for compiler, way in ways for misuse in known])
+
+
+def plant(fault, tree, folder):
+    """A copy of a tree with this fault in one of its files."""
+    made = os.path.join(folder, "-".join(["planted", os.path.basename(tree), fault.name]))
+    shutil.copytree(tree, made, ignore=shutil.ignore_patterns("target"))
+    path = os.path.join(made, fault.source)
+    with open(path, encoding="utf-8") as file:
+        right = file.read()
+    wrong = subprocess.run(["sed", "--", fault.edit], input=right, capture_output=True, text=True, check=True).stdout
+    if wrong == right:
+        sys.exit("faults.txt: %s changes nothing in %s" % (fault.name, fault.source))
+    with open(path, "w", encoding="utf-8") as file:
+        file.write(wrong)
+    return made
+
+
+def said_of_misuse(compile_text, known, name):
+    """The name of a misuse if it compiles, and otherwise what the compiler says."""
+    run = compile_text({misuse.name: misuse for misuse in known}[name].wrong())
+    return run.stderr if run.returncode else name
+
+
+def try_faults(name, known, said_of):
+    """How many faults aren't found. `said_of` plants one, and returns what its test then says, in which the fault's line has to be."""
+    with concurrent.futures.ThreadPoolExecutor(os.cpu_count()) as pool:
+        missed = [(fault, said) for fault, said in zip(known, pool.map(said_of, known)) if fault.line not in said]
+    for fault, said in missed:
+        print("%s with the fault %s: NOT FOUND by %s\n%s" % (name, fault.name, fault.test, said[:2000]))
+    print("%s: %d faults planted, %d not found" % (name, len(known), len(missed)))
+    return len(missed)
 
 
 def try_reach(of, to, pattern, what):
