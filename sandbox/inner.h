@@ -47,6 +47,7 @@ typedef struct Mask {
 struct Thread;
 int ncs_mask_in(struct Thread *thread);   /* whether the thread can go in now */
 void ncs_mask_out(struct Thread *thread); /* after each way out, before any code of the host's */
+void ncs_mask_end(struct Thread *thread); /* before the thread's memory is freed */
 void ncs_mask_set(uint64_t mask);
 int ncs_mask_is_kept(NcsRefusal *why); /* the promise, if this thread has made it */
 /* In handlers: whether signals of others wait for the thread to come out; the host's mask is on again at the handler's return, if another

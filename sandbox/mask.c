@@ -156,6 +156,14 @@ static void choose(Mask *m, uint32_t how) {
     m->how = how;
 }
 
+/* The system reads the selector as long as calls are dispatched. */
+void ncs_mask_end(Thread *t) {
+    if (claim(&t->mask)) {
+        ncs_mask_set(t->mask.hosts);
+    }
+    arm(&t->mask, 0);
+}
+
 int ncs_mask_is_kept(NcsRefusal *why) {
     return ncs_thread == NULL || ncs_thread->mask.how != NCS_SIGNALS_PROMISED || ncs_signals_promised(why);
 }

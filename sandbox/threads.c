@@ -135,6 +135,7 @@ int ncs_thread_watch(Thread *t) {
 static void thread_end(void *one) {
     Thread *t = one;
     ncs_calls_abandon(t);
+    ncs_mask_end(t);
     if (t->life == ncs_life()) {
         (void)timer_delete(t->timer);
     }
