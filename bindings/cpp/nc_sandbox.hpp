@@ -59,6 +59,56 @@ class Refusal {
 template <class T>
 using Result = nc::Result<T, Refusal>;
 
+/* ---- Signals */
+
+namespace detail {
+
+inline Result<void> choose_signals(std::uint32_t how) noexcept {
+    NcsRefusal why{};
+    return ncs_signals(how, &why) != 0 ? Refusal() : Refusal(why);
+}
+
+} // namespace detail
+
+/*
+ * NCS_SIGNALS_HELD for a scope, such as one around a run of calls. All signals but the library's own stay blocked in this thread, also in
+ * the host's own code and in call-backs. The thread keeps its alternate stack meanwhile. Scopes may be nested. The end of the outermost one
+ * is NCS_SIGNALS_BLOCKED, also after a promise. A scope that is refused changes nothing, and calls in it are as safe.
+ *
+ *     ncs::HeldSignals held;
+ *     for (ncs::At picture : pictures) {
+ *         show(box.call(draw, picture));
+ *     }
+ */
+class HeldSignals {
+  public:
+    [[nodiscard]] HeldSignals() noexcept : made_(scopes_ != 0 ? Refusal() : detail::choose_signals(NCS_SIGNALS_HELD)) { scopes_ += ok(); }
+    HeldSignals(const HeldSignals &) = delete;
+    HeldSignals &operator=(const HeldSignals &) = delete;
+    ~HeldSignals() {
+        if (ok() && --scopes_ == 0) {
+            (void)detail::choose_signals(NCS_SIGNALS_BLOCKED); /* if this is refused, they stay blocked */
+        }
+    }
+    static void *operator new(std::size_t) = delete; /* it ends in the thread in which it began */
+
+    bool ok() const noexcept { return made_.ok(); }
+    explicit operator bool() const noexcept { return ok(); }
+    [[nodiscard]] Refusal fault() const noexcept { return made_.fault(); }
+
+  private:
+    static inline thread_local unsigned scopes_ = 0; /* of this thread, without those that were refused */
+    Result<void> made_;
+};
+
+/* NCS_SIGNALS_PROMISED for this thread. Nothing is blocked. The host promises that each handler of the process has SA_ONSTACK at any time,
+   whoever installs it, and follows no register of its context, and that the thread keeps its alternate stack. While that is untrue, code in
+   a box can take over the process. The promise is refused with NCS_BAD_HANDLER while a handler lacks the flag. */
+inline Result<void> promise_flags() noexcept { return detail::choose_signals(NCS_SIGNALS_PROMISED); }
+
+/* NCS_SIGNALS_BLOCKED for this thread, which begins so. It takes a promise back. */
+inline Result<void> block_signals() noexcept { return detail::choose_signals(NCS_SIGNALS_BLOCKED); }
+
 /* ---- Ends */
 
 /* How a call ended. */

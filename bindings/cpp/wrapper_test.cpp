@@ -2,6 +2,7 @@
 // tools/try/box-bindings compiles and runs them.
 #include "nc_sandbox.hpp"
 
+#include <csignal>
 #include <cstdio>
 #include <cstdlib>
 #include <cstring>
@@ -36,6 +37,7 @@ static_assert(!std::is_copy_constructible_v<ncs::Module> && !std::is_copy_assign
 static_assert(!std::is_copy_constructible_v<ncs::Box> && !std::is_copy_assignable_v<ncs::Box>);
 static_assert(!std::is_move_constructible_v<ncs::Caller> && !std::is_move_constructible_v<ncs::Access>);
 static_assert(std::is_copy_constructible_v<ncs::Killer> && sizeof(ncs::At) == sizeof(NcsAt));
+static_assert(!std::is_move_constructible_v<ncs::HeldSignals> && !std::is_move_assignable_v<ncs::HeldSignals>);
 
 // Untrusted values convert to nothing and cost nothing.
 using ncs::Untrusted;
@@ -347,6 +349,47 @@ void threads() {
     CHECK(killer.kill() && brief.reset() && killer.kill() && brief.reset());
 }
 
+bool is_blocked(int sig) {
+    sigset_t now;
+    return pthread_sigmask(SIG_SETMASK, nullptr, &now) == 0 && sigismember(&now, sig) == 1;
+}
+
+bool handle(int sig, void (*handler)(int)) {
+    struct sigaction action = {};
+    action.sa_handler = handler;
+    return sigaction(sig, &action, nullptr) == 0;
+}
+
+// Scopes hold signals in their own thread. A thread that is started has the mask of the one that starts it.
+void held_signals() {
+    ncs::Box box = new_box();
+    {
+        ncs::HeldSignals held;
+        CHECK(held && held.fault().number() == NCS_OK && is_blocked(SIGUSR1) && !is_blocked(SIGSEGV) && !is_blocked(SIGRTMAX - 1));
+        CHECK(ncs::HeldSignals().ok());
+        CHECK(is_blocked(SIGUSR1) && box.call(at("count")).result<int>().is(41) && is_blocked(SIGUSR1));
+        std::thread([] {
+            sigset_t none;
+            CHECK(sigemptyset(&none) == 0 && pthread_sigmask(SIG_SETMASK, &none, nullptr) == 0 && !is_blocked(SIGUSR1));
+            CHECK(ncs::HeldSignals().ok() && is_blocked(SIGUSR1));
+            CHECK(!is_blocked(SIGUSR1));
+        }).join();
+        CHECK(is_blocked(SIGUSR1));
+    }
+    CHECK(!is_blocked(SIGUSR1));
+}
+
+// A promise is untrue while a handler lacks its flag, and goes with a scope.
+void promises() {
+    ncs::Box box = new_box();
+    CHECK(handle(SIGUSR2, [](int) {}));
+    const auto refused = ncs::promise_flags();
+    CHECK(!refused && refused.fault().number() == NCS_BAD_HANDLER && refused.fault().at() == SIGUSR2 && handle(SIGUSR2, SIG_DFL));
+    CHECK(ncs::promise_flags() && !is_blocked(SIGUSR1) && box.call(at("count")).result<int>().is(41) && ncs::block_signals());
+    CHECK(ncs::promise_flags() && ncs::HeldSignals().ok());
+    CHECK(!is_blocked(SIGUSR1) && box.call(at("count")).result<int>().is(42));
+}
+
 // In a forked child calls, resets and new boxes are refused, and values may go all the same.
 void children() {
     ncs::Box box = new_box();
@@ -393,7 +436,7 @@ int main(int argc, char **argv) {
     guest = std::move(made).value();
     names_of_places(file);
     for (auto test : {calls, memory, words_of_memory, callbacks, results_of_callbacks, within_itself, exceptions, exceptions_of_others,
-                      lives, left_behind, live_code, refusals, threads, children, walls}) {
+                      lives, left_behind, live_code, refusals, threads, held_signals, promises, children, walls}) {
         test();
     }
     if (failures == 0) {

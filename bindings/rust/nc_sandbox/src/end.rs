@@ -64,8 +64,9 @@ pub enum End {
     Dead,
     /// 255 calls of boxes of a live module are under way, and nothing was entered.
     Busy,
-    /// Too many arguments, a thread that can't be prepared or is about to end, or a forked child. Nothing was entered, unless a call-back
-    /// forked. A thread that has called a box is about to end once the destructors of its thread-local values run.
+    /// Too many arguments, a thread that can't be prepared, has lost its alternate stack or is about to end, a signal of the library's with
+    /// another handler, or a box of before a fork. Nothing was entered, unless one of these was found while the call was under way. A
+    /// thread that has called a box is about to end once the destructors of its thread-local values run.
     Host,
     /// A number that this crate doesn't know, from a newer library.
     Other(u32),

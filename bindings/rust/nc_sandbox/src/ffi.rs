@@ -13,6 +13,11 @@ pub const NCS_NO_MEMORY: u32 = 5;
 pub const NCS_BAD_SYSTEM: u32 = 6;
 pub const NCS_NOT_LIVE: u32 = 7;
 pub const NCS_BAD_CHANGE: u32 = 8;
+pub const NCS_LOST_HANDLER: u32 = 9;
+
+pub const NCS_SIGNALS_BLOCKED: u32 = 0;
+pub const NCS_SIGNALS_HELD: u32 = 1;
+pub const NCS_SIGNALS_PROMISED: u32 = 2;
 
 pub const NCS_LIVE_CALLS: u32 = 255;
 
@@ -135,6 +140,7 @@ extern "C" {
     pub fn ncs_reset(box_: *mut NcsBox) -> c_int;
     pub fn ncs_kill(box_: *mut NcsBox);
     pub fn ncs_free(box_: *mut NcsBox) -> c_int;
+    pub fn ncs_signals(how: u32, why: *mut NcsRefusal) -> c_int;
     pub fn ncs_how(how: u32) -> *const c_char;
     pub fn ncs_call(box_: *mut NcsBox, function: NcsAt, count: c_uint, args: *const u32) -> NcsEnd;
     pub fn ncs_callback(box_: *mut NcsBox, function: NcsCallback, user: *mut c_void, args: c_uint) -> NcsAt;

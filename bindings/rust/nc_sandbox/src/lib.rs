@@ -11,10 +11,10 @@
 //! which only calls of a box can follow. A range of bytes stays a slice of `u8`, since bytes mean nothing yet. What is made of them is judged
 //! where they are parsed.
 //!
-//! Types keep most of what the header asks of its caller. The rest stays with the host:
+//! Types keep most of what the header asks of its caller. Handlers of other crates may be as they like, since a thread that is inside gets
+//! no signal but the library's own, as [`signals`] says. The rest stays with the host:
 //!
-//! - Its handlers of signals have `SA_ONSTACK`.
-//! - It leaves the library's own signals and alternate stacks alone.
+//! - It leaves the library's own signals, alternate stacks and entries of the local descriptor table alone.
 //! - It makes no call from a signal handler.
 //! - It judges what it makes of a box's bytes.
 //!
@@ -48,6 +48,7 @@ mod module;
 mod refusal;
 mod sandbox;
 mod shared;
+pub mod signals;
 mod stack;
 mod untrusted;
 mod wall;

@@ -7,7 +7,8 @@ use std::ffi::{c_int, CStr};
 use std::fmt;
 use std::ptr;
 
-/// Why there is no module, no box, no change, no range or no room. Everything is as it was, unless it is [`Refusal::NotReset`].
+/// Why there is no module, no box, no change, no other way with signals, no range or no room. Everything is as it was, unless it is
+/// [`Refusal::NotReset`].
 #[non_exhaustive]
 #[derive(Clone, Copy, Debug, PartialEq, Eq, Hash)]
 pub enum Refusal {
@@ -24,14 +25,15 @@ pub enum Refusal {
     },
     /// A limit is 0 or too large, or there is less memory than the data needs.
     BadLimits(&'static str),
-    /// A signal has a handler without `SA_ONSTACK`.
+    /// The thread has promised that there is none, by [`promise_flags`](crate::signals::promise_flags), and a signal has a handler without
+    /// `SA_ONSTACK`.
     BadHandler {
         /// The number of the signal.
         signal: u32,
     },
     /// There is no memory, no room below 4 GiB, or no segment left.
     NoMemory(&'static str),
-    /// The system refuses what boxes need, or this is a forked child.
+    /// The system refuses what boxes need, or the module or process has forked. The sentence says what.
     BadSystem(&'static str),
     /// The module isn't one of [`Module::live`](crate::Module::live), so its code never changes.
     NotLive,
@@ -41,6 +43,11 @@ pub enum Refusal {
         fault: u32,
         /// The fault's sentence in `nc_host.h`.
         sentence: &'static str,
+    },
+    /// A signal of the library's has another handler by now.
+    LostHandler {
+        /// The number of the signal.
+        signal: u32,
     },
     /// A range isn't all the box's, or a text leaves the box.
     NotInBox {
@@ -84,6 +91,7 @@ impl Refusal {
             ffi::NCS_BAD_SYSTEM => Refusal::BadSystem(sentence),
             ffi::NCS_NOT_LIVE => Refusal::NotLive,
             ffi::NCS_BAD_CHANGE => Refusal::BadChange { fault: why.fault, sentence },
+            ffi::NCS_LOST_HANDLER => Refusal::LostHandler { signal: why.at },
             _ => Refusal::Other(sentence),
         }
     }
@@ -103,6 +111,7 @@ impl fmt::Display for Refusal {
             Refusal::BadCode { at, sentence, .. } if at == At::new(0) => f.write_str(sentence),
             Refusal::BadCode { at, sentence, .. } => write!(f, "{sentence} ({at})"),
             Refusal::BadHandler { signal } => write!(f, "signal {signal} has a handler without SA_ONSTACK"),
+            Refusal::LostHandler { signal } => write!(f, "signal {signal} of the library's has another handler by now"),
             Refusal::NotLive => f.write_str("the code of this module never changes"),
             Refusal::NotInBox { at } => write!(f, "what begins at {at} isn't all the box's"),
             Refusal::NoRoom => f.write_str("the heap of the box has no room for this"),

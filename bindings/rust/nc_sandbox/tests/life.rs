@@ -266,6 +266,8 @@ fn refusals() -> Outcome {
         assert_eq!(refused.to_string(), "no permitted instruction is at the address, within its bundle (00010005)");
         let refused = Sandbox::new(module, Limits { depth: 65, ..LIMITS }).expect_err("it is too deep");
         assert_eq!(refused, Refusal::BadLimits("the depth of calls isn't 1 to 64"));
+        let lost = Refusal::LostHandler { signal: 11 };
+        assert_eq!(lost.to_string(), "signal 11 of the library's has another handler by now");
         assert_eq!(Refusal::NotInBox { at: At::new(8) }.to_string(), "what begins at 00000008 isn't all the box's");
         let end = End::Faulted { place: At::new(0x10020), trap: 14, data: Some(At::new(8)) };
         assert_eq!(end.to_string(), "faulted by interrupt 14 at 00010020, data 00000008");
