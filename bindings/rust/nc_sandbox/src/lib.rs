@@ -8,8 +8,8 @@
 //! other threads.
 //!
 //! What comes out of a box may be anything. A number is an [`Untrusted`], and gives its value only to a check. An address is an [`At`],
-//! which only calls of a box can follow. A range of bytes stays a slice of `u8`, since bytes mean nothing yet. What is made of them is judged
-//! where they are parsed.
+//! which only calls of a box can follow. A range of bytes stays a slice of `u8`, since bytes mean nothing yet. What is made of them is
+//! judged where they are parsed.
 //!
 //! Types keep most of what the header asks of its caller. Handlers of other crates may be as they like, since a thread that is inside gets
 //! no signal but the library's own, as [`signals`] says. The rest stays with the host:

@@ -75,8 +75,8 @@ impl Words {
     }
 }
 
-/// Arguments of a call: a tuple of [`Word`]s, or words of 32 bits as they are, such as the arguments of a call-back. A call with more than 16 of them ends with
-/// [`End::Host`](crate::End::Host).
+/// Arguments of a call: a tuple of [`Word`]s, or words of 32 bits as they are, such as the arguments of a call-back. A call with more than
+/// 16 of them ends with [`End::Host`](crate::End::Host).
 pub trait Args: Sealed {
     #[doc(hidden)]
     fn lay(self, to: &mut Words);

@@ -1,6 +1,6 @@
 //! The second wall, around the process of this test. Where the system hasn't all of it, or no boxes, the test says so and ends.
 
-use nc_sandbox::{Access, At, Folder, Limits, Module, Refusal, Sandbox, Stands, Wall};
+use nc_sandbox::{Access, At, Folder, Limits, Module, Refusal, Sandbox, Stands, Untrusted, Wall};
 use std::error::Error;
 use std::fs::File;
 use std::io::ErrorKind;
@@ -13,9 +13,9 @@ const FCNTL: i32 = 72;
 /// mov eax, 7; pop ecx; and ecx, -32; jmp ecx
 const SEVEN: [u8; 11] = [0xB8, 7, 0, 0, 0, 0x59, 0x83, 0xE1, 0xE0, 0xFF, 0xE1];
 
-fn seven(module: &Module) -> Result<u32, Box<dyn Error>> {
+fn is_seven(module: &Module) -> Result<bool, Box<dyn Error>> {
     let mut sandbox = Sandbox::new(module, Limits { memory: 2 << 20, depth: 1, milliseconds: 100 })?;
-    Ok(sandbox.call(At(0x10000), ())?)
+    Ok(sandbox.call::<Untrusted<u32>>(At::new(0x10000), ())?.is(7))
 }
 
 #[test]
@@ -41,7 +41,7 @@ fn boxes_and_a_folder_behind_a_wall() -> Result<(), Box<dyn Error>> {
     assert!(matches!(wall.build(), Err(Refusal::BadSystem(_))));
     assert!(File::open(own).is_ok() && File::options().write(true).open(own).is_err());
     assert_eq!(File::open(outside).map_err(|error| error.kind()).err(), Some(ErrorKind::PermissionDenied));
-    assert_eq!(seven(&module)?, 7);
-    assert_eq!(thread::scope(|scope| scope.spawn(|| seven(&module).ok()).join().ok().flatten()), Some(7));
+    assert!(is_seven(&module)?);
+    assert_eq!(thread::scope(|scope| scope.spawn(|| is_seven(&module).ok()).join().ok().flatten()), Some(true));
     Ok(())
 }
