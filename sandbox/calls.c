@@ -110,23 +110,17 @@ static uint32_t refuses(NcsBox *b, const Thread *t) {
          : t->used >= t->deadline ? NCS_LATE : NCS_RETURNED;
 }
 
-/* Whether this thread's first instruction inside may be one that it has fetched before: of live code, or of a text that is new [18]. */
-static int has_to_serialize(const NcsBox *b, Thread *t) {
-    uint32_t texts = __atomic_load_n(&ncs_texts, __ATOMIC_SEQ_CST);
-    int has_to = b->module->live != NULL || texts != t->texts;
-    t->texts = texts;
-    return has_to;
-}
-
 /* Whether the thread has been inside. It has a seat just while it is, so a call-back holds no reclaim back, however long it takes. A thread
-   that signals of the host's wait for comes out for a moment, keeps its seat, and goes back to its instruction [17, 26]. */
+   that signals of the host's wait for comes out for a moment, keeps its seat, and goes back to its instruction [17, 26]. It serializes if
+   it may have fetched what it executes first before: in live code, or where a text is new [18]. */
 static int go_inside(NcsBox *b, Thread *t) {
+    uint32_t texts = __atomic_load_n(&ncs_texts, __ATOMIC_SEQ_CST);
     int was_inside = 0;
     t->box = b;
     t->code_selector = b->module->selector;
     t->data_selector = b->selector;
     t->flags = FLAGS;
-    t->serializes = has_to_serialize(b, t);
+    t->serializes = b->module->live != NULL || texts != t->texts;
     if (b->module->live != NULL) {
         ncs_seat_take(b->module->live, t);
     }
@@ -136,6 +130,7 @@ static int go_inside(NcsBox *b, Thread *t) {
             break;
         }
         ncs_switch_in(t);
+        t->texts = texts;
         ncs_mask_out(t);
         was_inside = 1;
         t->serializes = 1;
@@ -233,6 +228,7 @@ static __attribute__((noinline, no_sanitize_address)) NcsEnd call(NcsBox *b, Thr
     }
     if (ncs_thread_watch(t)) {
         uint64_t own = t->used + b->limits.milliseconds * MILLISECOND + 2 * TICK; /* the last tick may be that long ago */
+        t->begins = t->depth == 1;
         t->deadline = t->depth > 1 && c->deadline < own ? c->deadline : own;
         end = run(b, t);
     }

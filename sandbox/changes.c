@@ -73,7 +73,7 @@ static void wait_for_writer(Thread *t, unsigned turns) {
     if (turns < YIELDS) {
         (void)sched_yield();
     } else {
-        (void)nanosleep(&pause, NULL);
+        (void)syscall(SYS_clock_nanosleep, CLOCK_MONOTONIC, 0, &pause, NULL); /* nanosleep may cancel the thread */
     }
     ncs_thread_count(t);
 }

@@ -9,8 +9,6 @@
 
 static const int FAULTS[] = {SIGSEGV, SIGBUS, SIGILL, SIGFPE, SIGTRAP}; /* by which untrusted code can come out: all of them */
 #define FAULT_COUNT (sizeof FAULTS / sizeof *FAULTS)
-#define FIRST_OF_LIBC 32 /* pthread_cancel's; and behind it the one of setuid */
-#define LAST_OF_LIBC 33
 
 struct sigaction ncs_before[SIGNALS];
 static uint64_t own; /* the bits of this library's signals */
@@ -36,9 +34,13 @@ static int is_ours(int sig) {
     return action_of(sig, &action) && action.handler == (uintptr_t)ncs_handler && (action.flags & SA_ONSTACK);
 }
 
-/* SIGSYS may be the host's. */
+/* SIGSYS may become the host's. Then it isn't unblocked inside any more. */
 int ncs_signals_lost(void) {
+    KernelAction action;
     size_t i;
+    if ((own & SIGNAL_BIT(SIGSYS)) && action_of(SIGSYS, &action) && action.handler != (uintptr_t)ncs_handler) {
+        (void)__atomic_and_fetch(&own, ~SIGNAL_BIT(SIGSYS), __ATOMIC_SEQ_CST);
+    }
     for (i = 0; i < FAULT_COUNT; i++) {
         if (!is_ours(FAULTS[i])) {
             return FAULTS[i];
@@ -118,7 +120,7 @@ static int is_fault(int sig) {
 }
 
 /* The number of a signal whose handler lacks SA_ONSTACK; 0, or -1 if the system doesn't tell. Those of faults are this library's, or will
-   be. glibc hides its own two from sigaction, and handles them without the flag. So they get it. */
+   be. */
 static int bad_handler(void) {
     int sig;
     for (sig = 1; sig < SIGNALS; sig++) {
@@ -126,11 +128,7 @@ static int bad_handler(void) {
         if (!action_of(sig, &action)) {
             return -1;
         }
-        if (action.handler <= (uintptr_t)SIG_IGN || (action.flags & SA_ONSTACK) || is_fault(sig)) {
-            continue;
-        }
-        action.flags |= SA_ONSTACK;
-        if (sig < FIRST_OF_LIBC || sig > LAST_OF_LIBC || syscall(SYS_rt_sigaction, sig, &action, NULL, sizeof action.mask) != 0) {
+        if (action.handler > (uintptr_t)SIG_IGN && !(action.flags & SA_ONSTACK) && !is_fault(sig)) {
             return sig;
         }
     }
@@ -144,10 +142,12 @@ static void *wait_for_end(void *none) {
     return none;
 }
 
-/* glibc installs its two handlers with the process's first thread and its first cancellation. So these are made here, and the handlers are
-   there before they get the flag. The thread takes none of the host's signals. */
-static int bring_handlers_of_libc(void) {
+/* glibc hides its two handlers from sigaction, and installs them without SA_ONSTACK, with the process's first thread and its first
+   cancellation. So these are made here, and then the handlers get the flag. The thread takes none of the host's signals. */
+int ncs_signals_of_libc(void) {
     static int are_there; /* atomic */
+    KernelAction action;
+    int sig;
     sigset_t all, kept;
     pthread_t thread;
     int made;
@@ -159,12 +159,17 @@ static int bring_handlers_of_libc(void) {
     }
     made = pthread_create(&thread, NULL, wait_for_end, NULL) == 0;
     made = pthread_sigmask(SIG_SETMASK, &kept, NULL) == 0 && made && pthread_cancel(thread) == 0 && pthread_join(thread, NULL) == 0;
+    for (sig = FIRST_OF_LIBC; sig <= LAST_OF_LIBC && made; sig++) {
+        made = action_of(sig, &action);
+        action.flags |= SA_ONSTACK;
+        made = made && (action.handler <= (uintptr_t)SIG_IGN || syscall(SYS_rt_sigaction, sig, &action, NULL, sizeof action.mask) == 0);
+    }
     __atomic_store_n(&are_there, made, __ATOMIC_SEQ_CST);
     return made;
 }
 
 int ncs_signals_promised(NcsRefusal *why) {
-    int sig = bring_handlers_of_libc() ? bad_handler() : -1;
+    int sig = ncs_signals_of_libc() ? bad_handler() : -1;
     if (sig < 0) {
         ncs_refuse(why, NCS_BAD_SYSTEM, "the system doesn't tell which handlers there are");
         return 0;

@@ -50,8 +50,7 @@ void ncs_mask_out(struct Thread *thread); /* after each way out, before any code
 void ncs_mask_end(struct Thread *thread); /* before the thread's memory is freed */
 void ncs_mask_set(uint64_t mask);
 int ncs_mask_is_kept(NcsRefusal *why); /* the promise, if this thread has made it */
-/* In handlers: whether signals of others wait for the thread to come out; the host's mask is on again at the handler's return, if another
-   one has stayed on; and whether a SIGSYS was such a system call. */
+/* In handlers: whether signals of others wait; the host's mask is on again at the return; whether a SIGSYS was such a system call. */
 int ncs_mask_waits(const struct Thread *thread);
 void ncs_mask_take_back(struct Thread *thread, void *context);
 int ncs_mask_on_call(struct Thread *thread, const siginfo_t *info, void *context);
@@ -85,6 +84,7 @@ typedef struct Thread {
     NcsBox *volatile box;    /* of the innermost call */
     volatile unsigned depth;
     volatile int ticking;
+    int begins; /* a call that isn't within another one, until its first way in */
     timer_t timer;
     void *stack; /* the alternate stack that the library made, or NULL */
     size_t stack_len;
@@ -143,6 +143,8 @@ void ncs_threads_end(void);
 #define TICK (10 * MILLISECOND)
 #define SIGNALS 65
 #define SIGNAL_BIT(sig) (1ull << ((sig) - 1))
+#define FIRST_OF_LIBC 32 /* pthread_cancel's; and behind it the one of setuid */
+#define LAST_OF_LIBC 33
 
 extern struct sigaction ncs_before[SIGNALS]; /* what handled this library's signals before */
 
@@ -154,6 +156,7 @@ int ncs_signals_unblock(void);  /* those of this library, in this thread [24] */
 uint64_t ncs_signals_own(void); /* the bits of those that stay unblocked while a thread is inside */
 int ncs_signals_lost(void);     /* the number of a signal of this library that has another handler by now, or 0 */
 int ncs_signals_dispatch(void); /* whether SIGSYS is this library's now */
+int ncs_signals_of_libc(void);  /* whether glibc's own two handlers are there, and have SA_ONSTACK */
 int ncs_signals_promised(NcsRefusal *why); /* whether each handler has SA_ONSTACK [21] */
 
 /* ---- elf.c */

@@ -3,9 +3,8 @@
 
    It takes a system call to set a mask, and two for each way in and out would cost more than the way. So the mask may stay on after a way
    out, until the host's code makes its next system call. The system turns that into a SIGSYS first (syscall user dispatch, Linux 5.11). The
-   handler gives the host its mask back, and then the call is made. So no code of the host's can see the mask, and its signals wait no
-   longer than to the next tick. A SIGSYS costs as much as a few masks. So the mask stays on only after some ways out without one, and after
-   more of them each time if that didn't pay. */
+   handler gives the host its mask back, and then the call is made. So no code of the host's can see the mask, and signals wait no longer
+   than to the next tick. A SIGSYS costs as much as a few masks, so the mask stays on only after as many ways out as made that pay. */
 #define _GNU_SOURCE
 #include "inner.h"
 
@@ -27,9 +26,7 @@ enum { SET_DISPATCH = 59, DISPATCH_OFF = 0, DISPATCH_ON = 1, DISPATCHED_CALL = 2
 static int set_mask(const uint64_t *mask, uint64_t *old) {
     long made;
     register long len __asm__("r10") = sizeof *mask;
-    __asm__ volatile("syscall"
-                     : "=a"(made)
-                     : "a"(SYS_rt_sigprocmask), "D"(SIG_SETMASK), "S"(mask), "d"(old), "r"(len)
+    __asm__ volatile("syscall" : "=a"(made) : "0"((long)SYS_rt_sigprocmask), "D"(SIG_SETMASK), "S"(mask), "d"(old), "r"(len)
                      : "rcx", "r11", "memory");
     return made == 0;
 }
@@ -59,26 +56,28 @@ static int can_go(Mask *m, int stayed_on) {
     if ((looks || !stayed_on) && !ncs_thread_has_stack()) {
         return 0;
     }
-    if (!looks) {
-        return 1;
+    if (looks) {
+        m->entries = 0;
+        m->looks = 0;
+        looks = ncs_signals_lost() != 0;
+        m->looks |= looks;
     }
-    m->entries = 0;
-    m->looks = 0;
-    if (ncs_signals_lost() != 0) {
-        m->looks = 1;
-        return 0;
-    }
-    return 1;
+    return !looks;
 }
 
 /* A thread that can't go in has the host's mask. */
 int ncs_mask_in(Thread *t) {
     Mask *m = &t->mask;
+    uint64_t inside = ~ncs_signals_own(), used = t->used;
     int stayed_on = claim(m), blocks = m->how == NCS_SIGNALS_BLOCKED;
     if (blocks && !stayed_on) {
-        uint64_t inside = ~ncs_signals_own();
         ncs_must(set_mask(&inside, &m->hosts), "a thread can't have its mask");
+        if (t->begins && (m->hosts & SIGNAL_BIT(TICK_SIGNAL)) != 0) { /* ticks have waited since long before the call */
+            ncs_thread_count(t);
+            t->deadline += t->used - used;
+        }
     }
+    t->begins = 0;
     if (can_go(m, stayed_on || !blocks)) {
         return 1;
     }
@@ -90,7 +89,7 @@ int ncs_mask_in(Thread *t) {
 
 static int may_stay_on(Thread *t) {
     Mask *m = &t->mask;
-    if (++m->outs < KEEPS_AFTER << m->doubled || m->is_useless || t->why == OUT_SIGNALS) {
+    if (++m->outs < KEEPS_AFTER << m->doubled || m->is_useless || t->why == OUT_SIGNALS || t->why == OUT_LOST) {
         return 0;
     }
     if (!m->armed && ncs_signals_dispatch()) {
@@ -146,7 +145,7 @@ static void choose(Mask *m, uint32_t how) {
         ncs_mask_set(m->hosts);
     }
     if (how == NCS_SIGNALS_HELD) {
-        uint64_t held = ~ncs_signals_own();
+        uint64_t held = ~(ncs_signals_own() | SIGNAL_BIT(FIRST_OF_LIBC) | SIGNAL_BIT(LAST_OF_LIBC)); /* others wait for these */
         ncs_must(set_mask(&held, &m->hosts), "a thread can't have its mask");
     }
     if (how == NCS_SIGNALS_PROMISED) {
@@ -173,6 +172,10 @@ int ncs_signals(uint32_t how, NcsRefusal *why) {
     ncs_refuse(why, NCS_OK, "nothing is refused");
     if (how > NCS_SIGNALS_PROMISED) {
         ncs_refuse(why, NCS_BAD_LIMITS, "there is no such way to treat signals");
+        return 0;
+    }
+    if (how == NCS_SIGNALS_HELD && !ncs_signals_of_libc()) {
+        ncs_refuse(why, NCS_BAD_SYSTEM, "the C library's own signals can't be held");
         return 0;
     }
     if ((how == NCS_SIGNALS_PROMISED && !ncs_signals_promised(why)) || !ncs_prepare(why)) {

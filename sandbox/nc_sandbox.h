@@ -14,13 +14,15 @@
  *   Segments    Nobody else changes an entry of the local descriptor table (modify_ldt) that this library has made.
  *   Results     What comes out of a box is untrusted: results, arguments of call-backs, bytes of its memory. Read it once, and judge it.
  *   Call-backs  A call-back returns on the thread and the stack on which it was called, and makes its own calls there. One that returns
- *               elsewhere aborts the process. One that leaves by longjmp or by the end of its thread leaves the box dead.
+ *               elsewhere aborts the process. One that leaves by longjmp or by the end of its thread leaves the box dead. No exception
+ *               leaves it: nc_sandbox.hpp catches those of C++.
  *
  * Every call
  *   Threads     Any thread may call. One thread at a time is in a call of a box. A box or module is freed once, and isn't used after that.
  *               No call may be made from a signal handler. A thread makes no call once its thread-specific data was destroyed.
  *   Children    The child of fork() makes modules and boxes of its own. Those of before the fork are refused there, since their code and
- *               time limits stay with the parent. A child by clone or _Fork is refused everything. No child goes on inside a box.
+ *               time limits stay with the parent. A child by clone or _Fork is refused everything. No child goes on inside a box. A
+ *               signal handler doesn't fork while its thread is in a call of this library.
  *   Costs       A process has at most some 3,000 boxes and modules at once, and some 3 GB of memory for them.
  *               A module's text reaches from 0 to the end of its code, and all of it is written. A file whose code lies high can
  *               therefore take up to 64 MiB.
@@ -169,10 +171,10 @@ int ncs_free(NcsBox *box);
  *                         least every 10 ms of its processor time. Each thread begins so.
  *   NCS_SIGNALS_HELD      They stay blocked, in the host's own code and in call-backs too, until the thread makes another choice. Then its
  *                         earlier mask is on again. For runs of calls, and for threads that only call boxes. The thread keeps its alternate
- *                         stack meanwhile.
+ *                         stack meanwhile, and the library's signals unblocked. A thread that it starts has the same mask.
  *   NCS_SIGNALS_PROMISED  They aren't blocked. The host promises that each handler of the process has SA_ONSTACK at any time, whoever
- *                         installs it, and that the thread keeps its alternate stack. A handler then finds the untrusted code's registers
- *                         in its context: it follows none of them, and makes no call.
+ *                         installs it, and that the thread keeps its alternate stack, and the library's signals unblocked. A handler then
+ *                         finds the untrusted code's registers in its context. It follows none of them, and makes no call.
  *
  * A thread whose alternate stack is gone isn't let in under NCS_SIGNALS_BLOCKED. Under the other two a call is refused within 10 ms of
  * processor time, and the process ends at once if a signal comes before that.
@@ -271,10 +273,11 @@ NcsAt ncs_put(NcsBox *box, const void *from, uint32_t len);
 /*
  * The system builds it around the whole process, for code that has come out of a box by a fault of this library. ncs_wall gives up for good
  * what a process doesn't need that only runs boxes:
- *   Code     No memory becomes executable. A call that would make a module ends the process. Boxes are made, called, reset and freed as
- *            before, and live code is changed.
+ *   Code     No memory becomes executable. A call that would make a module ends the process, and so does a process's first ncs_signals
+ *            that isn't for NCS_SIGNALS_BLOCKED. Boxes are made, called, reset and freed as before, and live code is changed.
  *   Files    None is opened, except below the folders that the host names. A file that is open stays open. With a folder, the process can
- *            still find out whether other files are there, and how long they are.
+ *            still find out whether other files are there, and how long they are. A folder with a procfs in it gives root its own code
+ *            to write.
  *   Calls    A system call that isn't needed ends the process by SIGSYS, and calls no handler. The process makes no socket and no other
  *            process, executes no program, and signals nobody else. What stays is read, write, lseek, fstat, close, memory, locks, clocks,
  *            timers and its own signals. ioctl fails with ENOTTY. newfstatat, by which a C library may do fstat, fails with ENOSYS.

@@ -23,7 +23,8 @@ void ncs_must(int good, const char *what) {
 /* ---- Children */
 
 uint32_t ncs_life(void) {
-    return life_page != NULL ? *life_page : 0;
+    const volatile uint32_t *page = __atomic_load_n(&life_page, __ATOMIC_SEQ_CST);
+    return page != NULL ? *page : 0;
 }
 
 /* Nobody else holds the lock at a fork. The child goes on with a life of its own, in which modules and boxes of before aren't used. */
@@ -44,12 +45,16 @@ static void in_child(void) {
 
 static int see_forks(void) {
     static int sees;
-    sees = sees || pthread_atfork(before_fork, after_fork, in_child) == 0;
-    return sees;
+    return sees = sees || pthread_atfork(before_fork, after_fork, in_child) == 0;
 }
 
+/* The page stays, since threads look there without the lock. */
 static int make_life(void) {
-    void *page = mmap(NULL, PAGE, PROT_READ | PROT_WRITE, MAP_PRIVATE | MAP_ANONYMOUS, -1, 0);
+    void *page;
+    if (life_page != NULL) {
+        return 1;
+    }
+    page = mmap(NULL, PAGE, PROT_READ | PROT_WRITE, MAP_PRIVATE | MAP_ANONYMOUS, -1, 0);
     if (page == MAP_FAILED) {
         return 0;
     }
@@ -57,14 +62,9 @@ static int make_life(void) {
         (void)munmap(page, PAGE);
         return 0;
     }
-    life_page = page;
-    *life_page = ++life;
+    *(volatile uint32_t *)page = ++life;
+    __atomic_store_n(&life_page, page, __ATOMIC_SEQ_CST);
     return 1;
-}
-
-static void end_life(void) {
-    (void)munmap((void *)(uintptr_t)life_page, PAGE);
-    life_page = NULL;
 }
 
 /* ---- The landing page */
@@ -123,7 +123,7 @@ static const struct Step {
     {check_version, NULL, NCS_BAD_SYSTEM, "nc_host is of another version"},
     {ncs_segments_begin, NULL, NCS_BAD_SYSTEM, "the system makes no segments (modify_ldt)"},
     {make_landing, end_landing, NCS_NO_MEMORY, "there is no room below 4 GiB"},
-    {make_life, end_life, NCS_BAD_SYSTEM, "the system has no memory that it wipes in a child (MADV_WIPEONFORK)"},
+    {make_life, NULL, NCS_BAD_SYSTEM, "the system has no memory that it wipes in a child (MADV_WIPEONFORK)"},
     {see_forks, NULL, NCS_BAD_SYSTEM, "the system refuses what boxes need"},
     {ncs_threads_begin, ncs_threads_end, NCS_BAD_SYSTEM, "the system refuses what boxes need"},
     {stay_loaded, NULL, NCS_BAD_SYSTEM, ""},
@@ -176,7 +176,7 @@ static int has_handlers(NcsRefusal *why) {
 }
 
 int ncs_may_begin(NcsRefusal *why) {
-    int may = life_page == NULL || *life_page != 0;
+    int may = __atomic_load_n(&life_page, __ATOMIC_SEQ_CST) == NULL || ncs_life() != 0;
     ncs_refuse(why, may ? NCS_OK : NCS_BAD_SYSTEM, may ? "nothing is refused" : "this is a child that was made without fork()");
     return may;
 }

@@ -28,7 +28,7 @@ static uint8_t table[LDT_ENTRIES * LDT_ENTRY_SIZE]; /* the local table, as the s
 
 /* Reads the entries up to `last`. Those that were never made read as 0. */
 static int read_table(unsigned last) {
-    return syscall(SYS_modify_ldt, 0, table, (size_t)(last + 1) * LDT_ENTRY_SIZE) >= 0;
+    return (int)syscall(SYS_modify_ldt, 0, table, (size_t)(last + 1) * LDT_ENTRY_SIZE) >= 0; /* an error has 32 bits */
 }
 
 static int is_free(unsigned k) {

@@ -394,21 +394,6 @@ static void try_memory(void) {
     puts("want of memory");
 }
 
-/* ---- A thread whose time is over waits for no change, since the writer may never get this processor. */
-
-static void try_waiting(void) {
-    NcsModule *m = codes_module(BUNDLES);
-    NcsBox *box = codes_box(m, SHORT);
-    Thread late = {.used = UINT64_MAX, .deadline = 5, .box = box};
-    CHECK(codes_create_number(m, HERE, 5));
-    m->live->changes++; /* a writer has begun */
-    CHECK(ncs_live_meet(m->live, &late, HERE) == MET_NOTHING && late.met_stops == 0);
-    m->live->changes++;
-    CHECK(codes_returns(box, HERE, 5));
-    codes_end(m, box);
-    puts("a change that lasts");
-}
-
 int main(void) {
     (void)setvbuf(stdout, NULL, _IOLBF, 0);
     try_order();
@@ -417,7 +402,6 @@ int main(void) {
     try_refusals();
     try_system();
     try_memory();
-    try_waiting();
     printf("%u wrong\n", testing_wrong);
     return testing_wrong != 0;
 }

@@ -15,7 +15,6 @@
 #include <unistd.h>
 
 #define MANY 20u /* calls */
-
 enum { GRANTED, REFUSED, WRONG };
 
 typedef struct Request {

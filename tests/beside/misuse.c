@@ -125,6 +125,19 @@ static void try_endings(void) {
     puts("threads that end in call-backs of live code");
 }
 
+/* A thread whose time is over waits for no change, since the writer may never get this processor. */
+static void try_waiting(void) {
+    NcsModule *live = ncs_module_live(ASIDES_LEN / 32, NULL);
+    NcsBox *box = asides_box(live, LONG);
+    Thread late = {.used = UINT64_MAX, .deadline = 5, .box = box};
+    live->live->changes++; /* a writer has begun */
+    CHECK(ncs_live_meet(live->live, &late, CODE_AT) == MET_NOTHING && late.met_stops == 0);
+    live->live->changes++;
+    CHECK(ncs_free(box));
+    ncs_module_free(live);
+    puts("a change that lasts");
+}
+
 static ucontext_t fiber, first, second;
 static char fiber_stack[1 << 18];
 static int is_second;
@@ -504,6 +517,7 @@ int main(void) {
     try_jump();
     try_end();
     try_endings();
+    try_waiting();
     try_outer_kill();
     try_fork();
     try_clone();

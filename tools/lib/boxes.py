@@ -85,7 +85,7 @@ def has_sanitizers(folder, flags=()):
 
 def plant(fault, folder, library, flags=()):
     """The objects of the library with this fault."""
-    source = os.path.join(SANDBOX, fault.source)
+    source = os.path.normpath(os.path.join(SANDBOX, fault.source))
     planted = os.path.join(folder, "planted-%s%s" % (fault.name, os.path.splitext(source)[1]))
     text = subprocess.run(["sed", "--", fault.edit, source], capture_output=True, text=True, check=True).stdout
     with open(source, encoding="utf-8") as file:
