@@ -16,7 +16,7 @@
 #define LOW_BEGIN 0x20000000u  /* above what a host that isn't position-independent has below 4 GiB */
 #define LOW_END 0xF0000000u
 #define SHIFT_MOST (192u << 20) /* by chance, in pages; so much isn't used where three boxes of 1 GiB fit */
-#define PIECE (16u << 20)       /* that is given back at once: the system holds a lock of the process meanwhile */
+#define PIECE (64u << 20)       /* that is given back at once: the system holds a lock of the process meanwhile */
 #define SELECTOR(entry) ((entry) << 3 | 7u) /* of the local table, for user code */
 
 pthread_mutex_t ncs_lock = PTHREAD_MUTEX_INITIALIZER;

@@ -14,6 +14,7 @@
 #include <sys/mman.h>
 #include <sys/syscall.h>
 #include <sys/wait.h>
+#include <time.h>
 #include <unistd.h>
 
 #define LONG 100000u /* milliseconds */
@@ -388,6 +389,118 @@ static int block_and_promise(void) {
     return testing_wrong != 0;
 }
 
+/* ---- What handlers of the host's do while a thread is inside */
+
+static NcsBox *one_box;
+static pthread_key_t behind;
+static int is_looping;
+
+/* Another library's destructor takes memory that was just freed, and makes a system call. */
+static void fill_memory(void *none) {
+    size_t len;
+    (void)none;
+    for (len = 1024; len < 8192; len += 64) {
+        void *taken = malloc(len);
+        CHECK(taken != NULL && memset(taken, 0xFF, len) == taken);
+    }
+    (void)usleep(1);
+}
+
+static void end_thread(int sig) {
+    (void)sig;
+    pthread_exit(NULL);
+}
+
+static void *loop(void *none) {
+    CHECK(asides_call(one_box, RETURNS, 0).how == NCS_RETURNED && pthread_setspecific(behind, &behind) == 0);
+    call_often(one_box, NCS_RETURNED);
+    __atomic_store_n(&is_looping, 1, __ATOMIC_SEQ_CST);
+    (void)asides_call(one_box, LOOPS, 0);
+    return none;
+}
+
+static int end_in_handler(void) {
+    pthread_t thread;
+    one_box = asides_box(asides_module(), LONG);
+    CHECK(asides_call(one_box, RETURNS, 0).how == NCS_RETURNED); /* its key is before this one */
+    CHECK(pthread_key_create(&behind, fill_memory) == 0);
+    handle(SIGUSR1, end_thread, 0, 0);
+    CHECK(pthread_create(&thread, NULL, loop, NULL) == 0);
+    while (!__atomic_load_n(&is_looping, __ATOMIC_SEQ_CST)) {
+        (void)usleep(1000);
+    }
+    CHECK(usleep(20000) == 0 && pthread_kill(thread, SIGUSR1) == 0 && pthread_join(thread, NULL) == 0);
+    CHECK(asides_call(one_box, RETURNS, 0).how == NCS_DEAD);
+    return testing_wrong != 0;
+}
+
+static volatile pid_t forked = -1;
+
+static void fork_here(int sig) {
+    (void)sig;
+    forked = fork();
+}
+
+/* The child has none of the code, and the host's mask. */
+static int fork_in_handler(void) {
+    uint64_t before = mask_now();
+    int status = -1;
+    NcsEnd end;
+    one_box = asides_box(asides_module(), 500);
+    handle(SIGALRM, fork_here, 0, 0);
+    (void)ualarm(200000, 0);
+    call_often(one_box, NCS_RETURNED); /* and no system call from here on */
+    end = asides_call(one_box, LOOPS, 0);
+    if (forked == 0) {
+        _exit(end.how != NCS_HOST || mask_now() != before);
+    }
+    CHECK(end.how == NCS_LATE && waitpid(forked, &status, 0) == forked && status == 0);
+    return testing_wrong != 0;
+}
+
+/* ---- What the host blocks */
+
+static uint64_t own_time(void) {
+    struct timespec now = {0, 0};
+    CHECK(clock_gettime(CLOCK_THREAD_CPUTIME_ID, &now) == 0);
+    return (uint64_t)now.tv_sec * 1000 + (uint64_t)now.tv_nsec / 1000000;
+}
+
+/* A tick that has waited since before the call takes none of its time. */
+static int block_ticks(void) {
+    NcsBox *box = asides_box(asides_module(), 200);
+    uint64_t all = ~0ull, begun;
+    CHECK(asides_call(box, RETURNS, 0).how == NCS_RETURNED);
+    CHECK(syscall(SYS_rt_sigprocmask, SIG_SETMASK, &all, NULL, sizeof all) == 0);
+    for (begun = own_time(); own_time() < begun + 400;) {
+    }
+    begun = own_time();
+    CHECK(asides_call(box, LOOPS, 0).how == NCS_LATE && own_time() >= begun + 200);
+    return testing_wrong != 0;
+}
+
+static void *hold_and_wait(void *none) {
+    CHECK(ncs_signals(NCS_SIGNALS_HELD, NULL));
+    __atomic_store_n(&is_looping, 1, __ATOMIC_SEQ_CST);
+    for (;;) {
+        (void)pause();
+    }
+    return none;
+}
+
+/* glibc asks each thread by a signal of its own. */
+static int change_user(void) {
+    pthread_t thread;
+    (void)asides_module();
+    CHECK(pthread_create(&thread, NULL, hold_and_wait, NULL) == 0);
+    while (!__atomic_load_n(&is_looping, __ATOMIC_SEQ_CST)) {
+        (void)usleep(1000);
+    }
+    (void)alarm(20);
+    CHECK(setresuid((uid_t)-1, (uid_t)-1, (uid_t)-1) == 0);
+    return testing_wrong != 0;
+}
+
 /* ---- What the host had before */
 
 static volatile sig_atomic_t reports, was_blocked, usr2_waited;
@@ -495,6 +608,10 @@ static const struct {
     {"a promise where all is blocked", block_and_promise, 0},
     {"a promise that isn't kept", lose_promised_stack, 134},
     {"a loop that a signal ends", loop_in_child, 1000 + SIGALRM},
+    {"a handler that ends its thread", end_in_handler, 0},
+    {"a handler that forks", fork_in_handler, 0},
+    {"a host that blocks ticks", block_ticks, 0},
+    {"another user beside held signals", change_user, 0},
 };
 
 int main(void) {
