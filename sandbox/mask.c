@@ -16,9 +16,8 @@
 
 /* Older headers lack these. */
 enum { SET_DISPATCH = 59, DISPATCH_OFF = 0, DISPATCH_ON = 1, DISPATCHED_CALL = 2 }; /* of prctl; the last is an si_code */
-#define KEEPS_AFTER 8u   /* ways out, at first */
+#define KEEPS_AFTER 8u   /* ways out, at first; as many behind them make a SIGSYS pay */
 #define DOUBLED_MOST 8u  /* so often, where it doesn't pay */
-#define PAYS 8u          /* ways out behind these, by which a SIGSYS pays */
 #define LOOKS_EACH 4096u /* ways in, even if no tick comes */
 #define CALL_LEN 2       /* bytes of the instruction of a system call */
 
@@ -132,7 +131,7 @@ int ncs_mask_on_call(Thread *t, const siginfo_t *info, void *context) {
     }
     m = &t->mask;
     ncs_mask_take_back(t, context);
-    m->doubled = m->outs >= (KEEPS_AFTER << m->doubled) + PAYS ? 0 : m->doubled < DOUBLED_MOST ? m->doubled + 1 : m->doubled;
+    m->doubled = m->outs >= (KEEPS_AFTER << m->doubled) + KEEPS_AFTER ? 0 : m->doubled < DOUBLED_MOST ? m->doubled + 1 : m->doubled;
     m->outs = 0;
     ((ucontext_t *)context)->uc_mcontext.gregs[REG_RIP] -= CALL_LEN;
     return 1;

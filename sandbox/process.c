@@ -101,6 +101,7 @@ static void end_landing(void) {
 static int check_version(void) {
     return nc_host_version() == NC_VERSION;
 }
+
 /* The handlers stay, so a shared library that contains this one does. A program without dlopen unloads none. */
 #pragma weak dlopen
 #pragma weak dladdr
