@@ -163,8 +163,9 @@ CALLS = {
     "paths": [WRITABLE, *[a_call(OPEN, at) for at in (LONG_PATH, 0, ALL, LAST_BYTE, END)]],
     "others": [WRITABLE, *[a_call(CLOCK, clock) for clock in (0, 1, 2, 3, ALL)], a_call(MEMORY), a_call(EXIT, 7)],
     "the kernel's": [OF_KERNEL, *opens("read", ["mem"], ["fd", "."], ["cwd", "mem"], ["file"]), *opens("both", ["mem"], ["root", "file"])],
-    "a limit": [WRITABLE, a_path(0, "made"), an_open(0, "both create"), *[a_call(WRITE, 3, buffer(0), MANY) + a_call(SEEK, 3)] * 20,
-                a_call(WRITE, 3, FIRST, ALL)],
+    "a limit": [WRITABLE, a_path(0, "made"), an_open(0, "both create"), a_call(WRITE, 3, buffer(0), MANY) * 40],
+    "a limit, with seeks": [WRITABLE, a_path(0, "made"), an_open(0, "both create"),
+                            (a_call(WRITE, 3, buffer(0), MANY) + a_call(SEEK, 3)) * 20, a_call(WRITE, 3, FIRST, ALL)],
     "anywhere": [WRITABLE, a_call(ANYWHERE, extra=0x10000)],
 }
 
