@@ -380,10 +380,11 @@ static int promise_in_child(void) {
     return testing_wrong != 0;
 }
 
-/* The thread was begun with all signals blocked. */
+/* The thread has blocked all signals since its first call. */
 static int block_and_promise(void) {
     NcsBox *box = asides_box(asides_module(), 20);
     uint64_t all = ~0ull;
+    CHECK(asides_call(box, RETURNS, 0).how == NCS_RETURNED);
     CHECK(syscall(SYS_rt_sigprocmask, SIG_SETMASK, &all, NULL, sizeof all) == 0 && ncs_signals(NCS_SIGNALS_PROMISED, NULL));
     CHECK(asides_call(box, LOOPS, 0).how == NCS_LATE && ncs_reset(box) && asides_call(box, FAULTS, 0).how == NCS_FAULTED);
     return testing_wrong != 0;
