@@ -497,38 +497,41 @@ static const struct {
     {"a child on top of untrusted code", fork_above, 0},
 };
 
-int main(void) {
+static void (*const ROWS[])(void) = {
+    try_jump, try_end, try_endings, try_waiting, try_outer_kill, try_fork, try_clone, try_fork_inside, try_destructors, try_table,
+    try_landing, try_guard, try_locked, try_copy, try_symbols,
+};
+
+/* Whether the system has boxes. */
+static int try_children(void) {
     size_t k;
-    (void)setvbuf(stdout, NULL, _IOLBF, 0);
-    for (k = 0; k < sizeof CHILDREN / sizeof *CHILDREN; k++) {
-        int end = asides_child(CHILDREN[k].row);
-        if (end == SKIPPED) {
-            puts("skipped: misuse of boxes: the system has no boxes");
-            return SKIPPED;
+    for (k = 0; k < sizeof CHILDREN / sizeof *CHILDREN && testing_wrong == 0; k++) {
+        int ended = asides_child(CHILDREN[k].row);
+        if (ended == SKIPPED) {
+            return 0;
         }
-        if (end != CHILDREN[k].ends) {
-            printf("WRONG: ended with %d\n", end);
+        if (ended != CHILDREN[k].ends) {
+            printf("WRONG: ended with %d\n", ended);
             testing_wrong++;
         }
         puts(CHILDREN[k].name);
     }
+    return 1;
+}
+
+/* What is wrong in one row may keep the next ones waiting, so nothing follows it. */
+int main(void) {
+    size_t k;
+    (void)setvbuf(stdout, NULL, _IOLBF, 0);
+    if (!try_children()) {
+        puts("skipped: misuse of boxes: the system has no boxes");
+        return SKIPPED;
+    }
     try_places();
     module = asides_module();
-    try_jump();
-    try_end();
-    try_endings();
-    try_waiting();
-    try_outer_kill();
-    try_fork();
-    try_clone();
-    try_fork_inside();
-    try_destructors();
-    try_table();
-    try_landing();
-    try_guard();
-    try_locked();
-    try_copy();
-    try_symbols();
+    for (k = 0; k < sizeof ROWS / sizeof *ROWS && testing_wrong == 0; k++) {
+        ROWS[k]();
+    }
     ncs_module_free(module);
     printf("%u wrong\n", testing_wrong);
     return testing_wrong != 0;
