@@ -94,7 +94,7 @@ static void try_going_on(void) {
     unsigned k;
     asides_begin(&a);
     handled = 0;
-    for (k = 1; k <= 20; k++) {
+    for (k = 1; k <= 20 && testing_wrong == 0; k++) {
         uint32_t before;
         CHECK(pthread_kill(a.thread, SIGUSR1) == 0 && wait_for(k));
         before = *count;
