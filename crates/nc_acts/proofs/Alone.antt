@@ -7,9 +7,8 @@ use Rattle.nc_decode.specs.declared.instruction.Mark.TheVariants.{Unmarked}
 use Rattle.nc_text.specs.Places.{InRegion, limit_of}
 use Rattle.nc_text.specs.Marks.{mark_at}
 use Rattle.nc_text.specs.MarkedText.{MarkedText, unused_mark, unused_text}
-use Rattle.nc_text.proofs.Offered.{length-with_span}
+use Rattle.nc_text.proofs.Offered.{length-with_span, span_within, span_before, span_behind}
 use Rattle.nc_acts.specs.Chunks.{IsClosedChunk, with_chunk}
-use Rattle.nc_acts.proofs.Places.{span_within, span_before, span_behind}
 
 -- the text with only the chunk
 abbrev pub alone : MarkedText → ℕ → List ℕ → List Mark → MarkedText

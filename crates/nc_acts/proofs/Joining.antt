@@ -12,8 +12,8 @@ use Rattle.nc_text.proofs.Offered.{Borrows, closed_by_parts, length-with_span, m
 use Rattle.nc_acts.specs.Chunks.{IsClosedChunk, with_chunk}
 use Rattle.nc_acts.specs.Chunks.{IsUnused}
 use Rattle.nc_acts.proofs.Alone.{alone, alone_fits_bytes, alone_within, alone_before, alone_behind, alone_bytes_long, alone_marks_long}
-use Rattle.nc_acts.proofs.Places.{Before, Within, Behind, place_of, unused_is_start, start_or_not, unused_at_start, span_within}
-use Rattle.nc_acts.proofs.Places.{span_before, span_behind, before_span, within_span}
+use Rattle.nc_text.proofs.Offered.{Before, Within, Behind, place_of, span_within, span_before, span_behind}
+use Rattle.nc_acts.proofs.Places.{unused_is_start, start_or_not, unused_at_start, before_span, within_span}
 
 -- a chunk that is closed by itself may stand in an unused span
 pub record Joins (marked : MarkedText) (base : ℕ) (bytes : List ℕ) (marks : List Mark) : Type 0 where

@@ -1,9 +1,9 @@
 pub mod Places
-pub mod OneMoreByte
 pub mod Chosen
 pub mod Logged
 pub mod SoFar
 pub mod Alone
 pub mod Joining
+pub mod Creating
 pub mod Stopping
 pub mod Offered

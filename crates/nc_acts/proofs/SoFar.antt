@@ -12,8 +12,8 @@ use Rattle.nc_acts.specs.declared.acts.Entry.{Entry}
 use Rattle.nc_acts.specs.declared.acts.Entry.TheVariants.{Did}
 use Rattle.nc_acts.specs.Acts.{puts_where, starts_if, marked_if, is_mark, is_marked_at, is_start}
 use Rattle.nc_acts.specs.Log.{Logs, only_acts}
-use Rattle.nc_acts.specs.Puts.{HasPut}
-use Rattle.nc_acts.proofs.OneMoreByte.{put_none, put_more, put_passed}
+use Rattle.nc_text.specs.Puts.{HasPut}
+use Rattle.nc_text.proofs.Offered.{put_none, put_more, put_passed}
 use Rattle.nc_acts.proofs.Logged.{logs_none, log_put, log_passed}
 
 -- the first bytes have been put at the chosen places, and logged

@@ -6,12 +6,13 @@ use Rattle.nc_decode.specs.declared.instruction.Mark.{Mark}
 use Rattle.nc_decode.specs.declared.instruction.Mark.TheVariants.{Unmarked, Plain, After}
 use Rattle.nc_text.specs.Places.{limit_of, byte_at}
 use Rattle.nc_text.specs.Marks.{IsClosed, mark_at, Admits}
-use Rattle.nc_text.specs.MarkedText.{MarkedText, with_span, with_stops}
+use Rattle.nc_text.specs.MarkedText.{MarkedText, with_span}
 use Rattle.nc_text.proofs.Offered.{closed_with_stops, length-with_span}
+use Rattle.nc_text.proofs.Offered.{place_of, Before, Within, Behind, span_before, span_within, span_behind}
 use Rattle.nc_acts.specs.Acts.{is_mark, is_marked_at, is_unmarked_at}
 use Rattle.nc_acts.specs.Chunks.{HasGoodSpan}
-use Rattle.nc_acts.specs.Puts.{HasPut}
-use Rattle.nc_acts.proofs.Places.{place_of, Before, Within, Behind, before_span, span_before, span_within, span_behind}
+use Rattle.nc_text.specs.Puts.{HasPut, ClosedThroughout}
+use Rattle.nc_acts.proofs.Places.{before_span}
 
 -- a mark that stands for a state is a mark
 pub admits_is_mark : (mark : Mark) (masked : Option ℕ) → Admits mark masked → is_mark mark ≡ true
@@ -51,23 +52,20 @@ others_closed old now base len count placed le closed stopped puts =
       | Behind p ↦ inr (λ i is fits k lt. puts.above (s.place + k) (omega arith))
     ])
 
--- the text with stops in all of a span is closed
-pub stops_closed : (old : MarkedText) (base len : ℕ) → HasGoodSpan base (limit_of old.bytes) len → IsClosed old.bytes old.marks
-    → IsClosed (with_stops old base len).bytes old.marks
-stops_closed old base len placed closed =
+-- while stops are put at marked places and then at the others, the text is closed
+pub stops_closed_throughout : (old : MarkedText) (base len : ℕ) → HasGoodSpan base (limit_of old.bytes) len → IsClosed old.bytes old.marks
+    → ClosedThroughout (is_marked_at old.marks) (is_unmarked_at old.marks) base (replicate len 244) old old.marks
+stops_closed_throughout old base len placed closed =
     let n = length-replicate {A = ℕ} len 244 in
-    let fits : base + length (replicate {A = ℕ} len 244) ≤ 65536 + length old.bytes = omega (arith, n, placed.high) in
-    closed_with_stops old.bytes (with_stops old base len).bytes old.marks closed
-    (length-with_span old.bytes (base - 65536) (replicate len 244) (omega (arith, n, placed.high, placed.low))) (λ s m.
-    elim (place_of base len s.place) [
-      | Before l ↦ inr (λ i is fits_one k lt.
-          span_before old.bytes base (replicate len 244) (s.place + k) 0 placed.low fits (omega (arith, m.0))
-          (before_span s.place i.len k base fits_one lt placed.start l))
-      | Within a b ↦ inl (span_within old.bytes base (replicate len 244) s.place 0 placed.low fits a (omega (arith, n, b))
-          ∙ stop_byte base len s.place a b)
-      | Behind p ↦ inr (λ i is fits_one k lt.
-          span_behind old.bytes base (replicate len 244) (s.place + k) 0 placed.low fits (omega (arith, n, p)))
-    ])
+    record {
+      before = λ count now few puts. marked_closed old now base len count placed (omega (arith, few, n)) closed puts;
+      after = λ between first count now few puts.
+          let all = subst (λ (m : ℕ). HasPut (is_marked_at old.marks) base (replicate len 244) m old.bytes between) n first in
+          others_closed (record { bytes = between; marks = old.marks }) now base len count
+          (subst (λ (m : ℕ). HasGoodSpan base (65536 + m) len) (sym first.as_long) placed) (omega (arith, few, n))
+          (marked_closed old between base len len placed (omega arith) closed all)
+          (λ at low high marked. all.put at low high marked ∙ stop_byte base len at low high) puts;
+    }
 
 -- a place has a byte if it does where it is marked and where it is not
 within_stop : (marks : List Mark) (at : ℕ) (b : Bool) → is_marked_at marks at ≡ b → (now : List ℕ) (byte : ℕ)

@@ -2,7 +2,7 @@
 use Rattle.std.specs.Prelude.{ℕ, ◌+◌, Bool, if◌then◌else◌, List, [], ◌∷◌, ◌++◌}
 use Rattle.std.specs.Prelude.{length, replicate}
 use Rattle.nc_decode.specs.declared.instruction.Mark.{Mark}
-pub use Rattle.nc_acts.specs.Puts.{is_start, is_inside, starts_if, is_mark, is_marked_at, is_unmarked_at, marked_if}
+pub use Rattle.nc_text.specs.Puts.{is_start, is_inside, starts_if, is_mark, is_marked_at, is_unmarked_at, marked_if}
 use Rattle.nc_acts.specs.declared.acts.Act.{Act}
 use Rattle.nc_acts.specs.declared.acts.Act.TheVariants.{Put, MarkSpan, Bump}
 

@@ -1,4 +1,3 @@
-pub mod Puts
 pub mod Acts
 pub mod Log
 pub mod Noted

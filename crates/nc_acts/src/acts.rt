@@ -10,7 +10,7 @@ ghost use Rattle.nc_text.specs.Marks.{IsClosed, mark_at};
 ghost use Rattle.nc_text.specs.Places.{InRegion, SpanInRegion, byte_at, limit_of};
 ghost use Rattle.nc_text.specs.MarkedText.{MarkedText, IsText, with_byte, with_chunk, with_stops, with_marks, without_marks, NamesRegister};
 ghost use Rattle.nc_text.specs.MarkedText.{KeepsMarks, AreStops};
-ghost use Rattle.nc_acts.specs.Puts.{HasPut};
+ghost use Rattle.nc_text.specs.Puts.{HasPut, ClosedAfterEach};
 ghost use Rattle.nc_text.specs.Ready.{IsReady, AreReady, GetsReady};
 ghost use Rattle.nc_gens.specs.Rule.{generation_raised};
 ghost use Rattle.nc_gens.specs.Seen.{KeeperState, HasLooked, HasMet, least_number};
@@ -107,8 +107,7 @@ pub trait Acts {
         requires start { IsBundleStart at }
         requires whole { length code.now % 32 ≡ 0 }
         requires ready { AreReady (made self.old) at (length code.now) }
-        requires closed { (count : ℕ) (now : List ℕ) → count ≤ length code.now
-            → HasPut (starts_if at_starts) at code.now count (marked self.old).bytes now → IsClosed now (marked self.old).marks }
+        requires closed { ClosedAfterEach (starts_if at_starts) at code.now (marked self.old).bytes (marked self.old).marks }
         ensures bytes { HasPut (starts_if at_starts) at code.now (length code.now) (marked self.old).bytes (marked self.new).bytes }
         ensures marks { (marked self.new).marks ≡ (marked self.old).marks }
         ensures made { made self.new ≡ made self.old }
@@ -135,9 +134,8 @@ pub trait Acts {
         requires ready { AreReady (made self.old) at len }
         requires stopped { at_marked ≡ false → (k : ℕ) → at ≤ k → k < at + len → is_marked_at (marked self.old).marks k ≡ true
             → byte_at (marked self.old).bytes k ≡ 0xF4 }
-        requires closed { (count : ℕ) (now : List ℕ) → count ≤ len
-            → HasPut (marked_if at_marked (marked self.old).marks) at (replicate len 0xF4) count (marked self.old).bytes now
-            → IsClosed now (marked self.old).marks }
+        requires closed { ClosedAfterEach (marked_if at_marked (marked self.old).marks) at (replicate len 0xF4) (marked self.old).bytes
+            (marked self.old).marks }
         ensures bytes { HasPut (marked_if at_marked (marked self.old).marks) at (replicate len 0xF4) len (marked self.old).bytes
             (marked self.new).bytes }
         ensures marks { (marked self.new).marks ≡ (marked self.old).marks }

@@ -1,18 +1,18 @@
 //! A recorder of acts, for tests and for observing the order of single puts.
 
-ghost use Rattle.std.specs.Prelude.{◌≡◌, ◌↔◌, ◌+◌, ◌%◌, ◌<◌, ◌≤◌, [], ◌∷◌, IfOk, IfSome, IsNone, IsOk, OnOk, OnErr, ◌^◌, length, All};
+ghost use Rattle.std.specs.Prelude.{◌≡◌, ◌↔◌, ◌+◌, ◌%◌, ◌<◌, ◌≤◌, [], ◌∷◌, IfOk, IfErr, IfSome, IsNone, IsOk, OnOk, OnErr, ◌^◌, length, All};
 ghost use Rattle.std.specs.Prelude.{IsTrue, true, false};
 ghost use Rattle.std.specs.Vec.{vec_len, vec_capacity};
 ghost use Rattle.nc_decode.specs.Bits.{marks_in};
 ghost use Rattle.nc_decode.specs.Bundles.{IsBundleStart};
 ghost use Rattle.nc_text.specs.MarkedText.{IsText, with_byte, with_marks, without_marks, NamesRegister, KeepsMarks, AreStops};
 ghost use Rattle.nc_text.specs.Marks.{IsClosed};
-ghost use Rattle.nc_text.specs.Ready.{IsReady, AreReady};
+ghost use Rattle.nc_text.specs.Ready.{IsReady, AreReady, GetsReady};
 ghost use Rattle.nc_text.specs.Places.{InRegion, SpanInRegion};
 ghost use Rattle.nc_acts.specs.declared.acts.Act.{Act};
 ghost use Rattle.nc_acts.specs.declared.acts.Entry.{Entry};
 ghost use Rattle.nc_gens.specs.Rule.{generation_raised};
-ghost use Rattle.nc_gens.specs.Seen.{HasLooked, least_number};
+ghost use Rattle.nc_gens.specs.Seen.{HasLooked, HasMet, least_number};
 ghost use Rattle.nc_acts.specs.Log.{Logs};
 
 use crate::acts::{Act, Acts, Entry};
@@ -88,7 +88,18 @@ impl<A: Acts + Drop> Acts for Recorder<A> {
 
     ghost logged = { λ r. r.history.entries };
 
-    fn ready(&mut self, at: u32, len: u32) -> Result<(), TextFault> {
+    fn ready(&mut self, at: u32, len: u32) -> Result<(), TextFault>
+        requires inside { SpanInRegion (A.marked self.old.acts).bytes at len }
+        ensures ready { IfOk result (λ _. AreReady (A.made self.new.acts) at len) }
+        ensures only { GetsReady (A.made self.old.acts) (A.made self.new.acts) at len }
+        ensures fault { IfErr result (λ fault. fault ≡ TextFault.OutOfMemory) }
+        ensures marked { A.marked self.new.acts ≡ A.marked self.old.acts }
+        ensures whole { IsText (A.marked self.new.acts) }
+        ensures keeper { A.keeper self.new.acts ≡ A.keeper self.old.acts }
+        ensures logged { self.new.history.entries ≡ self.old.history.entries }
+        ensures none_handed_on { A.logged self.new.acts ≡ A.logged self.old.acts }
+        ensures stays { (self.new.full ≡ self.old.full) × (self.new.entries ≡ self.old.entries) }
+    {
         self.acts.ready(at, len)
     }
 
@@ -105,6 +116,7 @@ impl<A: Acts + Drop> Acts for Recorder<A> {
         ensures whole { IsText (A.marked self.new.acts) }
         ensures keeper { A.keeper self.new.acts ≡ A.keeper self.old.acts }
         ensures logged { Logs self.old.history.entries self.new.history.entries (Entry.Did (Act.Put at byte) ∷ []) }
+        ensures handed_on { Logs (A.logged self.old.acts) (A.logged self.new.acts) (Entry.Did (Act.Put at byte) ∷ []) }
         ensures goes_on { (self.new.full ≡ false) ↔ ((self.old.full ≡ false)
             × (vec_len self.old.entries < vec_capacity self.old.entries)) }
     {
@@ -137,6 +149,7 @@ impl<A: Acts + Drop> Acts for Recorder<A> {
         ensures whole { IsText (A.marked self.new.acts) }
         ensures keeper { A.keeper self.new.acts ≡ A.keeper self.old.acts }
         ensures logged { Logs self.old.history.entries self.new.history.entries (Entry.Did (Act.MarkSpan at (length marks.now)) ∷ []) }
+        ensures handed_on { Logs (A.logged self.old.acts) (A.logged self.new.acts) (Entry.Did (Act.MarkSpan at (length marks.now)) ∷ []) }
         ensures goes_on { (self.new.full ≡ false) ↔ ((self.old.full ≡ false)
             × (vec_len self.old.entries < vec_capacity self.old.entries)) }
     {
@@ -153,6 +166,7 @@ impl<A: Acts + Drop> Acts for Recorder<A> {
         ensures whole { IsText (A.marked self.new.acts) }
         ensures keeper { A.keeper self.new.acts ≡ A.keeper self.old.acts }
         ensures logged { Logs self.old.history.entries self.new.history.entries (Entry.Did (Act.UnmarkSpan at len) ∷ []) }
+        ensures handed_on { Logs (A.logged self.old.acts) (A.logged self.new.acts) (Entry.Did (Act.UnmarkSpan at len) ∷ []) }
         ensures goes_on { (self.new.full ≡ false) ↔ ((self.old.full ≡ false)
             × (vec_len self.old.entries < vec_capacity self.old.entries)) }
     {
@@ -182,6 +196,7 @@ impl<A: Acts + Drop> Acts for Recorder<A> {
         ensures raised { OnOk result (A.keeper self.new.acts
             ≡ record (A.keeper self.old.acts) { numbers = generation_raised (A.keeper self.old.acts).numbers }) }
         ensures logged { OnOk result (Logs self.old.history.entries self.new.history.entries (Entry.Did Act.Bump ∷ [])) }
+        ensures handed_on { OnOk result (Logs (A.logged self.old.acts) (A.logged self.new.acts) (Entry.Did Act.Bump ∷ [])) }
         ensures goes_on { OnOk result ((self.new.full ≡ false) ↔ ((self.old.full ≡ false)
             × (vec_len self.old.entries < vec_capacity self.old.entries))) }
         ensures marked { A.marked self.new.acts ≡ A.marked self.old.acts }
@@ -190,6 +205,7 @@ impl<A: Acts + Drop> Acts for Recorder<A> {
             × (A.keeper self.new.acts ≡ A.keeper self.old.acts)) }
         ensures unlogged { OnErr result ((self.new.full ≡ self.old.full)
             × (self.new.entries.items ≡ self.old.entries.items) × (self.new.history.entries ≡ self.old.history.entries)) }
+        ensures none_handed_on { OnErr result (A.logged self.new.acts ≡ A.logged self.old.acts) }
     {
         let answer = self.acts.bump();
         if answer.is_ok() {
@@ -204,6 +220,7 @@ impl<A: Acts + Drop> Acts for Recorder<A> {
         ensures marked { A.marked self.new.acts ≡ A.marked self.old.acts }
         ensures made { A.made self.new.acts ≡ A.made self.old.acts }
         ensures logged { Logs self.old.history.entries self.new.history.entries (Entry.Did Act.Look ∷ []) }
+        ensures handed_on { Logs (A.logged self.old.acts) (A.logged self.new.acts) (Entry.Did Act.Look ∷ []) }
         ensures goes_on { (self.new.full ≡ false) ↔ ((self.old.full ≡ false)
             × (vec_len self.old.entries < vec_capacity self.old.entries)) }
     {
@@ -212,7 +229,15 @@ impl<A: Acts + Drop> Acts for Recorder<A> {
         least
     }
 
-    fn meet(&mut self, pass: &mut Pass) {
+    fn meet(&mut self, pass: &mut Pass)
+        requires { pass.old.table ≡ (A.keeper self.old.acts).table }
+        ensures met { HasMet pass.old (A.keeper self.old.acts) pass.new (A.keeper self.new.acts) }
+        ensures marked { A.marked self.new.acts ≡ A.marked self.old.acts }
+        ensures made { A.made self.new.acts ≡ A.made self.old.acts }
+        ensures logged { self.new.history.entries ≡ self.old.history.entries }
+        ensures none_handed_on { A.logged self.new.acts ≡ A.logged self.old.acts }
+        ensures stays { (self.new.full ≡ self.old.full) × (self.new.entries ≡ self.old.entries) }
+    {
         self.acts.meet(pass);
     }
 

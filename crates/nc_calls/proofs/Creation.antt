@@ -23,11 +23,10 @@ use Rattle.nc_region.proofs.Offered.{Keeps, only_as_it_stands}
 use Rattle.nc_acts.specs.declared.acts.Act.TheVariants.{MarkSpan}
 use Rattle.nc_acts.specs.Acts.{is_inside, is_start, puts_where}
 use Rattle.nc_acts.specs.Chunks.{HasGoodSpan, IsClosedChunk, IsUnused, with_chunk}
-use Rattle.nc_acts.specs.Puts.{HasPut}
+use Rattle.nc_text.specs.Puts.{HasPut}
 use Rattle.nc_acts.proofs.Offered.{byte_at_other}
-use Rattle.nc_region.specs.machinery.Between.{IsFinalBut}
 use Rattle.nc_region.specs.Region.{IsRegion, FitsAt, live_chunk}
-use Rattle.nc_region.proofs.Offered.{final_all, final_but_starts, each_map, each_append, unused_if_apart, region_with_chunk, some_same}
+use Rattle.nc_region.proofs.Offered.{IsFinalBut, final_all, final_but_starts, each_map, each_append, unused_if_apart, region_with_chunk, some_same}
 use Rattle.nc_region.proofs.Offered.{Joins, chunk_joins, chunk_keeps, valid_chunk_is_closed, Before, Within, Behind}
 use Rattle.nc_region.proofs.Offered.{place_of, unused_is_start, unused_at_start, is_inside_false, is_start_false, start_or_not, span_within, before_span}
 use Rattle.nc_calls.specs.Calls.{no_details, create_events}

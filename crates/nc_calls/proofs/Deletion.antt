@@ -22,7 +22,7 @@ use Rattle.nc_region.specs.schedules.Events.{Serializes, Retires, IsAllowed, aft
 use Rattle.nc_region.proofs.Offered.{Keeps, admits_is_mark, shut_if_quiet, as_it_stands}
 use Rattle.nc_acts.specs.Acts.{is_mark, is_marked_at, is_unmarked_at, puts_where}
 use Rattle.nc_acts.specs.Chunks.{HasGoodSpan}
-use Rattle.nc_acts.specs.Puts.{HasPut}
+use Rattle.nc_text.specs.Puts.{HasPut}
 use Rattle.nc_acts.proofs.Offered.{byte_at_other}
 use Rattle.nc_region.specs.Each.{Each}
 use Rattle.nc_region.specs.Region.{IsLive, IsAscending, IsRegion}

@@ -9,7 +9,7 @@ use Rattle.nc_region.specs.schedules.Events.{Event, Puts, Serializes, IsAllowed,
 use Rattle.nc_region.proofs.Offered.{allowed_append, after_append, views_after_put, as_it_stands, only_as_it_stands}
 use Rattle.nc_acts.specs.declared.acts.Act.TheVariants.{Put}
 use Rattle.nc_acts.specs.Acts.{puts_where}
-use Rattle.nc_acts.specs.Puts.{HasPut}
+use Rattle.nc_text.specs.Puts.{HasPut}
 use Rattle.nc_region.proofs.Offered.{put_none, put_more, put_passed}
 use Rattle.nc_calls.specs.Calls.{Details}
 use Rattle.nc_calls.proofs.Entries.{events_of}

@@ -4,7 +4,7 @@
 pub use Rattle.nc_list.proofs.Offered.{each_map, each_both, each_take, each_drop}
 pub use Rattle.nc_list.proofs.Offered.{each_append, each_set, each_get, each_contains, each_from, each_at_set, each_middle}
 pub use Rattle.nc_region.proofs.walking.OneWalk.{one_trace}
-pub use Rattle.nc_region.proofs.chunks.StaysClosed.{final_all, final_but_starts}
+pub use Rattle.nc_acts.proofs.Offered.{IsFinalBut, final_all, final_but_starts}
 pub use Rattle.nc_acts.proofs.Offered.{same_code}
 pub use Rattle.nc_region.proofs.chunks.Inserting.{unused_if_apart, region_with_chunk, region_of_new}
 pub use Rattle.nc_acts.proofs.Offered.{Joins, chunk_joins, chunk_keeps}

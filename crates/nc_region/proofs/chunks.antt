@@ -1,5 +1,4 @@
 -- Valid chunks, by themselves and set into a text, and the list of them.
-pub mod StaysClosed
 pub mod Instructions
 pub mod Offsets
 pub mod Sound

@@ -74,7 +74,9 @@ pub(crate) fn make_room<A: Acts>(
 
 /// Room for a list of this many marks, or none if they are at most `SMALL`.
 fn list_room(alloc: Global, length: usize) -> Result<Vec<Mark>, AllocError>
-    ensures { IfOk result (λ room. (room.items ≡ []) × (512 < length → length ≤ vec_capacity room)) }
+    ensures room { IfOk result (λ room. (room.items ≡ []) × (512 < length → length ≤ vec_capacity room)) }
+    // A small chunk takes no room on the heap.
+    ensures none { IfOk result (λ room. length ≤ 512 → vec_capacity room ≡ 0) }
 {
     if length <= SMALL {
         return Ok(Vec::new(alloc));

@@ -1,13 +1,13 @@
 //! A region behind a lock, shared by threads.
 
-ghost use Rattle.std.specs.Prelude.{◌≡◌, ℕ, List, IfOk, IfErr, OnOk};
+ghost use Rattle.std.specs.Prelude.{◌≡◌, ℕ, List, length, IfOk, IfErr, OnOk, OnErr};
 ghost use Rattle.nc_gens.specs.Seen.{HasCheckedIn};
 ghost use Rattle.nc_decode.specs.Bundles.{IsLawfulLimit};
 ghost use Rattle.nc_text.specs.Machine.{IsConfined};
 ghost use Rattle.nc_text.specs.Places.{limit_of};
-ghost use Rattle.nc_region.specs.Deletion.{IsDeleted, MayRefuseDelete};
-ghost use Rattle.nc_region.specs.Patch.{IsPatch, MayRefusePatch};
-ghost use Rattle.nc_region.specs.Region.{IsRegion, IsCreated, MayRefuse};
+ghost use Rattle.nc_region.specs.Deletion.{IsDeleted, IsReclaimed, MayRefuseDelete};
+ghost use Rattle.nc_region.specs.Patch.{IsModified, IsPatch, MayRefusePatch};
+ghost use Rattle.nc_region.specs.Region.{IsRegion, IsCreated, IsRefused, MayRefuse};
 ghost use Rattle.nc_region.specs.Region as spec;
 ghost use Rattle.nc_region.specs.Trace.{IsTrace, IsWalkStart, MayRefuseWalk};
 
@@ -27,8 +27,10 @@ pub type Shared<'g> = SharedOf<'g, Plain<'g>>;
 ///
 /// Whenever the lock is free the region is confined, since every value of `RegionOf` is. Each call but `check_in` and
 /// `leave` takes the lock and runs the call of `RegionOf` with the same name. It may wait for the lock, and no order of waiting
-/// threads is promised. The region is changed under the lock as the contract of that call says. No clause can name the region
-/// at the moment when the lock is held, so the clauses here say that there was some region to which the result belongs.
+/// threads is promised. No clause can name the region at the moment when the lock is held. The clauses here say that there
+/// are such regions: `old` is the one that the lock found, and `new`, or `next`, the one that it left. What each call does to
+/// the region that it is lent is said exactly by the contracts of `create_in` and the other functions below. That it does
+/// nothing else is tested (`only_the_call`).
 ///
 /// Threads can share it if its acts can be sent to another thread.
 #[derive(Drop)]
@@ -99,12 +101,18 @@ impl<'g, A: Acts + Drop> SharedOf<'g, A> {
     }
 
     /// `Region::reclaim` under the lock.
-    pub fn reclaim(&self, rt: &impl Wait) -> u32 {
-        self.region.lock(rt).reclaim()
+    pub fn reclaim(&self, rt: &impl Wait) -> u32
+        // This many chunks were due in the region found under the lock, and were freed.
+        ensures reclaimed { (old new : spec.Region) × IsRegion old.marked old.chunks × IsReclaimed old new result }
+    {
+        reclaim_in(&mut self.region.lock(rt))
     }
 
     /// `Region::chunk_count` under the lock.
-    pub fn chunk_count(&self, rt: &impl Wait) -> usize {
+    pub fn chunk_count(&self, rt: &impl Wait) -> usize
+        // The region found under the lock has this many chunks.
+        ensures count { (r : spec.Region) × IsRegion r.marked r.chunks × (result ≡ length r.chunks) }
+    {
         self.region.lock(rt).chunk_count()
     }
 
@@ -121,8 +129,9 @@ impl<'g, A: Acts + Drop> SharedOf<'g, A> {
 
     /// `Region::modify` under the lock.
     pub fn modify(&self, rt: &impl Wait, at: u32, new: &[u8]) -> Result<(), ModifyFault>
-        // The patch is a lawful one of the region found under the lock.
-        ensures lawful { OnOk result ((r : spec.Region) × IsRegion r.marked r.chunks × IsPatch r at new.now) }
+        // The patch is a lawful one of the region found under the lock, and was made there.
+        ensures modified { OnOk result ((old next : spec.Region) × IsRegion old.marked old.chunks
+            × IsPatch old at new.now × IsModified old next at new.now) }
         // The refusal is one that some region may return.
         ensures refused { IfErr result (λ fault. (r : spec.Region) × IsRegion r.marked r.chunks × MayRefusePatch r at new.now fault) }
     {
@@ -142,43 +151,58 @@ impl<'g, A: Acts + Drop> SharedOf<'g, A> {
     }
 }
 
-/// Creates a chunk in a region.
+/// Creates a chunk in the region under the lock, and does nothing else.
 fn create_in<A: Acts + Drop>(
     region: &mut RegionOf<A>,
     vetted: Vetted,
 ) -> Result<(), (Vetted, CreateFault)>
-    ensures given_back { IfErr result (λ e. e.0 ≡ vetted) }
-    ensures created { OnOk result ((old new : spec.Region) × IsRegion old.marked old.chunks × IsCreated old new vetted) }
-    ensures refused { IfErr result (λ e. (r : spec.Region) × IsRegion r.marked r.chunks × MayRefuse r vetted e.1) }
+    ensures found { IsRegion region.old.marked region.old.chunks }
+    ensures created { OnOk result (IsCreated region.old region.new vetted) }
+    ensures unchanged { IfErr result (λ e. (e.0 ≡ vetted) × IsRefused region.old region.new vetted e.1) }
+    ensures refused { IfErr result (λ e. MayRefuse region.old vetted e.1) }
 {
     // Called for its postconditions.
     let _facts = region.limit();
     region.create(vetted)
 }
 
-/// Patches a region.
+/// Patches the region under the lock, and does nothing else.
 fn modify_in<A: Acts + Drop>(
     region: &mut RegionOf<A>,
     at: u32,
     new: &[u8],
 ) -> Result<(), ModifyFault>
-    ensures lawful { OnOk result ((r : spec.Region) × IsRegion r.marked r.chunks × IsPatch r at new.now) }
-    ensures refused { IfErr result (λ fault. (r : spec.Region) × IsRegion r.marked r.chunks × MayRefusePatch r at new.now fault) }
+    ensures found { IsRegion region.old.marked region.old.chunks }
+    ensures lawful { OnOk result (IsPatch region.old at new.now) }
+    ensures modified { OnOk result (IsModified region.old region.new at new.now) }
+    ensures unchanged { OnErr result (region.new ≡ region.old) }
+    ensures refused { IfErr result (MayRefusePatch region.old at new.now) }
 {
     // Called for its postconditions.
     let _facts = region.limit();
     region.modify(at, new)
 }
 
-/// Deletes a chunk of a region.
+/// Deletes a chunk of the region under the lock, and does nothing else.
 fn delete_in<A: Acts + Drop>(region: &mut RegionOf<A>, base: u32) -> Result<u64, DeleteFault>
-    ensures deleted { IfOk result (λ stamp. (old new : spec.Region) × IsRegion old.marked old.chunks
-        × IsDeleted old new base stamp) }
-    ensures refused { IfErr result (λ fault. (r : spec.Region) × IsRegion r.marked r.chunks × MayRefuseDelete r base fault) }
+    ensures found { IsRegion region.old.marked region.old.chunks }
+    ensures deleted { IfOk result (IsDeleted region.old region.new base) }
+    ensures unchanged { OnErr result (region.new ≡ region.old) }
+    ensures refused { IfErr result (MayRefuseDelete region.old base) }
 {
     // Called for its postconditions.
     let _facts = region.limit();
     region.delete(base)
+}
+
+/// Reclaims in the region under the lock, and does nothing else.
+fn reclaim_in<A: Acts + Drop>(region: &mut RegionOf<A>) -> u32
+    ensures found { IsRegion region.old.marked region.old.chunks }
+    ensures reclaimed { IsReclaimed region.old region.new result }
+{
+    // Called for its postconditions.
+    let _facts = region.limit();
+    region.reclaim()
 }
 
 /// A walk through a region's text, which is confined.

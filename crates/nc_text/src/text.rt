@@ -9,6 +9,7 @@ ghost use Rattle.nc_text.specs.Marks.{IsClosed, mark_at};
 ghost use Rattle.nc_text.specs.Places.{InRegion, SpanInRegion, byte_at, limit_of};
 ghost use Rattle.nc_text.specs.MarkedText.{MarkedText, IsText, with_byte, with_chunk, with_stops, with_marks, without_marks, unused_text, NamesRegister};
 ghost use Rattle.nc_text.specs.MarkedText.{KeepsMarks, AreStops};
+ghost use Rattle.nc_text.specs.Puts.{ClosedThroughout, HasPutInTurn, is_start, is_inside, is_marked_at, is_unmarked_at};
 ghost use Rattle.nc_text.specs.Ready.{TextState, IsReady, AreReady, GetsReady, unmade_pages};
 
 use crate::change::{PutBundles, Stops};
@@ -190,16 +191,18 @@ impl Text {
     /// bundles from a bundle start on; a bundle without bits has only its start marked. No other byte and no other mark changes. An
     /// empty span changes nothing, wherever `at` is.
     ///
-    /// It finds each page only once, and may store several bytes at once and in any order. So it isn't for memory that threads
-    /// execute. The conditions are those of `put` and of `mark_span`, on the text that it leaves.
+    /// It stands for single calls: puts of the bytes that aren't bundle starts, a `mark_span`, and puts of the bundle starts, each in
+    /// ascending order. It asks for what each of these calls asks for, and leaves what they leave. But it finds each page only once, and
+    /// may store several bytes at once and in any order, so it isn't for memory that threads execute.
     pub fn put_bundles(&mut self, at: u32, code: &[u8], bundles: &[Bundle])
         requires inside { SpanInRegion self.old.marked.bytes at (length code.now) }
         requires start { IsBundleStart at }
         requires whole { length code.now % 32 ≡ 0 }
         requires ready { AreReady self.old.made at (length code.now) }
         requires keeps { KeepsMarks self.old.marked.marks (with_chunk self.old.marked at code.now (marks_in code.now bundles.now)).marks }
-        requires closed { IsClosed (with_chunk self.old.marked at code.now (marks_in code.now bundles.now)).bytes
+        requires closed { ClosedThroughout is_inside is_start at code.now self.old.marked
             (with_chunk self.old.marked at code.now (marks_in code.now bundles.now)).marks }
+        ensures put { HasPutInTurn is_inside is_start at code.now self.old.marked.bytes self.new.marked.bytes }
         ensures marked { self.new.marked ≡ with_chunk self.old.marked at code.now (marks_in code.now bundles.now) }
         ensures made { self.new.made ≡ self.old.made }
         ensures whole { IsText self.new.marked }
@@ -214,13 +217,19 @@ impl Text {
     }
 
     /// Puts F4 at every place of a span of `len` bytes, which consists of whole bundles from a bundle start on. No other byte and no
-    /// mark changes. An empty span changes nothing, wherever `at` is. It works as `put_bundles` does, under the same conditions.
+    /// mark changes. An empty span changes nothing, wherever `at` is.
+    ///
+    /// It stands for single puts, at the marked places and then at the others, each in ascending order. It asks for what they ask for
+    /// and stores as `put_bundles` does, so it isn't for memory that threads execute either.
     pub fn stop_span(&mut self, at: u32, len: u32)
         requires inside { SpanInRegion self.old.marked.bytes at len }
         requires start { IsBundleStart at }
         requires whole { len % 32 ≡ 0 }
         requires ready { AreReady self.old.made at len }
-        requires closed { IsClosed (with_stops self.old.marked at len).bytes self.old.marked.marks }
+        requires closed { ClosedThroughout (is_marked_at self.old.marked.marks) (is_unmarked_at self.old.marked.marks) at
+            (replicate len 0xF4) self.old.marked self.old.marked.marks }
+        ensures put { HasPutInTurn (is_marked_at self.old.marked.marks) (is_unmarked_at self.old.marked.marks) at
+            (replicate len 0xF4) self.old.marked.bytes self.new.marked.bytes }
         ensures marked { self.new.marked ≡ with_stops self.old.marked at len }
         ensures made { self.new.made ≡ self.old.made }
         ensures whole { IsText self.new.marked }

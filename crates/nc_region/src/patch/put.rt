@@ -10,7 +10,7 @@ ghost use Rattle.nc_text.specs.MarkedText.{IsText, with_span};
 ghost use Rattle.nc_list.specs.declared.chunk.Chunk.{Chunk};
 ghost use Rattle.nc_acts.specs.Acts.{puts_where};
 ghost use Rattle.nc_acts.specs.Log.{Logs, only_acts};
-ghost use Rattle.nc_acts.specs.Puts.{HasPut};
+ghost use Rattle.nc_text.specs.Puts.{HasPut};
 ghost use Rattle.nc_acts.specs.declared.acts.Act.{Act};
 ghost use Rattle.nc_acts.specs.declared.acts.Entry.{Entry};
 ghost use Rattle.nc_region.specs.Patch.{stands_there, any_place, log_of_instruction};

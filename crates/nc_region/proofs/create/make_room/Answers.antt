@@ -94,7 +94,7 @@ returns g c =
         listed = listed;
         ready = here;
       };
-      marks = rw (← c.code.ensures.value) c.in-Ok.ensures;
+      marks = rw (← c.code.ensures.value) c.in-Ok.ensures.room;
       only = rw (← c.base-base.ensures.value, ← c.code.ensures.value) c.ready.ensures.only;
       others = (c.ready.ensures.marked, c.ready.ensures.keeper, c.ready.ensures.logged);
       unlisted = tt;

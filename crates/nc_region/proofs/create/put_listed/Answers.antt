@@ -7,10 +7,9 @@ use Rattle.nc_text.specs.MarkedText.{MarkedText, IsText, with_span, KeepsMarks}
 use Rattle.nc_acts.specs.declared.acts.Act.TheVariants.{MarkSpan}
 use Rattle.nc_acts.specs.declared.acts.Entry.TheVariants.{Did, Serialized}
 use Rattle.nc_acts.specs.Chunks.{IsClosedChunk, IsUnused, with_chunk}
-use Rattle.nc_region.specs.machinery.Between.{IsFinalBut}
 use Rattle.nc_acts.proofs.Offered.{logs_more}
 use Rattle.nc_acts.proofs.Offered.{Joins, chunk_joins, chunk_keeps}
-use Rattle.nc_region.proofs.chunks.StaysClosed.{inside_closed, final_but_closed, final_but_starts, final_all, starts_final}
+use Rattle.nc_acts.proofs.Offered.{IsFinalBut, inside_closed, final_but_closed, final_but_starts, final_all, starts_final}
 use Rattle.nc_acts.proofs.Offered.{same_code}
 use Rattle.nc_region.proofs.create.put_listed.Given.{Over}
 use Rattle.nc_region.proofs.create.put_listed.Goals.{After-put_where, After-mark_listed}

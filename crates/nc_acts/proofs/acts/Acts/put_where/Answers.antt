@@ -1,11 +1,11 @@
 use Rattle.std.proofs.Common.{Bool, ◌≡◌, ℕ, ◌+◌, ◌-◌, ◌<◌, List, length, get_or, set, refl, arith, sym, subst, ◌∙◌}
 use Rattle.nc_decode.specs.declared.instruction.Mark.{Mark}
 use Rattle.nc_text.specs.Marks.{IsClosed}
-use Rattle.nc_acts.specs.Puts.{HasPut}
+use Rattle.nc_text.specs.Puts.{HasPut}
 use Rattle.nc_text.specs.Ready.{IsReady}
 use Rattle.nc_acts.specs.Acts.{starts_if}
 use Rattle.nc_acts.proofs.SoFar.{none_yet, one_put, one_passed, all_logged, start_chosen, start_passed}
-use Rattle.nc_acts.proofs.OneMoreByte.{put_more}
+use Rattle.nc_text.proofs.Offered.{put_more}
 use Rattle.nc_acts.proofs.acts.Acts.put_where.Goals.{then-place-at_starts, else-place-at_starts}
 use Rattle.nc_acts.proofs.acts.Acts.put_where.Goals as goal
 

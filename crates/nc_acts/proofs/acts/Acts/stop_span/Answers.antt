@@ -1,5 +1,5 @@
 use Rattle.std.proofs.Common.{true, ◌≡◌, ℕ, ◌+◌, ◌-◌, ◌<◌, ◌≤◌, ◌∙◌, List, [], ◌∷◌, replicate, arith, sym, ap, subst}
-use Rattle.std.proofs.lemmas.List.{get_or-replicate}
+use Rattle.std.proofs.lemmas.List.{get_or-replicate, length-replicate}
 use Rattle.nc_decode.specs.declared.instruction.Mark.{Mark}
 use Rattle.nc_text.specs.MarkedText.{MarkedText, with_stops}
 use Rattle.nc_acts.proofs.Stopping.{same_code}
@@ -7,7 +7,7 @@ use Rattle.nc_text.specs.Places.{limit_of, byte_at}
 use Rattle.nc_acts.specs.declared.acts.Entry.TheVariants.{Serialized}
 use Rattle.nc_acts.specs.Acts.{is_marked_at, is_unmarked_at}
 use Rattle.nc_acts.specs.Chunks.{HasGoodSpan}
-use Rattle.nc_acts.specs.Puts.{HasPut}
+use Rattle.nc_text.specs.Puts.{HasPut}
 use Rattle.nc_acts.proofs.Logged.{logs_more}
 use Rattle.nc_acts.proofs.Stopping.{marked_closed, others_closed, all_stops}
 use Rattle.nc_acts.proofs.acts.Acts.stop_span.Given.{Over}
@@ -19,7 +19,8 @@ stop_where-requires-clause-inside g c = λ k lt. (omega (arith, c.requires.place
 
 pub stop_where-requires-clause-closed : goal.stop_where-requires-clause-closed
 stop_where-requires-clause-closed g c = λ count now few puts.
-    marked_closed (g.Self.Acts.marked c.args.self.now) now c.args.at c.args.len count c.requires.placed few c.limit-facts.ensures.whole.closed puts
+    marked_closed (g.Self.Acts.marked c.args.self.now) now c.args.at c.args.len count c.requires.placed
+    (omega (arith, few, length-replicate {A = ℕ} c.args.len 244)) c.limit-facts.ensures.whole.closed puts
 
 -- stops stand at the marked places, once the region has serialized
 marked_stopped : (g : Over) (c : After-serialize g) → (at : ℕ) → c.args.at ≤ at → at < c.args.at + c.args.len
@@ -56,7 +57,8 @@ stop_where-requires-2-clause-stopped g c = λ other at low high marked.
 pub stop_where-requires-2-clause-closed : goal.stop_where-requires-2-clause-closed
 stop_where-requires-2-clause-closed g c = λ count now few puts.
     let here = (goal.at.stop_where-requires-2-clause-closed g c).After-serialize in
-    others_closed (g.Self.Acts.marked c.serialize.new.self) now c.args.at c.args.len count (placed_then g here) few c.serialize.ensures.whole.closed
+    others_closed (g.Self.Acts.marked c.serialize.new.self) now c.args.at c.args.len count (placed_then g here)
+    (omega (arith, few, length-replicate {A = ℕ} c.args.len 244)) c.serialize.ensures.whole.closed
     (λ at low high marked. marked_stopped g here at low high
     (subst (λ (marks : List Mark). is_marked_at marks at ≡ true) (marks_then g here) marked)) puts
 

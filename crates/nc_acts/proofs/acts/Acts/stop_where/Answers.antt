@@ -3,11 +3,11 @@ use Rattle.std.proofs.lemmas.List.{length-replicate, get_or-replicate}
 use Rattle.nc_decode.specs.declared.instruction.Mark.{Mark}
 use Rattle.nc_decode.specs.Bits.{mark_bit}
 use Rattle.nc_text.specs.Marks.{IsClosed, mark_at}
-use Rattle.nc_acts.specs.Puts.{HasPut}
+use Rattle.nc_text.specs.Puts.{HasPut}
 use Rattle.nc_text.specs.Ready.{IsReady}
 use Rattle.nc_acts.specs.Acts.{marked_if}
 use Rattle.nc_acts.proofs.SoFar.{none_yet, one_put, one_passed, all_logged, mark_chosen, mark_passed}
-use Rattle.nc_acts.proofs.OneMoreByte.{put_more}
+use Rattle.nc_text.proofs.Offered.{put_more}
 use Rattle.nc_acts.proofs.acts.Acts.stop_where.Goals.{then-mark_bit-at_marked, else-mark_bit-at_marked}
 use Rattle.nc_acts.proofs.acts.Acts.stop_where.Goals as goal
 
@@ -50,7 +50,7 @@ put-requires-clause-closed g c =
     (get_or-replicate {A = ℕ} c.args.len i 244 0 lt)
     (put_more chosen c.args.at stops i old.bytes now.bytes c.loop-i.invariant.so_far.put (omega (arith, first.0)) (omega (arith, here.1)) is) in
     subst (λ (marks : List Mark). IsClosed (set now.bytes (c.args.at + i - 65536) 244) marks) (sym c.loop-i.invariant.marks)
-    (c.requires.closed (i + 1) (set now.bytes (c.args.at + i - 65536) 244) (omega (arith, lt)) put)
+    (c.requires.closed (i + 1) (set now.bytes (c.args.at + i - 65536) 244) (omega (arith, lt, length-replicate {A = ℕ} c.args.len 244)) put)
 
 pub loop-i-preserved : goal.loop-i-preserved
 loop-i-preserved g c =

@@ -3,7 +3,8 @@ use Rattle.nc_decode.specs.Bits.{marks_in}
 use Rattle.nc_text.specs.Places.{limit_of}
 use Rattle.nc_acts.specs.Chunks.{IsClosedChunk, IsUnused}
 use Rattle.nc_acts.specs.Plain.{PlainState}
-use Rattle.nc_acts.proofs.Joining.{Joins, chunk_joins, chunk_keeps}
+use Rattle.nc_acts.proofs.Joining.{Joins, chunk_keeps}
+use Rattle.nc_acts.proofs.Creating.{chunk_closed_throughout}
 use Rattle.nc_acts.proofs.plain.PlainOfActs.put_bundles.Given.{Over}
 use Rattle.nc_acts.proofs.plain.PlainOfActs.put_bundles.Goals.{After-put_bundles-arg-1}
 use Rattle.nc_acts.proofs.plain.PlainOfActs.put_bundles.Goals as goal
@@ -27,7 +28,7 @@ put_bundles-requires-clause-keeps g c =
 
 pub put_bundles-requires-clause-closed : goal.put_bundles-requires-clause-closed
 put_bundles-requires-clause-closed g c =
-    chunk_joins c.self.inside.text.marked c.args.at c.args.code.now (marks_in c.args.code.now c.args.bundles.now) (joins g c)
+    chunk_closed_throughout c.self.inside.text.marked c.args.at c.args.code.now (marks_in c.args.code.now c.args.bundles.now) (joins g c)
 
 pub returns-clause-logged : goal.returns-clause-logged
 returns-clause-logged g c = λ _. rw (sym c.self.view_is) c.note.ensures

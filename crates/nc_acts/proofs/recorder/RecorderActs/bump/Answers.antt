@@ -25,11 +25,13 @@ returns-then-is_ok g c =
       stamp = c.bump-answer.ensures.stamp;
       raised = rw acts c.bump-answer.ensures.raised;
       logged = if_ok _ _ c.record.ensures.logged;
+      handed_on = rw acts c.bump-answer.ensures.logged;
       goes_on = if_ok _ _ c.record.ensures.goes_on;
       marked = rw acts c.bump-answer.ensures.marked;
       made = rw acts c.bump-answer.ensures.made;
       full = rw acts c.bump-answer.ensures.full;
       unlogged = if_err _ _ ok;
+      none_handed_on = if_err _ _ ok;
     }
 
 pub returns-else-is_ok-clause-logged : goal.returns-else-is_ok-clause-logged

@@ -4,7 +4,7 @@ use Rattle.nc_acts.specs.declared.acts.Entry.TheVariants.{Serialized}
 use Rattle.nc_acts.specs.Acts.{puts_where}
 use Rattle.nc_acts.specs.Log.{Logs, only_acts}
 use Rattle.nc_region.specs.Patch.{any_place}
-use Rattle.nc_acts.specs.Puts.{HasPut}
+use Rattle.nc_text.specs.Puts.{HasPut}
 use Rattle.nc_region.proofs.patch.put.put_rest.Given as goal
 
 abbrev pub invariant-loop-i : goal.invariant-loop-i

@@ -4,7 +4,7 @@ use Rattle.std.proofs.Common.{subst, ⊎_elim}
 use Rattle.std.proofs.lemmas.List.{length-set, get_or-set_same, get_or-set_other}
 use Rattle.std.proofs.lemmas.Bool.{cases_lt, false≢true}
 use Rattle.nc_text.specs.Places.{byte_at}
-use Rattle.nc_acts.specs.Puts.{HasPut}
+use Rattle.nc_text.specs.Puts.{HasPut}
 
 -- before the first byte nothing is put
 pub put_none : (chosen : ℕ → Bool) (base : ℕ) (bytes old : List ℕ) → HasPut chosen base bytes 0 old old

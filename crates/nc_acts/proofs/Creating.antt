@@ -1,21 +1,28 @@
 -- While a chunk is created, the text stays closed.
-use Rattle.std.proofs.Common.{◌≡◌, ℕ, ◌+◌, ◌-◌, ◌<◌, ◌≤◌, List, length, get_or, inl, inr, arith, ◌∙◌, sym}
-use Rattle.std.proofs.Common.{subst}
-use Rattle.std.proofs.Common.{⊎_elim}
+use Rattle.std.proofs.Common.{◌≡◌, ◌≢◌, ℕ, ◌+◌, ◌-◌, ◌%◌, ◌<◌, ◌≤◌, List, length, get_or, inl, inr, arith, ◌∙◌, sym, subst, ⊎_elim}
 use Rattle.std.proofs.lemmas.Bool.{cases_lt}
 use Rattle.std.proofs.lemmas.List.{ext_get_or}
 use Rattle.nc_decode.specs.declared.instruction.Mark.{Mark}
-use Rattle.nc_text.specs.Places.{limit_of}
+use Rattle.nc_decode.specs.Bundles.{IsBundleStart}
+use Rattle.nc_text.specs.Places.{byte_at, limit_of}
 use Rattle.nc_text.specs.Marks.{IsClosed, Admits}
 use Rattle.nc_text.specs.MarkedText.{MarkedText, with_span}
 use Rattle.nc_text.proofs.Offered.{closed_with_stops, length-with_span}
 use Rattle.nc_acts.specs.Acts.{is_inside, is_start}
-use Rattle.nc_acts.specs.Chunks.{HasGoodSpan}
-use Rattle.nc_acts.specs.Puts.{HasPut}
-use Rattle.nc_region.specs.machinery.Between.{IsFinalBut}
+use Rattle.nc_acts.specs.Chunks.{HasGoodSpan, with_chunk}
+use Rattle.nc_text.specs.Puts.{HasPut, ClosedThroughout}
 use Rattle.nc_acts.specs.Chunks.{IsUnused}
-use Rattle.nc_acts.proofs.Offered.{Before, Within, Behind, place_of, unused_is_start, is_inside_false, is_inside_true, is_start_true, is_start_false, start_or_not}
-use Rattle.nc_acts.proofs.Offered.{span_within, span_before, span_behind, before_span}
+use Rattle.nc_text.proofs.Offered.{Before, Within, Behind, place_of, span_within, span_before, span_behind}
+use Rattle.nc_acts.proofs.Places.{unused_is_start, is_inside_false, is_inside_true, is_start_true, is_start_false, start_or_not, before_span}
+use Rattle.nc_acts.proofs.Joining.{Joins, chunk_joins}
+
+-- The text is the final one, except that the bundle starts from `from` to below `to` hold F4.
+pub record IsFinalBut (final now : List ℕ) (from to : ℕ) : Type 0 where
+  pub as_long : length now ≡ length final
+  pub stops : (at : ℕ) → from ≤ at → at < to → IsBundleStart at → byte_at now at ≡ 0xF4
+  pub before : (at : ℕ) → 0x10000 ≤ at → at < from → byte_at now at ≡ byte_at final at
+  pub behind : (at : ℕ) → to ≤ at → byte_at now at ≡ byte_at final at
+  pub inside : (at : ℕ) → 0x10000 ≤ at → at % 32 ≢ 0 → byte_at now at ≡ byte_at final at
 
 -- the bytes that aren't bundle starts may be put while the span is unused
 pub inside_closed : (old : MarkedText) (new : List ℕ) (base : ℕ) (bytes : List ℕ) (count : ℕ)
@@ -107,4 +114,17 @@ starts_final old mid now base bytes count low fits few f puts =
             | inl b ↦ puts.below at low' b ∙ f.inside at low' not
             | inr a ↦ puts.passed at a (is_start_false at not) ∙ f.inside at low' not
           ];
+    }
+
+-- while the chunk's bytes are put inside its bundles, its span is marked, and its bundle starts are put, the text is closed
+pub chunk_closed_throughout : (marked : MarkedText) (base : ℕ) (bytes : List ℕ) (marks : List Mark) → Joins marked base bytes marks
+    → ClosedThroughout is_inside is_start base bytes marked (with_chunk marked base bytes marks).marks
+chunk_closed_throughout marked base bytes marks j =
+    record {
+      before = λ count now few puts. inside_closed marked now base bytes count j.chunk.placed few j.closed j.unused puts;
+      after = λ between first count now few puts.
+          final_but_closed (with_span marked.bytes (base - 65536) bytes) now (with_chunk marked base bytes marks).marks (base + count)
+          (base + length bytes) (omega (arith, few)) (chunk_joins marked base bytes marks j)
+          (starts_final marked.bytes between now base bytes count j.chunk.placed.low (omega (arith, j.chunk.placed.high)) few
+          (final_but_starts marked between base bytes j.chunk.placed j.unused first) puts);
     }

@@ -1,8 +1,9 @@
--- Bytes put at some of the places of a span.
+-- Bytes put one at a time at some of the places of a span: what they leave, and when the text is closed after each.
 use Rattle.std.specs.Prelude.{◌≡◌, ℕ, ◌+◌, ◌-◌, ◌%◌, ◌==◌, ◌<◌, ◌≤◌, Bool, not, true, false, List, length, slice_index}
 use Rattle.nc_decode.specs.declared.instruction.Mark.{Mark}
 use Rattle.nc_decode.specs.declared.instruction.Mark.TheVariants.{Unmarked, Plain, After}
-use Rattle.nc_text.specs.Marks.{mark_at}
+use Rattle.nc_text.specs.Marks.{IsClosed, mark_at}
+use Rattle.nc_text.specs.MarkedText.{MarkedText}
 use Rattle.nc_text.specs.Places.{byte_at}
 
 -- The first `count` bytes of the list are put at the chosen places from `base` on, and nothing else is changed.
@@ -12,6 +13,24 @@ pub record HasPut (chosen : ℕ → Bool) (base : ℕ) (bytes : List ℕ) (count
   pub passed : (at : ℕ) → base ≤ at → chosen at ≡ false → byte_at new at ≡ byte_at old at
   pub below : (at : ℕ) → 0x10000 ≤ at → at < base → byte_at new at ≡ byte_at old at
   pub above : (at : ℕ) → base + count ≤ at → byte_at new at ≡ byte_at old at
+
+-- The bytes of the list are put at the chosen places from `base` on, one at a time and in ascending order. The text is closed before
+-- the first put and after each.
+abbrev pub ClosedAfterEach : (ℕ → Bool) → ℕ → List ℕ → List ℕ → List Mark → Type 0
+ClosedAfterEach chosen base bytes text marks =
+    (count : ℕ) (now : List ℕ) → count ≤ length bytes → HasPut chosen base bytes count text now → IsClosed now marks
+
+-- The bytes of the list are put as above at the places of the first choice, then the marks become these, and then the bytes are put at
+-- the places of the second choice. The text is closed after each of these changes.
+pub record ClosedThroughout (first second : ℕ → Bool) (base : ℕ) (bytes : List ℕ) (old : MarkedText) (marks : List Mark) : Type 0 where
+  pub before : ClosedAfterEach first base bytes old.bytes old.marks
+  pub after : (between : List ℕ) → HasPut first base bytes (length bytes) old.bytes between → ClosedAfterEach second base bytes between marks
+
+-- The bytes of the list are put at the places of the first choice, and then at those of the second, and nothing else is changed.
+pub record HasPutInTurn (first second : ℕ → Bool) (base : ℕ) (bytes old new : List ℕ) : Type 0 where
+  pub between : List ℕ
+  pub put_first : HasPut first base bytes (length bytes) old between
+  pub put_then : HasPut second base bytes (length bytes) between new
 
 -- the place is a bundle start
 abbrev pub is_start : ℕ → Bool
