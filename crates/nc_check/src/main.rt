@@ -17,11 +17,10 @@ use nc_usage::arguments;
 use std::io::{self, ErrorKind, Input, IsTerminal};
 use std::process::ExitCode;
 use std::rt::{Env, Files};
-use std::sync::Wait;
 use std::thread::Threads;
 
 /// Carries out the words of the command line, the program's own name first, and returns the exit status.
-fn run_words<R: Threads + Wait + Sync + AllocGlobal + Input + Files + Print + Eprint>(
+fn run_words<R: Threads + Sync + AllocGlobal + Input + Files + Print + Eprint>(
     rt: &R,
     words: &[String],
     is_terminal: bool,
@@ -48,7 +47,7 @@ where
 }
 
 /// Carries out the command line, and returns the exit status.
-fn run<R: Threads + Wait + Sync + Env + AllocGlobal + Input + Files + Print + Eprint>(
+fn run<R: Threads + Sync + Env + AllocGlobal + Input + Files + Print + Eprint>(
     rt: &R,
     is_terminal: bool,
     is_shared: bool,

@@ -1,5 +1,5 @@
 -- Texts that were written one after the other, and the reports that they are.
-use Rattle.std.proofs.Common.{◌≡◌, ℕ, Bool, true, false, List, [], ◌∷◌, ◌++◌, map, refl, sym, ◌∙◌, ap, append_assoc, append-nil, Option, inr, subst}
+use Rattle.std.proofs.Common.{◌≡◌, ℕ, Bool, true, false, List, [], ◌∷◌, ◌++◌, map, refl, sym, ◌∙◌, ap, append_assoc, append-nil, Option, subst}
 use Rattle.std.specs.Prelude.{◌||◌, codes}
 use Rattle.std.specs.Io.KnownBytes.{Appends}
 use Rattle.std.proofs.KnownBytes.{Appends-trans}
@@ -11,7 +11,7 @@ use Rattle.nc_output.specs.declared.detail.Style.{Style}
 use Rattle.nc_report.specs.Report.{HasWritten}
 use Rattle.nc_command.specs.declared.asked.CheckAsk.{CheckAsk}
 use Rattle.nc_files.specs.Parts.{bases_in, codes_in, names_in, part_name}
-use Rattle.nc_files.specs.Reports.{Judged, judged_in, segment_code, raw_code, ReportsCode, ReportsAll, ReportsRaw, hexadecimal_note, explanation, refusal_text}
+use Rattle.nc_files.specs.Reports.{Judged, judged_in, segment_code, raw_code, ReportsCode, ReportsAll, ReportsRaw, has_note, note_if, explanation, refusal_text}
 use Rattle.nc_files.specs.declared.parts.Part.{Part}
 
 -- what was written says what it has to
@@ -80,20 +80,31 @@ pub split_more : (all before after : List Part) (part : Part) (done : List Judge
 split_more all before after part done is next =
     is ∙ ap (λ (z : List Part). done ++ map judged_in z) next ∙ sym (append_assoc done (judged_in part ∷ []) (map judged_in after))
 
--- the report on raw code, and after it the note
-pub raw_noted : (ask : CheckAsk) (name code : List ℕ) (refused : Bool) (before mid after : Option (List ℕ)) → refused ≡ false
-    → HasWritten (ReportsCode ask (raw_code ask name code) refused) before mid → Appends mid after hexadecimal_note
-    → HasWritten (ReportsRaw ask name code false) before after
-raw_noted ask name code refused before mid after is h more = record {
-  text = h.text ++ hexadecimal_note;
+-- the report on raw code that is refused, which has no note
+pub raw_refused : (ask : CheckAsk) (name code : List ℕ) (refused : Bool) (before after : Option (List ℕ)) → refused ≡ true
+    → HasWritten (ReportsCode ask (raw_code ask name code) refused) before after → HasWritten (ReportsRaw ask name code true) before after
+raw_refused ask name code refused before after is h = record {
+  text = h.text;
   says = record {
     report = h.text;
     says = subst (λ (b : Bool). ReportsCode ask (raw_code ask name code) b h.text) is h.says;
-    note = hexadecimal_note;
-    noted = inr (refl, refl);
-    written = refl;
+    written = sym (append-nil h.text);
   };
-  written = Appends-trans before mid after h.text hexadecimal_note h.written more;
+  written = h.written;
+}
+
+-- the report on raw code that is accepted, and after it the note, if it has one
+pub raw_accepted : (ask : CheckAsk) (name code : List ℕ) (refused noted : Bool) (before mid after : Option (List ℕ)) → refused ≡ false
+    → noted ≡ has_note ask.style code → HasWritten (ReportsCode ask (raw_code ask name code) refused) before mid
+    → Appends mid after (note_if noted) → HasWritten (ReportsRaw ask name code false) before after
+raw_accepted ask name code refused noted before mid after is tells h more = record {
+  text = h.text ++ note_if noted;
+  says = record {
+    report = h.text;
+    says = subst (λ (b : Bool). ReportsCode ask (raw_code ask name code) b h.text) is h.says;
+    written = ap (λ (b : Bool). h.text ++ note_if b) tells;
+  };
+  written = Appends-trans before mid after h.text (note_if noted) h.written more;
 }
 
 -- the line of a refusal, and after it what explains it

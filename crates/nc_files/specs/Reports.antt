@@ -1,5 +1,5 @@
 -- The report on a file: that on its raw code, or those on its segments of code.
-use Rattle.std.specs.Prelude.{◌≡◌, ◌≢◌, ◌⊎◌, ℕ, Bool, true, false, ◌||◌, List, [], ◌∷◌, ◌++◌, map, codes, Option, Some, None, ⊤}
+use Rattle.std.specs.Prelude.{◌≡◌, ◌≢◌, ◌⊎◌, ℕ, Bool, true, false, not, ◌&&◌, ◌||◌, if◌then◌else◌, List, [], ◌∷◌, ◌++◌, map, codes, Option, Some, None, ⊤}
 use Rattle.nc_decode.specs.Bundles.{limit_after}
 use Rattle.nc_elf.specs.Faults.{HasElfFault}
 use Rattle.nc_elf.specs.Header.{IsElf}
@@ -13,6 +13,7 @@ use Rattle.nc_output.specs.declared.detail.Detail.TheVariants.{Brief}
 use Rattle.nc_output.specs.declared.detail.Format.{Format}
 use Rattle.nc_output.specs.declared.detail.Format.TheVariants.{Text, Json}
 use Rattle.nc_output.specs.declared.detail.Style.{Style}
+use Rattle.nc_report.specs.Forms.{is_hexadecimal}
 use Rattle.nc_report.specs.Objects.{file_object}
 use Rattle.nc_report.specs.Report.{Reports, said_of}
 use Rattle.nc_command.specs.declared.asked.CheckAsk.{CheckAsk}
@@ -56,13 +57,24 @@ abbrev pub hexadecimal_note : List ℕ
 hexadecimal_note =
     codes "  this is hexadecimal text: its characters were judged, and not the bytes that they spell; turn it into bytes with xxd -r -p\n"
 
--- the report on a file of raw code, and perhaps the note, if it is accepted
+-- more than the verdict is written about an accepted file, in lines of text
+abbrev pub has_lines : Detail → Format → Bool
+has_lines Brief format = false
+has_lines detail Text = true
+has_lines detail Json = false
+
+-- a file of this raw code has the note, if it is accepted
+abbrev pub has_note : Style → List ℕ → Bool
+has_note style code = has_lines style.detail style.format && is_hexadecimal code
+
+abbrev pub note_if : Bool → List ℕ
+note_if noted = if noted then hexadecimal_note else []
+
+-- the report on a file of raw code, and after it the note, if it is accepted and has one
 pub record ReportsRaw (ask : CheckAsk) (name code : List ℕ) (refused : Bool) (text : List ℕ) : Type 0 where
   pub report : List ℕ
   pub says : ReportsCode ask (raw_code ask name code) refused report
-  pub note : List ℕ
-  pub noted : (note ≡ []) ⊎ ((refused ≡ false) × (note ≡ hexadecimal_note))
-  pub written : text ≡ report ++ note
+  pub written : text ≡ report ++ note_if (not refused && has_note ask.style code)
 
 -- the line that explains a fault; none if only verdicts are written
 abbrev pub explanation : Detail → List ℕ → List ℕ

@@ -1,6 +1,7 @@
 //! Text that is kept until its turn to be printed.
 
-ghost use Rattle.std.specs.Prelude.{◌≡◌, ◌≤◌, [], Some, vec_len};
+ghost use Rattle.std.specs.Prelude.{◌≡◌, ◌+◌, ◌≤◌, [], Some, IfOk, IfErr, length, vec_len};
+ghost use Rattle.std.specs.IoError.{error_kind};
 ghost use Rattle.std.specs.Io.{WritesAtMost};
 ghost use Rattle.std.specs.Io.KnownBytes.{Keeps, WriteAppends};
 
@@ -42,6 +43,10 @@ impl Write for BufferedReport {
         ensures bound { WritesAtMost result buf.now }
         ensures bytes { WriteAppends (Some self.old.text.items) (Some self.new.text.items) result buf.now }
         ensures room { self.new.room ≡ self.old.room }
+        // All of what fits is written, unless there is no memory for it.
+        ensures all { IfOk result (λ count. count ≡ length buf.now) }
+        ensures fits { vec_len self.old.text + length buf.now ≤ self.old.room
+            → IfErr result (λ error. error_kind error ≡ ErrorKind.OutOfMemory) }
     {
         if self.room - self.text.len() < buf.len() {
             return Err(Error::from(ErrorKind::StorageFull));

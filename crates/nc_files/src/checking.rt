@@ -18,7 +18,6 @@ use nc_output::{PipeWriter, write_out};
 use std::alloc::Global;
 use std::io::{Input, Write};
 use std::rt::Files;
-use std::sync::Wait;
 use std::thread::Threads;
 
 /// The bytes of a block that is larger than most files.
@@ -137,7 +136,7 @@ fn print_round<R: AllocGlobal + Input + Files + Eprint, W: Write>(
 }
 
 /// Judges the files of a round, by several workers if there are several files, and prints the reports on them.
-fn judge_round<R: Threads + Wait + Sync + AllocGlobal + Input + Files + Eprint, W: Write>(
+fn judge_round<R: Threads + Sync + AllocGlobal + Input + Files + Eprint, W: Write>(
     rt: &R,
     ask: &CheckAsk<'_>,
     state: &mut State,
@@ -161,7 +160,7 @@ where
 }
 
 /// Judges the files that are asked for, one round after another.
-fn judge_all<R: Threads + Wait + Sync + AllocGlobal + Input + Files + Eprint, W: Write>(
+fn judge_all<R: Threads + Sync + AllocGlobal + Input + Files + Eprint, W: Write>(
     rt: &R,
     ask: &CheckAsk<'_>,
     state: &mut State,
@@ -187,7 +186,7 @@ where
 
 /// Judges the files that are asked for, and writes the reports on them. Returns the exit status: 2 if a file wasn't judged, otherwise 1 if
 /// one was refused, otherwise 0. A file that can't be read is named on standard error.
-pub fn check_files<R: Threads + Wait + Sync + AllocGlobal + Input + Files + Eprint, W: Write>(
+pub fn check_files<R: Threads + Sync + AllocGlobal + Input + Files + Eprint, W: Write>(
     rt: &R,
     ask: &CheckAsk<'_>,
     progress: Progress,

@@ -1,11 +1,12 @@
 //! Judging one file, and writing the report on it.
 
 ghost use Rattle.std.specs.Prelude.{◌≡◌, ◌≢◌, ◌++◌, ℕ, List, true, IfOk, IfErr, OnOk, map};
+ghost use Rattle.std.specs.Io.KnownBytes.{Appends};
 ghost use Rattle.nc_elf.specs.Faults.{HasElfFault};
 ghost use Rattle.nc_elf.specs.declared.fault.ElfFault.TheVariants as elf;
 ghost use Rattle.nc_report.specs.Report.{HasWritten};
 ghost use Rattle.nc_files.specs.Files.{IsUnread};
-ghost use Rattle.nc_files.specs.Reports.{judged_in, ReportsCode, ReportsAll, ReportsRaw, RefusesElf, ReportsElf, ReportsFile, explanation, refusal_text};
+ghost use Rattle.nc_files.specs.Reports.{judged_in, ReportsCode, ReportsAll, ReportsRaw, RefusesElf, ReportsElf, ReportsFile, explanation, has_lines, has_note, note_if, refusal_text};
 
 use crate::files::{Unread, read_file};
 use crate::parts::{Part, parts_of};
@@ -164,8 +165,30 @@ const NOTE: &[u8] =
     b"  this is hexadecimal text: its characters were judged, and not the bytes that they spell; turn it into bytes with xxd -r -p\n";
 
 /// Whether more than the verdict is written about an accepted file, in lines of text.
-fn has_lines(style: Style) -> bool {
+fn has_lines(style: Style) -> bool
+    ensures { result ≡ has_lines style.detail style.format }
+{
     style.format == Format::Text && style.detail != Detail::Brief
+}
+
+/// Whether an accepted file of this raw code has the note: it is hexadecimal text.
+fn has_note(style: Style, code: &[u8]) -> bool
+    ensures { result ≡ has_note style code.now }
+{
+    has_lines(style) && is_hexadecimal(code)
+}
+
+/// Writes the note, if there is to be one.
+fn write_note<W: Write>(is_noted: bool, writer: &mut W) -> Result<(), Unreported>
+    ensures { OnOk result (Appends (W.contents writer.old) (W.contents writer.new) (note_if is_noted)) }
+{
+    if !is_noted {
+        return Ok(());
+    }
+    match write_out(writer, NOTE) {
+        Ok(()) => Ok(()),
+        Err(_) => Err(Unreported::WriteFailed),
+    }
 }
 
 /// Judges raw code, and writes the report on it, with a note on an accepted file of hexadecimal text. Returns whether it was refused.
@@ -179,17 +202,17 @@ fn judge_raw<W: Write>(
         (W.contents writer.old) (W.contents writer.new)) }
 {
     let base = ask.base;
-    let is_noted = has_lines(ask.style) && is_hexadecimal(source.code.as_slice());
+    let is_noted = has_note(ask.style, source.code.as_slice());
     let is_refused = match judge_part(alloc, ask, Part { base, source }, writer) {
         Ok(is_refused) => is_refused,
         Err(unreported) => return Err(unreported),
     };
-    if is_refused || !is_noted {
-        return Ok(is_refused);
+    if is_refused {
+        return Ok(true);
     }
-    match write_out(writer, NOTE) {
+    match write_note(is_noted, writer) {
         Ok(()) => Ok(false),
-        Err(_) => Err(Unreported::WriteFailed),
+        Err(unreported) => Err(unreported),
     }
 }
 

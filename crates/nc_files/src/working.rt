@@ -13,11 +13,10 @@ use std::fs;
 use std::io::Input;
 use std::rt::Files;
 use std::sync::atomic::{AtomicUsize, Ordering};
-use std::sync::{Mutex, Wait};
 use std::thread::{Threads, for_each_mut};
 
-/// Files with more bytes are judged by one worker at a time, so that the memory of all workers is bounded.
-const MOST_CONCURRENT_BYTES: u64 = 8 << 20;
+/// A file with more bytes is left to the caller, so that one such file is in memory at a time.
+const MOST_BYTES: u64 = 8 << 20;
 
 /// The most bytes of text that a worker keeps.
 const ROOM: usize = 4 << 20;
@@ -76,31 +75,29 @@ fn report_on<R: AllocGlobal + Input + Files>(
     }
 }
 
-/// The length of a file that several workers may open in any order; none for a device or a pipe.
-fn len_of<R: Files>(rt: &R, file: &str) -> Option<u64> {
+/// Whether workers judge a file. Several devices or pipes must be read one after another, and only one large file at a time is to be in
+/// memory.
+fn is_for_workers<R: Files>(rt: &R, file: &str) -> bool {
     if file == "-" {
-        return None;
+        return false;
     }
     match fs::metadata(rt, file) {
-        Ok(metadata) if metadata.is_file() => Some(metadata.len()),
-        _ => None,
+        Ok(metadata) => metadata.is_file() && metadata.len() <= MOST_BYTES,
+        Err(_) => false,
     }
 }
 
 /// Judges a file for a worker, which leaves the file to the caller unless all goes well.
-fn judge_one<R: Wait + AllocGlobal + Input + Files>(
+fn judge_one<R: AllocGlobal + Input + Files>(
     rt: &R,
     ask: &CheckAsk<'_>,
     file: &str,
-    large: &Mutex<()>,
     room: usize,
 ) -> Option<Report>
     ensures { IfSome result (ReportsOn ask.now file.now) }
 {
-    let len = len_of(rt, file)?;
-    if len > MOST_CONCURRENT_BYTES {
-        let _alone = large.lock(rt);
-        return report_on(rt, ask, file, room);
+    if !is_for_workers(rt, file) {
+        return None;
     }
     report_on(rt, ask, file, room)
 }
@@ -116,30 +113,28 @@ fn keep(worker: &mut Worker, number: usize, report: Report)
 }
 
 /// Judges the file of this number for a worker, which keeps the report on it.
-fn judge_next<R: Wait + AllocGlobal + Input + Files>(
+fn judge_next<R: AllocGlobal + Input + Files>(
     rt: &R,
     ask: &CheckAsk<'_>,
     files: &[&str],
     number: usize,
-    large: &Mutex<()>,
     worker: &mut Worker,
 )
     requires below { number < length files.now }
     requires done { AreReports ask.now files.now worker.old.done.items }
     ensures { AreReports ask.now files.now worker.new.done.items }
 {
-    if let Some(report) = judge_one(rt, ask, files[number], large, worker.room) {
+    if let Some(report) = judge_one(rt, ask, files[number], worker.room) {
         keep(worker, number, report);
     }
 }
 
 /// The loop of a worker: it judges the next file that no worker has taken, until none is left.
-fn work<R: Wait + AllocGlobal + Input + Files>(
+fn work<R: AllocGlobal + Input + Files>(
     rt: &R,
     ask: &CheckAsk<'_>,
     files: &[&str],
     next: &AtomicUsize,
-    large: &Mutex<()>,
     worker: &mut Worker,
 )
     requires { AreReports ask.now files.now worker.old.done.items }
@@ -150,12 +145,12 @@ fn work<R: Wait + AllocGlobal + Input + Files>(
         if number >= files.len() {
             break;
         }
-        judge_next(rt, ask, files, number, large, worker);
+        judge_next(rt, ask, files, number, worker);
     }
 }
 
 /// Judges files by workers.
-fn work_all<R: Threads + Wait + Sync + AllocGlobal + Input + Files>(
+fn work_all<R: Threads + Sync + AllocGlobal + Input + Files>(
     rt: &R,
     ask: &CheckAsk<'_>,
     files: &[&str],
@@ -169,7 +164,6 @@ where
     ensures { All (λ worker. AreReports ask.now files.now worker.done.items) workers.new }
 {
     let next = AtomicUsize::new(0);
-    let large = Mutex::new(());
     let count = workers.len().max(1);
     for_each_mut(
         rt,
@@ -178,7 +172,7 @@ where
         &|_number: usize, worker: &mut Worker|
             requires { AreReports ask.now files.now worker.old.done.items }
             ensures { AreReports ask.entry.now files.entry.now worker.new.done.items }
-        { work(rt, ask, files, &next, &large, worker) },
+        { work(rt, ask, files, &next, worker) },
     );
 }
 
@@ -233,8 +227,8 @@ fn gather(ask: &CheckAsk<'_>, files: &[&str], workers: Vec<Worker>, places: &mut
 
 /// Judges files by the number of workers that is asked for; the caller is one of them. The place of each file has the report on
 /// it, or nothing if the caller must judge it alone: standard input, a device or a pipe, since several of these must be read
-/// one after another; a file that can't be read; and a file whose report is too long.
-pub fn judge_files<R: Threads + Wait + Sync + AllocGlobal + Input + Files>(
+/// one after another; a large file; a file that can't be read; and a file whose report is too long.
+pub fn judge_files<R: Threads + Sync + AllocGlobal + Input + Files>(
     rt: &R,
     ask: &CheckAsk<'_>,
     files: &[&str],

@@ -58,7 +58,8 @@ fn finish<S: Responder, W: Write>(
     }
 }
 
-/// Reads all lines and answers each as soon as its line end has been read.
+/// Reads all lines and answers each as soon as its line end has been read. Each answer is a write of its own, unless the writer
+/// takes only a part.
 pub fn answer_all<S: Responder, R: Read, W: Write>(
     alloc: Global,
     responder: &mut S,

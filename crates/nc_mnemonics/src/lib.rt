@@ -5,7 +5,7 @@
 //!
 //! `rows` is the table of names by opcode, `row` says what a row has, and `words` has the letters of the names. `parts` takes an
 //! instruction apart. `writing` writes the name and the operands, `memory` an operand in memory, `registers` has the names of registers,
-//! and `text` adds a piece to a text.
+//! and `text` adds a piece to a text. A piece is eight bytes, so that one of any length is copied at once.
 #![tactic(auto)]
 
 mod memory;

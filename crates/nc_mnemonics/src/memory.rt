@@ -1,22 +1,17 @@
 //! An operand in memory, by ModRM, SIB and displacement (Intel SDM volume 2, tables 2-2 and 2-3).
 
 use crate::parts::{Parts, byte_at};
-use crate::registers::{Size, index, register};
-use crate::text::{Text, push, push_number, push_scale};
+use crate::registers::{base, index, scale};
+use crate::text::{Text, push, push_number};
 
 /// Adds a displacement with its sign.
 fn push_displacement(text: &mut Text, displacement: Option<i32>) {
     if let Some(value) = displacement {
-        push(text, if value < 0 { "-" } else { "" });
+        if value < 0 {
+            push(text, *b"-       ");
+        }
         push_number(text, value.unsigned_abs());
     }
-}
-
-/// Adds the index and the scale that SIB names.
-fn push_index(text: &mut Text, sib: u8) {
-    push(text, ",");
-    push(text, index(sib / 8));
-    push_scale(text, 1 << (sib / 64));
 }
 
 /// Adds the memory that SIB names.
@@ -24,14 +19,12 @@ fn push_scaled(text: &mut Text, parts: &Parts<'_>) {
     let sib = byte_at(parts.rest, 1);
     let is_baseless = parts.modrm() < 0x40 && sib % 8 == 5;
     push_displacement(text, parts.displacement(2, is_baseless));
-    push(text, "(");
-    if !is_baseless {
-        push(text, register(Size::Long, sib));
-    }
+    push(text, if is_baseless { *b"(       " } else { base(sib) });
     if sib != 0x24 {
-        push_index(text, sib);
+        push(text, index(sib / 8));
+        push(text, scale(sib / 64));
     }
-    push(text, ")");
+    push(text, *b")       ");
 }
 
 /// Adds the memory that ModRM names.
@@ -46,8 +39,7 @@ pub(crate) fn push_memory(text: &mut Text, parts: &Parts<'_>) {
         );
     } else {
         push_displacement(text, parts.displacement(1, false));
-        push(text, "(");
-        push(text, register(Size::Long, modrm));
-        push(text, ")");
+        push(text, base(modrm));
+        push(text, *b")       ");
     }
 }

@@ -69,6 +69,12 @@ impl<'a> Parts<'a> {
         prefix + u32::from(self.opcode) * 256 + u32::from(self.modrm())
     }
 
+    /// The number of the eight opcodes, of one byte or after 0F, among which this one is.
+    pub fn eight(&self) -> usize {
+        let half = if self.opcode < 256 { 0 } else { 32 };
+        half + usize::from(self.opcode % 256) / 8
+    }
+
     /// The number of this many bytes at the end.
     pub fn last(&self, count: usize) -> u32 {
         number(&self.rest[self.rest.len().saturating_sub(count)..])

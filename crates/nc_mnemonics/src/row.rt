@@ -63,7 +63,7 @@ pub(crate) enum Name {
     If(Word),
 }
 
-/// The letter after a name that says how large the operand is. `b` means a byte, `l` 32 bits, and `w` 16.
+/// What follows a name and says how large the operand is. `b` means a byte, `l` 32 bits, and `w` 16.
 #[derive(Clone, Copy)]
 pub(crate) enum Suffix {
     /// None.
@@ -76,6 +76,8 @@ pub(crate) enum Suffix {
     Always,
     /// `w` after the prefix 66, else none.
     Word,
+    /// `8b`, which means eight bytes.
+    Eight,
 }
 
 /// Some opcodes.

@@ -5,10 +5,10 @@ use crate::row::Operand::{Al, Ax, Cl, Eb, Ev, Ew, Gb, Gv, Ib, Is, Iz, J, O, Rt, 
 use crate::row::{Operands, Row, Suffix};
 use crate::words::Group::{Arithmetic, Bits, Shifts, Unary};
 use crate::words::Word::{
-    Bsf, Bsr, Bswap, Call, Cbtw, Clc, Cld, Cltd, Cmc, Cmovcc, Cmps, Cmpsb, Cmpxchg, Cmpxchg8b,
-    Cpuid, Cwtd, Cwtl, Dec, Hlt, Imul, Inc, Jcc, Jecxz, Jmp, Lea, Leave, Lods, Loop, Loope, Loopne,
-    Mov, Movs, Movsb, Movsw, Movzb, Movzw, Nop, Pop, Push, Scas, Setcc, Shld, Shrd, Stc, Std, Stos,
-    Test, Ud2, Xadd, Xchg,
+    Bsf, Bsr, Bswap, Call, Cbtw, Clc, Cld, Cltd, Cmc, Cmovcc, Cmps, Cmpsb, Cmpxchg, Cpuid, Cwtd,
+    Cwtl, Dec, Hlt, Imul, Inc, Jcc, Jecxz, Jmp, Lea, Leave, Lods, Loop, Loope, Loopne, Mov, Movs,
+    Movsb, Movsw, Movzb, Movzw, Nop, Pop, Push, Scas, Setcc, Shld, Shrd, Stc, Std, Stos, Test, Ud2,
+    Xadd, Xchg,
 };
 
 /// A row, by its mask, its key, its name, its suffix and its operands.
@@ -35,11 +35,6 @@ macro_rules! operands {
 /// All opcodes. An instruction has the first row that fits.
 #[rattlefmt::skip]
 pub(crate) static ROWS: [Row; 111] = [
-    // What has another name after the prefix 66.
-    row!(0xFF_FFFF_00, 0x66_0090_00, Same(Xchg), Never, [Zv, Ax]),
-    row!(0xFF_FFFF_00, 0x66_0098_00, Same(Cbtw), Never, []),
-    row!(0xFF_FFFF_00, 0x66_0099_00, Same(Cwtd), Never, []),
-    // What hasn't.
     row!(0xFFC7_00, 0x0000_00, ByOpcode(Arithmetic), Never, [Eb, Gb]),
     row!(0xFFC7_00, 0x0001_00, ByOpcode(Arithmetic), Never, [Ev, Gv]),
     row!(0xFFC7_00, 0x0002_00, ByOpcode(Arithmetic), Never, [Gb, Eb]),
@@ -67,9 +62,12 @@ pub(crate) static ROWS: [Row; 111] = [
     row!(0xFFFF_00, 0x008A_00, Same(Mov), Never, [Gb, Eb]),
     row!(0xFFFF_00, 0x008B_00, Same(Mov), Never, [Gv, Ev]),
     row!(0xFFFF_00, 0x008D_00, Same(Lea), Never, [Gv, Ev]),
+    row!(0xFF_FFFF_00, 0x66_0090_00, Same(Xchg), Never, [Zv, Ax]),
     row!(0xFFFF_00, 0x0090_00, Same(Nop), Never, []),
     row!(0xFFF8_00, 0x0090_00, Same(Xchg), Never, [Zv, Ax]),
+    row!(0xFF_FFFF_00, 0x66_0098_00, Same(Cbtw), Never, []),
     row!(0xFFFF_00, 0x0098_00, Same(Cwtl), Never, []),
+    row!(0xFF_FFFF_00, 0x66_0099_00, Same(Cwtd), Never, []),
     row!(0xFFFF_00, 0x0099_00, Same(Cltd), Never, []),
     row!(0xFFFF_00, 0x00A0_00, Same(Mov), Never, [Al, O]),
     row!(0xFFFF_00, 0x00A1_00, Same(Mov), Never, [Ax, O]),
@@ -146,6 +144,19 @@ pub(crate) static ROWS: [Row; 111] = [
     row!(0xFFFF_00, 0x0FBF_00, Same(Movsw), Always, [Gv, Ew]),
     row!(0xFFFF_00, 0x0FC0_00, Same(Xadd), Never, [Eb, Gb]),
     row!(0xFFFF_00, 0x0FC1_00, Same(Xadd), Never, [Ev, Gv]),
-    row!(0xFFFF_38, 0x0FC7_08, Same(Cmpxchg8b), Never, [Ev]),
+    row!(0xFFFF_38, 0x0FC7_08, Same(Cmpxchg), Eight, [Ev]),
     row!(0xFFF8_00, 0x0FC8_00, Same(Bswap), Never, [Zv]),
+];
+
+/// For each eight opcodes a row before which none of them has one. The opcodes after 0F are in the lower half.
+#[rattlefmt::skip]
+pub(crate) static FIRST: [u8; 64] = [
+    0, 0, 0, 0, 0, 0, 0, 0,
+    6, 7, 8, 9, 10, 10, 14, 14,
+    15, 22, 27, 30, 34, 42, 50, 51,
+    52, 56, 57, 61, 61, 65, 68, 74,
+    86, 86, 87, 87, 88, 88, 88, 88,
+    88, 88, 89, 89, 89, 89, 89, 89,
+    89, 89, 90, 90, 91, 92, 92, 92,
+    107, 110, 110, 110, 110, 110, 110, 110,
 ];

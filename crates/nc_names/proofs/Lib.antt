@@ -1,1 +1,2 @@
 mod WholeInstructions
+mod Printable

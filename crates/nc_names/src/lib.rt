@@ -1,6 +1,7 @@
 //! Permitted instructions as text, in the AT&T syntax that GNU objdump writes.
 //!
-//! [`push_instruction`] adds the name and the operands of one instruction to a text. No verdict depends on it.
+//! [`push_instruction`] adds the name and the operands of one instruction to a text. [`front_name`] gives those of the instruction at the
+//! front of some bytes, and its length. No verdict depends on either.
 //!
 //! The names are those of `nc_mnemonics`. No proof relies on that table, so a name that is not printable would become `?`.
 //!
@@ -13,4 +14,4 @@
 
 mod naming;
 
-pub use naming::push_instruction;
+pub use naming::{Name, front_name, push_instruction};

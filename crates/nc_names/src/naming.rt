@@ -1,30 +1,48 @@
-//! The call that other crates use.
+//! The calls that other crates use.
 
-ghost use Rattle.std.specs.Prelude.{◌≡◌, ◌≤◌, ◌<◌, length, IfSome, OnOk, OnErr};
+ghost use Rattle.std.specs.Prelude.{◌≡◌, ◌<◌, ◌≤◌, length, IfSome, IfNone, OnOk, OnErr};
 ghost use Rattle.std.specs.List.{list_all};
-ghost use Rattle.nc_decode.specs.Spelling.{Spells};
+ghost use Rattle.nc_decode.specs.Spelling.{Spells, IsAtFront};
 ghost use Rattle.nc_decode.specs.declared.instruction.Instr.{Instr};
-ghost use Rattle.nc_names.specs.Names.{is_printable, AddsPrintable};
+ghost use Rattle.nc_names.specs.Names.{is_printable, IsName, AddsPrintable, HasLength};
 
 use nc_decode::{Instr, decode};
-use nc_mnemonics::text_of;
+use nc_mnemonics::{Text, text_of};
 use std::alloc::AllocError;
 
-/// What stands for a name that is missing. Each instruction has one, which is tested.
-const UNNAMED: &[u8] = b"?";
+/// The name and the operands of an instruction, as text.
+#[derive(Clone, Copy)]
+pub struct Name {
+    /// The text. What follows it means nothing, but is printable too.
+    pub text: [u8; 64],
+    /// The length of the text.
+    pub len: usize,
+}
 
-/// A printable character of ASCII.
+/// What stands for a name that is missing. Each instruction has one, which is tested.
+const UNNAMED: Name = Name {
+    text: [b'?'; 64],
+    len: 1,
+};
+
+/// A printable character of ASCII. No branches, so that many are tested at once.
+#[inline(always)]
 fn is_printable(byte: u8) -> bool
     ensures { result ≡ is_printable byte }
 {
-    byte >= 0x20 && byte < 0x7F
+    (byte >= 0x20) & (byte < 0x7F)
 }
 
 /// All of these bytes are printable.
+#[inline(always)]
 fn are_printable(bytes: &[u8]) -> bool
     ensures { result ≡ list_all is_printable bytes.now }
 {
-    bytes.iter().all(|byte| is_printable(*byte))
+    let mut all = true;
+    for byte in bytes {
+        all &= is_printable(*byte);
+    }
+    all
 }
 
 /// The permitted instruction that these bytes are, with none after it.
@@ -38,18 +56,46 @@ fn whole(bytes: &[u8]) -> Option<Instr>
     }
 }
 
-/// Adds a name. One that is empty, or that isn't printable, becomes `UNNAMED`. So nothing has to be proved about the table.
-fn push_name(out: &mut Vec<u8>, name: &[u8]) -> Result<(), AllocError>
-    requires { length name.now ≤ 64 }
+/// The name of an instruction. One that is empty, or that isn't printable, becomes `UNNAMED`. So nothing has to be proved about the
+/// table.
+#[inline(always)]
+fn name_of(at: u32, bytes: &[u8], instr: &Instr) -> Name
+    ensures { IsName result }
+{
+    let Text { bytes: text, len } = text_of(at, bytes, instr);
+    if 0 < len && len <= 64 && are_printable(&text) {
+        Name { text, len }
+    } else {
+        UNNAMED
+    }
+}
+
+/// The name and the operands of the permitted instruction at the front of these bytes, as [`push_instruction`] writes them for this
+/// address, and the instruction's length. None if the bytes don't begin with a permitted instruction.
+pub fn front_name(at: u32, bytes: &[u8]) -> Option<(Name, usize)>
+    // At least one character, at most 64, and none of them ends the line or controls a terminal.
+    ensures named { IfSome result (λ found. IsName found.0) }
+    // The instruction at the front has this length.
+    ensures front { IfSome result (λ found. HasLength bytes.now found.1) }
+    ensures sized { IfSome result (λ found. (0 < found.1) × (found.1 ≤ length bytes.now)) }
+    // Other bytes have no name.
+    ensures none { IfNone result ((i : Instr) → ¬ IsAtFront bytes.now i) }
+{
+    let Ok(instr) = decode(bytes) else {
+        return None;
+    };
+    let len = usize::from(instr.len);
+    Some((name_of(at, &bytes[..len], &instr), len))
+}
+
+/// Adds a name.
+fn push_name(out: &mut Vec<u8>, name: &Name) -> Result<(), AllocError>
+    requires { IsName name.now }
     ensures added { OnOk result (AddsPrintable out.old.items out.new.items) }
     ensures some { OnOk result (length out.old.items < length out.new.items) }
     ensures err { OnErr result (out.new.items ≡ out.old.items) }
 {
-    if !name.is_empty() && are_printable(name) {
-        out.extend_from_slice(name)
-    } else {
-        out.extend_from_slice(UNNAMED)
-    }
+    out.extend_from_slice(&name.text[..name.len])
 }
 
 /// Adds the name and the operands of the permitted instruction that these bytes are, at this address, in AT&T syntax as GNU objdump
@@ -70,5 +116,5 @@ pub fn push_instruction(out: &mut Vec<u8>, at: u32, bytes: &[u8]) -> Result<(), 
     let Some(instr) = whole(bytes) else {
         return Ok(());
     };
-    push_name(out, text_of(at, bytes, &instr).as_str().as_bytes())
+    push_name(out, &name_of(at, bytes, &instr))
 }

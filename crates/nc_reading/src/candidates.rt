@@ -1,8 +1,8 @@
 //! The places of a refused chunk that may have a fault, by their classes and bytes alone.
 
-ghost use Rattle.std.specs.Prelude.{◌≡◌, ◌≤◌, ◌<◌, ◌+◌, ◌%◌, ◌==◌, ℕ, true, length, get_or, slice_index, if◌then◌else◌};
+ghost use Rattle.std.specs.Prelude.{◌≡◌, ◌≤◌, ◌<◌, ◌+◌, ◌%◌, ◌==◌, ℕ, List, true, length, get_or, slice_index, if◌then◌else◌};
 ghost use Rattle.std.specs.Int.{bit_at};
-ghost use Rattle.nc_reading.specs.Quiet.{is_quiet};
+ghost use Rattle.nc_reading.specs.Quiet.{is_quiet, AreCandidates};
 
 use crate::class::Class;
 use nc_decode::{BUNDLE, may_transfer};
@@ -64,33 +64,71 @@ fn zeros(marks: u8x32) -> u32
 fn candidates(code: &[u8], classes: &[Class], at: usize) -> u32
     requires each { length classes.now ≡ length code.now }
     requires within { at + 32 ≤ length code.now }
-    ensures { (k : ℕ) → k < 32 → bit_at result k ≡ 0
-        → is_quiet (get_or classes.now (at + k) Class.Inside) (slice_index code.now (at + k)) ≡ true }
+    ensures { AreCandidates code.now classes.now at result }
 {
     let marks = quiet_marks(code, classes, at);
     zeros(u8x32::from_slice(&marks))
+}
+
+/// The places of one bundle that may have a fault, kept from one call of [`next_candidate`] to the next.
+#[derive(Clone, Copy)]
+pub struct Seen {
+    /// The place of the bundle.
+    pub at: usize,
+    /// Where bit k is 0, the place `at + k` is quiet.
+    pub bits: u32,
+}
+
+/// What is known of no bundle: no place after the last byte has a fault.
+pub fn none_seen(classes: &[Class]) -> Seen
+    ensures { (code : List ℕ) → AreCandidates code classes.now result.at result.bits }
+{
+    Seen {
+        at: classes.len(),
+        bits: 0,
+    }
+}
+
+/// The bits of the bundle at a place, which are computed unless they were seen last.
+#[inline(always)]
+fn look(code: &[u8], classes: &[Class], at: usize, seen: &mut Seen) -> u32
+    requires each { length classes.now ≡ length code.now }
+    requires within { at + 32 ≤ length code.now }
+    requires known { AreCandidates code.now classes.now seen.old.at seen.old.bits }
+    ensures bits { AreCandidates code.now classes.now at result }
+    ensures known { AreCandidates code.now classes.now seen.new.at seen.new.bits }
+{
+    if seen.at == at {
+        return seen.bits;
+    }
+    let bits = candidates(code, classes, at);
+    *seen = Seen { at, bits };
+    bits
 }
 
 /// The first place at or after `from` that may have a fault, by its class and its byte, or the end of the code if there is none.
 ///
 /// A place is the number of a byte, from 0 on. The code is whole bundles, and `classes` has the class of each of its bytes, as
 /// [`read_classes`](crate::read_classes) gives them. No place that is passed over has a fault, whatever the base and the limit. The
-/// place of the result need not have one: a direct transfer may go where it is allowed to.
-#[inline(never)]
-pub fn next_candidate(code: &[u8], classes: &[Class], from: usize) -> usize
+/// place of the result need not have one: a direct transfer may go where it is allowed to. `seen` is what an earlier call for the same
+/// code left, or [`none_seen`].
+#[inline(always)]
+pub fn next_candidate(code: &[u8], classes: &[Class], from: usize, seen: &mut Seen) -> usize
     requires bundles { length code.now % 32 ≡ 0 }
     requires each { length classes.now ≡ length code.now }
     requires within { from ≤ length code.now }
+    requires known { AreCandidates code.now classes.now seen.old.at seen.old.bits }
     ensures low { from ≤ result }
     ensures within { result ≤ length code.now }
     ensures quiet { (k : ℕ) → from ≤ k → k < result
         → is_quiet (get_or classes.now k Class.Inside) (slice_index code.now k) ≡ true }
+    ensures known { AreCandidates code.now classes.now seen.new.at seen.new.bits }
 {
     let mut at = from;
     while at < code.len() {
         let passed = at % BUNDLE as usize;
         let room = BUNDLE as usize - passed;
-        let left = candidates(code, classes, at - passed) >> passed;
+        let left = look(code, classes, at - passed, seen) >> passed;
         if left != 0 {
             return at + room.min(left.trailing_zeros() as usize);
         }

@@ -11,7 +11,7 @@
 //! // A bundle with a return, which isn't permitted, and 31 nops.
 //! let classes = read_classes(Global, &code)?;
 //! assert!(classes[0] == Class::NotPermitted && classes[1] == Class::Entry);
-//! assert!(next_candidate(&code, &classes, 1) == 32);
+//! assert!(next_candidate(&code, &classes, 1, &mut none_seen(&classes)) == 32);
 //! ```
 #![tactic(auto)]
 
@@ -21,6 +21,6 @@ mod fast_path;
 mod lengths;
 mod steps;
 
-pub use candidates::next_candidate;
+pub use candidates::{Seen, next_candidate, none_seen};
 pub use class::Class;
 pub use steps::{Found, Step, read_classes};

@@ -8,10 +8,10 @@ use Rattle.nc_output.specs.declared.detail.Format.{Format}
 use Rattle.nc_output.specs.declared.detail.Format.TheVariants.{Text, Json}
 use Rattle.nc_reading.specs.declared.class.Class.{Class}
 use Rattle.nc_reading.specs.Reading.{HasClasses}
-use Rattle.nc_report.specs.Objects.{NoMembers}
+use Rattle.nc_report.proofs.Members.{no_members}
 use Rattle.nc_report.specs.Further.{fault_at, others_at, others_to}
 use Rattle.nc_report.specs.Totals.{counts_to}
-use Rattle.nc_report.specs.Report.{heading, Shows, ShowsOne, Opens, ReportsEach, ReportsOthers, counts_text}
+use Rattle.nc_report.specs.Report.{heading, about_fault, about_all, Shows, ShowsOne, Opens, ReportsEach, ReportsOthers, counts_text}
 use Rattle.nc_output.specs.Adds.{Adds}
 use Rattle.nc_report.proofs.ObjectTexts.{ReportsObject}
 use Rattle.nc_report.proofs.Additions.{no_details}
@@ -36,7 +36,7 @@ each_one f fault words d = (words, [], d, refl, ap (λ (z : List ℕ). heading f
 -- something is shown about any fault
 some_shown : (f : Format) → (text : List ℕ) × ShowsOne f text
 some_shown Text = ([], no_details)
-some_shown Json = (codes "}", ([], NoMembers, refl))
+some_shown Json = (codes "}", ([], no_members about_fault, refl))
 
 -- there is text about any faults
 each_some : (f : Format) (fs : List VetFault) → (text : List ℕ) × ReportsEach f fs text
@@ -90,7 +90,7 @@ also_object old new fault a =
 -- the numbers, and what is shown after them
 abbrev pub ReportsLast : Format → ℕ → ℕ → List ℕ → List Class → List ℕ → Type 0
 ReportsLast f base limit code classes text =
-    (last : List ℕ) × Shows f last × (text ≡ counts_text f (counts_to base limit code classes (length code)) ++ last)
+    (last : List ℕ) × Shows about_all f last × (text ≡ counts_text f (counts_to base limit code classes (length code)) ++ last)
 
 -- the beginning, and the text about each fault
 abbrev pub ReportsFirst : Format → ℕ → ℕ → List ℕ → List Class → VetFault → ℕ → List ℕ → Type 0
@@ -116,13 +116,13 @@ others_reported f base limit code classes fault own h a b (first, each, o, t, is
 }
 
 -- something is shown after the numbers, if only nothing
-pub none_shown : (f : Format) → Shows f []
-none_shown Text = no_details
-none_shown Json = NoMembers
+pub none_shown : (names : List (List ℕ)) (f : Format) → Shows names f []
+none_shown names Text = no_details
+none_shown names Json = no_members names
 
 -- the text about each fault can be completed to the whole text about other faults
 pub others_completed : (f : Format) (base limit : ℕ) (code : List ℕ) (classes : List Class) (fault : VetFault) (own : ℕ) → HasClasses code classes
     → (a : List ℕ) → ReportsFirst f base limit code classes fault own a → (more : List ℕ) × ReportsOthers f base limit code fault own (a ++ more)
 others_completed f base limit code classes fault own h a t =
     let last = counts_text f (counts_to base limit code classes (length code)) ++ [] in
-    (last, others_reported f base limit code classes fault own h a last t ([], none_shown f, refl))
+    (last, others_reported f base limit code classes fault own h a last t ([], none_shown about_all f, refl))

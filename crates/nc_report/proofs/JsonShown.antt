@@ -48,13 +48,13 @@ rest_shown (b ∷ text) shown = (and_parts (is_shown b) (list_all is_shown text)
 -- JSON has no control byte
 pub json_shown : (part : Part) (text : List ℕ) → IsJson part text → IsShown text
 json_shown part text (Quoted bytes) = string_shown bytes
-json_shown part text (Braced {text = members} inside) =
-    simp (list_all-append, rest_shown members (json_shown InObject members inside))
+json_shown part text (Braced {names = names} {text = members} inside) =
+    simp (list_all-append, rest_shown members (json_shown (InObject names) members inside))
 json_shown part text (Bracketed {text = elements} inside) =
     simp (list_all-append, rest_shown elements (json_shown InArray elements inside))
 json_shown part text NoMembers = refl
-json_shown part text (Member {text = members} {value = value} before name is) =
-    simp (list_all-append, json_shown InObject members before, string_shown name, json_shown Whole value is)
+json_shown part text (Member {names = names} {text = members} {value = value} before name other is) =
+    simp (list_all-append, json_shown (InObject names) members before, string_shown name, json_shown Whole value is)
 json_shown part text NoElements = refl
 json_shown part text (Element {text = elements} {value = value} before is) =
     simp (list_all-append, json_shown InArray elements before, json_shown Whole value is)

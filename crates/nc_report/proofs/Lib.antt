@@ -1,3 +1,6 @@
+mod LabelLookups
+mod Members
+mod ShownWords
 mod Additions
 mod Placed
 mod AcceptedTexts
@@ -13,3 +16,4 @@ mod OneWay
 mod CountedFaults
 mod TotalWords
 mod QuietPlaces
+mod ShownFronts

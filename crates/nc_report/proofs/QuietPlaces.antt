@@ -1,7 +1,7 @@
 -- Places that have no fault, by their class and their byte alone.
 use Rattle.std.proofs.Common.{◌≡◌, ℕ, zero, suc, ◌+◌, ◌-◌, ◌<◌, ◌≤◌, Bool, true, false, List, [], ◌∷◌, ◌++◌, length, drop, get_or, cond, refl, sym, subst, ◌∙◌, ap, slice_index, not, ◌==◌, get_or-drop, append-nil, Option, Some, None, arith, inl, inr}
 use Rattle.std.specs.Prelude.{option_to_list}
-use Rattle.std.proofs.lemmas.Bool.{not-true, cond_both, and_left}
+use Rattle.std.proofs.lemmas.Bool.{not-true, cond_both, and_left, cases_lt}
 use Rattle.nc_decode.specs.declared.instruction.Instr.{Instr}
 use Rattle.nc_decode.specs.Spelling.{Spells, IsAtFront}
 use Rattle.nc_decode.specs.Front.{first_instruction}
@@ -61,6 +61,23 @@ quiet_none base limit code classes k q =
 -- no place from `k` on and before `next` has a fault
 abbrev pub AreFaultless : ℕ → ℕ → List ℕ → List Class → ℕ → ℕ → Type 0
 AreFaultless base limit code classes k next = (j : ℕ) → k ≤ j → j < next → fault_at base limit code classes j ≡ None
+
+-- quiet places after places without a fault have none either
+pub faultless_on : (base limit : ℕ) (code : List ℕ) (classes : List Class) (k at next : ℕ) → AreFaultless base limit code classes k at
+    → ((j : ℕ) → at ≤ j → j < next → is_quiet (get_or classes j Inside) (slice_index code j) ≡ true)
+    → AreFaultless base limit code classes k next
+faultless_on base limit code classes k at next before quiet j low high = elim (cases_lt j at) [
+  | inl early ↦ before j low early
+  | inr late ↦ quiet_none base limit code classes j (quiet j (omega (arith, late)) high)
+]
+
+-- nor has one more place without a fault
+pub faultless_past : (base limit : ℕ) (code : List ℕ) (classes : List Class) (k place : ℕ) → AreFaultless base limit code classes k place
+    → fault_at base limit code classes place ≡ None → AreFaultless base limit code classes k (place + 1)
+faultless_past base limit code classes k place before none j low high = elim (cases_lt j place) [
+  | inl early ↦ before j low early
+  | inr late ↦ subst (λ (n : ℕ). fault_at base limit code classes n ≡ None) (let e : place ≡ j = omega (arith, late, high) in e) none
+]
 
 -- a place without a fault has no further fault
 none_at : (base limit : ℕ) (code : List ℕ) (classes : List Class) (own k : ℕ) → fault_at base limit code classes k ≡ None

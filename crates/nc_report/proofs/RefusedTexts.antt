@@ -7,14 +7,14 @@ use Rattle.nc_output.specs.declared.detail.Detail.{Detail}
 use Rattle.nc_output.specs.declared.detail.Detail.TheVariants.{Brief, Usual, Calls}
 use Rattle.nc_output.specs.declared.detail.Detail.TheVariants as detail
 use Rattle.nc_output.specs.declared.detail.Style.{Style}
-use Rattle.nc_report.specs.Report.{refused_text, Shows, ReportsFault, ReportsMore, end_of, ReportsRefused}
+use Rattle.nc_report.specs.Report.{refused_text, about_fault, Shows, ReportsFault, ReportsMore, end_of, ReportsRefused}
 use Rattle.nc_output.specs.Adds.{Adds}
 use Rattle.nc_report.specs.machinery.Added.{WritesOn}
 use Rattle.nc_report.proofs.Additions.{writes_after}
 
 -- the verdict and what is shown about the fault were added
 pub explained : (old mid new : List ℕ) (s : Style) (base : ℕ) (name : List ℕ) (fault : VetFault) → s.detail ≢ Brief
-    → mid ≡ old ++ refused_text s.format base name fault → Adds mid new (Shows s.format)
+    → mid ≡ old ++ refused_text s.format base name fault → Adds mid new (Shows about_fault s.format)
     → Adds old new (ReportsFault s.detail s.format base name fault)
 explained old mid new s base name fault long e a = record {
   text = refused_text s.format base name fault ++ a.text;

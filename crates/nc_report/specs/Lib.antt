@@ -1,5 +1,6 @@
 pub mod machinery
 pub mod Labels
+pub mod Forms
 pub mod Outside
 pub mod Objects
 pub mod Further

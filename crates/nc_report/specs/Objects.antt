@@ -1,14 +1,15 @@
 -- Verdicts as JSON objects (RFC 8259), each on a line of its own.
-use Rattle.std.specs.Prelude.{ℕ, List, [], ◌++◌, codes, drop, Option, Some, None}
+use Rattle.std.specs.Prelude.{ℕ, List, [], ◌∷◌, ◌++◌, All, Contains, codes, drop, Option, Some, None}
 use Rattle.std.specs.Fmt.{decimal}
 use Rattle.nc_vet.specs.declared.fault.VetFault.{VetFault}
 use Rattle.nc_output.specs.Verdicts.{address_digits, fault_name, place_of}
 use Rattle.nc_output.specs.Strings.{string_of}
 
--- The kind of a text of JSON: a whole value; or members of an object, or elements of an array, each of them after a comma.
+-- The kind of a text of JSON: a whole value; or members of an object, which have these names, or elements of an array. Each
+-- member and each element stands after a comma.
 pub data Part : Type 0 where
   Whole : Part
-  InObject : Part
+  InObject : List (List ℕ) → Part
   InArray : Part
 
 -- members as an object, and elements as an array: without the first comma, and in braces or brackets
@@ -22,16 +23,21 @@ array_of elements = codes "[" ++ (drop 1 elements ++ codes "]")
 abbrev pub member : List ℕ → List ℕ → List ℕ
 member name value = codes "," ++ (string_of name ++ (codes ":" ++ value))
 
--- The text is JSON, without spaces: strings, and objects and arrays of them. So each quotation mark and each brace
--- that isn't escaped belongs to the form of the text, whatever bytes its strings have.
+-- The text is JSON, without spaces: strings, and objects and arrays of them. The members of an object have different names. Each
+-- quotation mark and each brace that isn't escaped belongs to the form of the text, whatever bytes its strings have.
 pub data IsJson : Part → List ℕ → Type 0 where
   Quoted : (bytes : List ℕ) → IsJson Whole (string_of bytes)
-  Braced : {text : List ℕ} → IsJson InObject text → IsJson Whole (object_of text)
+  Braced : {names : List (List ℕ)} {text : List ℕ} → IsJson (InObject names) text → IsJson Whole (object_of text)
   Bracketed : {text : List ℕ} → IsJson InArray text → IsJson Whole (array_of text)
-  NoMembers : IsJson InObject []
-  Member : {text value : List ℕ} → IsJson InObject text → (name : List ℕ) → IsJson Whole value → IsJson InObject (text ++ member name value)
+  NoMembers : IsJson (InObject []) []
+  Member : {names : List (List ℕ)} {text value : List ℕ} → IsJson (InObject names) text → (name : List ℕ) → ¬ Contains names name
+      → IsJson Whole value → IsJson (InObject (name ∷ names)) (text ++ member name value)
   NoElements : IsJson InArray []
   Element : {text value : List ℕ} → IsJson InArray text → IsJson Whole value → IsJson InArray (text ++ (codes "," ++ value))
+
+-- members of an object with different names, each of them one of these
+abbrev pub AreMembers : List (List ℕ) → List ℕ → Type 0
+AreMembers among text = (names : List (List ℕ)) × All (Contains among) names × IsJson (InObject names) text
 
 -- the first member: the name of a file
 abbrev pub file_member : List ℕ → List ℕ

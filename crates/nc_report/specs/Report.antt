@@ -19,7 +19,7 @@ use Rattle.nc_reading.specs.Reading.{IsReading, classes_of}
 use Rattle.nc_report.specs.declared.totals.Counts.{Counts}
 use Rattle.nc_output.specs.Shown.{AreDetails, detail_line}
 use Rattle.nc_report.specs.Outside.{OutsideRow, AreCalls, rows_text}
-use Rattle.nc_report.specs.Objects.{InObject, IsJson, accepted_members, refused_members, fault_object}
+use Rattle.nc_report.specs.Objects.{AreMembers, accepted_members, refused_members, fault_object}
 use Rattle.nc_report.specs.Further.{others_to}
 use Rattle.nc_report.specs.Totals.{counts_to, totals_line, counts_member}
 
@@ -67,21 +67,29 @@ abbrev pub refused_text : Format → ℕ → List ℕ → VetFault → List ℕ
 refused_text Text base name fault = refused_line name fault
 refused_text Json base name fault = refused_members base name fault
 
--- what is shown about a source: lines of details, or further members of its object
-abbrev pub Shows : Format → List ℕ → Type 0
-Shows Text text = AreDetails text
-Shows Json text = IsJson InObject text
+-- the names of the members about a fault, and of those after the numbers of all faults
+abbrev pub about_fault : List (List ℕ)
+about_fault =
+    codes "symbol" ∷ codes "meaning" ∷ codes "target" ∷ codes "why" ∷ codes "bundle" ∷ codes "starts" ∷ []
+
+abbrev pub about_all : List (List ℕ)
+about_all = codes "note" ∷ []
+
+-- what is shown about a source: lines of details, or further members of its object, each of which has one of these names
+abbrev pub Shows : List (List ℕ) → Format → List ℕ → Type 0
+Shows names Text text = AreDetails text
+Shows names Json text = AreMembers names text
 
 -- the verdict on a source that has this fault, and what is shown about the fault; in brief the verdict alone
 abbrev pub ReportsFault : Detail → Format → ℕ → List ℕ → VetFault → List ℕ → Type 0
 ReportsFault Brief format base name fault text = text ≡ refused_text format base name fault
 ReportsFault detail format base name fault text =
-    (shown : List ℕ) × Shows format shown × (text ≡ refused_text format base name fault ++ shown)
+    (shown : List ℕ) × Shows about_fault format shown × (text ≡ refused_text format base name fault ++ shown)
 
 -- what is shown about one of several faults, after its name and address: lines, or the other members of its object
 abbrev pub ShowsOne : Format → List ℕ → Type 0
 ShowsOne Text text = AreDetails text
-ShowsOne Json text = (members : List ℕ) × IsJson InObject members × (text ≡ members ++ codes "}")
+ShowsOne Json text = (members : List ℕ) × AreMembers about_fault members × (text ≡ members ++ codes "}")
 
 -- the name and the address of a further fault: a line, or the beginning of a further element of an array
 abbrev pub heading : Format → VetFault → List ℕ
@@ -114,7 +122,7 @@ pub record ReportsOthers (format : Format) (base limit : ℕ) (code : List ℕ) 
   pub each : List ℕ
   pub reports : ReportsEach format (others_to base limit code (classes_of steps) own (length code)) each
   pub last : List ℕ
-  pub shown : Shows format last
+  pub shown : Shows about_all format last
   pub is : text ≡ first ++ (each ++ (counts_text format (counts_to base limit code (classes_of steps) (length code)) ++ last))
 
 -- the text about the other faults of a source that has this one, if they are asked for; none if the fault has no address

@@ -5,3 +5,4 @@ pub mod Counts
 pub mod Runs
 pub mod CountedFault
 pub mod Texts
+pub mod Members

@@ -2,7 +2,6 @@
 
 ghost use Rattle.std.specs.Prelude.{◌≤◌, length};
 
-use crate::forms::form_words;
 use crate::judged::Judged;
 use crate::kind::Kind;
 use crate::words::*;
@@ -229,8 +228,8 @@ pub(crate) fn words_without_place(
     judged: &Judged<'_>,
     fault: VetFault,
 ) -> Result<Vec<u8>, AllocError> {
-    let mut words = Vec::from_slice(alloc, words_about(judged.code, fault, 0))?;
-    if fault == VetFault::OutOfRange && form_words(judged.code).is_none() {
+    let mut words = Vec::from_slice(alloc, words_about(judged, fault, 0))?;
+    if fault == VetFault::OutOfRange && judged.form.is_none() {
         if let Some(count) = enough_bundles(judged) {
             let more = format!(in alloc; ", or give --bundles of at least {count}")?;
             words.extend_from_slice(more.as_bytes())?;
@@ -240,11 +239,11 @@ pub(crate) fn words_without_place(
 }
 
 /// The words about a fault at a place of the code, 0 if it has none.
-pub(crate) fn words_about(code: &[u8], fault: VetFault, place: usize) -> &'static [u8]
-    requires { place ≤ length code.now }
+pub(crate) fn words_about(judged: &Judged<'_>, fault: VetFault, place: usize) -> &'static [u8]
+    requires { place ≤ length judged.now.code.now }
 {
-    match form_words(code) {
+    match judged.form {
         Some(words) => words,
-        None => meaning(fault, &code[place..]),
+        None => meaning(fault, &judged.code[place..]),
     }
 }

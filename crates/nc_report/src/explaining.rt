@@ -1,8 +1,10 @@
 //! The lines about a fault: the name of its address, its bundle, the target of a refused transfer, and what the fault means.
 
-ghost use Rattle.std.specs.Prelude.{OnOk};
+ghost use Rattle.std.specs.Prelude.{◌≡◌, ◌++◌, IfOk, OnOk, string_bytes};
 ghost use Rattle.nc_output.specs.Shown.{AreDetails};
 ghost use Rattle.nc_output.specs.Adds.{Adds};
+ghost use Rattle.nc_report.specs.Labels.{label_of};
+ghost use Rattle.nc_report.specs.machinery.Members.{label_line, offset_text, target_line};
 
 use crate::finding::Finding;
 use crate::labels::Labels;
@@ -13,7 +15,9 @@ use nc_output::push_detail;
 use std::alloc::{AllocError, Global};
 
 /// The offset of an address from its label, as text.
-pub(crate) fn offset_words(alloc: Global, offset: u32) -> Result<String, AllocError> {
+pub(crate) fn offset_words(alloc: Global, offset: u32) -> Result<String, AllocError>
+    ensures { IfOk result (λ text. string_bytes text ≡ offset_text offset) }
+{
     if offset == 0 {
         return Ok(String::new(alloc));
     }
@@ -22,7 +26,8 @@ pub(crate) fn offset_words(alloc: Global, offset: u32) -> Result<String, AllocEr
 
 /// Adds the line that names an address, if it has a label.
 fn push_label(out: &mut Vec<u8>, labels: &Labels, at: u32) -> Result<(), AllocError>
-    ensures { OnOk result (Adds out.old.items out.new.items AreDetails) }
+    ensures exact { OnOk result (out.new.items ≡ out.old.items ++ label_line (label_of labels.now at) at) }
+    ensures details { OnOk result (Adds out.old.items out.new.items AreDetails) }
 {
     let Some(label) = labels.of(at) else {
         return Ok(());
@@ -42,7 +47,8 @@ fn push_label(out: &mut Vec<u8>, labels: &Labels, at: u32) -> Result<(), AllocEr
 
 /// Adds the line about the target of a refused direct transfer.
 fn push_target(out: &mut Vec<u8>, target: Option<Target>) -> Result<(), AllocError>
-    ensures { OnOk result (Adds out.old.items out.new.items AreDetails) }
+    ensures exact { OnOk result (out.new.items ≡ out.old.items ++ target_line target) }
+    ensures details { OnOk result (Adds out.old.items out.new.items AreDetails) }
 {
     let Some(target) = target else {
         return Ok(());

@@ -3,7 +3,7 @@
 ghost use Rattle.std.specs.Prelude.{◌≡◌, ◌≤◌, ◌<◌, ◌+◌, ◌%◌, ◌^◌, length};
 
 use crate::advice::words_about;
-use crate::further::{class_at, is_begun};
+use crate::further::is_begun;
 use crate::judged::Judged;
 use crate::targets::{Target, target_inside, target_of, target_outside};
 use nc_decode::BUNDLE;
@@ -44,11 +44,10 @@ fn bundle_at(code: &[u8], start: usize) -> [u8; 32]
 fn starts_at(classes: &[Class], start: usize) -> u32
     requires { start + 32 ≤ length classes.now }
 {
-    let mut starts = 0;
+    // No branches, so that LLVM tests many classes at once.
+    let mut starts = 0u32;
     for k in 0..32u32 {
-        if is_begun(class_at(classes, start + k as usize)) {
-            starts |= 1 << k;
-        }
+        starts |= u32::from(is_begun(classes[start + k as usize])) << k;
     }
     starts
 }
@@ -84,7 +83,7 @@ pub(crate) fn finding_at<'a>(
         rest: &judged.code[start..],
         starts: starts_at(classes, start),
         target: target_by(judged, classes, fault, k),
-        meaning: words_about(judged.code, fault, k),
+        meaning: words_about(judged, fault, k),
     }
 }
 
@@ -133,6 +132,6 @@ pub(crate) fn own_finding<'a>(
         rest: &judged.code[start..],
         starts: starts_at(&classes, 0),
         target,
-        meaning: words_about(judged.code, fault, k),
+        meaning: words_about(judged, fault, k),
     })
 }

@@ -1,5 +1,8 @@
 //! Files that aren't raw code, known by their first bytes.
 
+ghost use Rattle.std.specs.Prelude.{◌≡◌};
+ghost use Rattle.nc_report.specs.Forms.{is_blank, is_of_digits, is_hexadecimal};
+
 use crate::words::*;
 use nc_decode::BUNDLE;
 
@@ -40,7 +43,9 @@ fn is_windows(code: &[u8]) -> bool {
 }
 
 /// A space, a tab, or the end of a line.
-fn is_blank(byte: u8) -> bool {
+fn is_blank(byte: u8) -> bool
+    ensures { result ≡ is_blank byte }
+{
     byte == b' ' || byte == b'\t' || byte == b'\n' || byte == b'\r'
 }
 
@@ -50,7 +55,9 @@ fn is_of_text(byte: u8) -> bool {
 }
 
 /// A byte of hexadecimal text: a digit, or a blank.
-fn is_of_digits(byte: u8) -> bool {
+fn is_of_digits(byte: u8) -> bool
+    ensures { result ≡ is_of_digits byte }
+{
     byte.is_ascii_hexdigit() || is_blank(byte)
 }
 
@@ -63,7 +70,9 @@ fn first_bundle(code: &[u8]) -> &[u8] {
 }
 
 /// Whether there is code, and all of it is hexadecimal text, as `xxd -p` writes it.
-pub fn is_hexadecimal(code: &[u8]) -> bool {
+pub fn is_hexadecimal(code: &[u8]) -> bool
+    ensures { result ≡ is_hexadecimal code.now }
+{
     for byte in code {
         if !is_of_digits(*byte) {
             return false;

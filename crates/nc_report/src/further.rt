@@ -1,12 +1,13 @@
 //! The faults that the reading of a refused chunk finds.
 
-ghost use Rattle.std.specs.Prelude.{◌≡◌, ◌<◌, ◌+◌, ◌^◌, drop, length, get_or};
+ghost use Rattle.std.specs.Prelude.{◌≡◌, ◌≤◌, ◌<◌, ◌+◌, ◌%◌, ◌^◌, ℕ, None, drop, length, get_or};
 ghost use Rattle.nc_decode.specs.Front.{first_instruction};
+ghost use Rattle.nc_reading.specs.Quiet.{AreCandidates};
 ghost use Rattle.nc_report.specs.Further.{is_open, is_begun, may_go, has_bad_target, fault_by, fault_at};
 
 use crate::judged::Judged;
 use nc_decode::{decode, is_bundle_start};
-use nc_reading::Class;
+use nc_reading::{Class, Seen, next_candidate};
 use nc_vet::VetFault;
 
 /// The class of a byte; after the last byte, `Inside`.
@@ -48,6 +49,7 @@ fn may_go(judged: &Judged<'_>, classes: &[Class], to: u32) -> bool
 }
 
 /// The instruction at a place of the code is a direct transfer to an address that it may not target.
+#[inline(always)]
 fn has_bad_target(judged: &Judged<'_>, classes: &[Class], k: usize) -> bool
     requires span { judged.now.base + length judged.now.code.now < 2 ^ 32 }
     requires each { length classes.now ≡ length judged.now.code.now }
@@ -76,6 +78,7 @@ fn fault_by(class: Class, bad_target: bool, at: u32) -> Option<VetFault>
 }
 
 /// The fault at a place of the code, if there is one.
+#[inline(always)]
 pub(crate) fn fault_at(judged: &Judged<'_>, classes: &[Class], k: usize) -> Option<VetFault>
     requires span { judged.now.base + length judged.now.code.now < 2 ^ 32 }
     requires each { length classes.now ≡ length judged.now.code.now }
@@ -85,4 +88,41 @@ pub(crate) fn fault_at(judged: &Judged<'_>, classes: &[Class], k: usize) -> Opti
     let class = class_at(classes, k);
     let bad_target = class == Class::Entry && has_bad_target(judged, classes, k);
     fault_by(class, bad_target, judged.base + k as u32)
+}
+
+/// The first place at or after `from` that has a fault, or the end of the code if there is none. `seen` is as [`next_candidate`] has it.
+///
+/// Most candidates are direct transfers with a good target. This loop does nothing else, so that passing over one costs little more than
+/// decoding it.
+#[inline(never)]
+pub(crate) fn next_fault(
+    judged: &Judged<'_>,
+    classes: &[Class],
+    from: usize,
+    seen: &mut Seen,
+) -> usize
+    requires span { judged.now.base + length judged.now.code.now < 2 ^ 32 }
+    requires whole { length judged.now.code.now % 32 ≡ 0 }
+    requires each { length classes.now ≡ length judged.now.code.now }
+    requires within { from ≤ length judged.now.code.now }
+    requires known { AreCandidates judged.now.code.now classes.now seen.old.at seen.old.bits }
+    ensures low { from ≤ result }
+    ensures within { result ≤ length judged.now.code.now }
+    ensures faultless { (k : ℕ) → from ≤ k → k < result
+        → fault_at judged.now.base judged.now.limit judged.now.code.now classes.now k ≡ None }
+    ensures known { AreCandidates judged.now.code.now classes.now seen.new.at seen.new.bits }
+{
+    let mut at = from;
+    while at < judged.code.len() {
+        let place = next_candidate(judged.code, classes, at, seen);
+        if place >= judged.code.len() {
+            return place;
+        }
+        match fault_at(judged, classes, place) {
+            Some(_) => return place,
+            None => {}
+        }
+        at = place + 1;
+    }
+    at
 }

@@ -1,8 +1,7 @@
 //! Members of JSON objects and elements of arrays, put together part after part.
 
-ghost use Rattle.std.specs.Prelude.{◌≡◌, drop, IfOk, OnOk};
-ghost use Rattle.nc_report.specs.Objects.{InObject, InArray, IsJson};
-ghost use Rattle.nc_output.specs.Adds.{Adds};
+ghost use Rattle.std.specs.Prelude.{◌≡◌, ◌++◌, [], codes, drop, IfOk, OnOk};
+ghost use Rattle.nc_report.specs.Objects.{array_of, member, object_of, string_member};
 
 use crate::numbers::push_text;
 use nc_output::push_between;
@@ -20,14 +19,14 @@ pub(crate) fn after_first(text: &[u8]) -> &[u8]
 
 /// No members of an object. Each will have a comma before it.
 pub(crate) fn no_members(alloc: Global) -> Vec<u8>
-    ensures { IsJson InObject result.items }
+    ensures { result.items ≡ [] }
 {
     Vec::new(alloc)
 }
 
 /// No elements of an array. Each will have a comma before it.
 pub(crate) fn no_elements(alloc: Global) -> Vec<u8>
-    ensures { IsJson InArray result.items }
+    ensures { result.items ≡ [] }
 {
     Vec::new(alloc)
 }
@@ -38,8 +37,7 @@ pub(crate) fn with_string(
     name: &'static [u8],
     value: &[u8],
 ) -> Result<Vec<u8>, AllocError>
-    requires { IsJson InObject members.items }
-    ensures { IfOk result (λ all. IsJson InObject all.items) }
+    ensures { IfOk result (λ all. all.items ≡ members.items ++ string_member name.now value.now) }
 {
     let mut text = members;
     push_between(&mut text, b",\"", name, b"\":")?;
@@ -53,9 +51,7 @@ pub(crate) fn with_array(
     name: &'static [u8],
     elements: Vec<u8>,
 ) -> Result<Vec<u8>, AllocError>
-    requires members { IsJson InObject members.items }
-    requires elements { IsJson InArray elements.items }
-    ensures { IfOk result (λ all. IsJson InObject all.items) }
+    ensures { IfOk result (λ all. all.items ≡ members.items ++ member name.now (array_of elements.items)) }
 {
     let mut text = members;
     push_between(&mut text, b",\"", name, b"\":[")?;
@@ -66,9 +62,7 @@ pub(crate) fn with_array(
 
 /// These elements, and one more that is an object.
 pub(crate) fn with_object(elements: Vec<u8>, members: Vec<u8>) -> Result<Vec<u8>, AllocError>
-    requires elements { IsJson InArray elements.items }
-    requires members { IsJson InObject members.items }
-    ensures { IfOk result (λ all. IsJson InArray all.items) }
+    ensures { IfOk result (λ all. all.items ≡ elements.items ++ (codes "," ++ object_of members.items)) }
 {
     let mut text = elements;
     push_text(&mut text, b",{")?;
@@ -79,8 +73,7 @@ pub(crate) fn with_object(elements: Vec<u8>, members: Vec<u8>) -> Result<Vec<u8>
 
 /// Adds members to the text of an object.
 pub(crate) fn push_members(out: &mut Vec<u8>, members: Vec<u8>) -> Result<(), AllocError>
-    requires { IsJson InObject members.items }
-    ensures { OnOk result (Adds out.old.items out.new.items (IsJson InObject)) }
+    ensures { OnOk result (out.new.items ≡ out.old.items ++ members.items) }
 {
     push_text(out, &members)
 }

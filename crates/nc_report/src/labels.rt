@@ -1,7 +1,8 @@
 //! Labels: names for addresses of code.
 
 ghost use Rattle.std.specs.Prelude.{◌≡◌, [], IfSome, IfNone};
-ghost use Rattle.nc_report.specs.Labels.{LabelsAscend};
+ghost use Rattle.std.specs.Option.{option_copied};
+ghost use Rattle.nc_report.specs.Labels.{LabelsAscend, label_of};
 
 use std::alloc::Global;
 use std::marker::Model;
@@ -55,7 +56,9 @@ impl Labels {
     }
 
     /// The label of an address, by binary search: the last one at the address or below it.
-    pub(crate) fn of(&self, at: u32) -> Option<&Label> {
+    pub(crate) fn of(&self, at: u32) -> Option<&Label>
+        ensures { option_copied result ≡ label_of self.now at }
+    {
         let count = self.list.partition_point(|label| label.address <= at);
         if count == 0 {
             return None;

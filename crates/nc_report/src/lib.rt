@@ -7,8 +7,9 @@
 //!
 //! `source_report` writes the report, and `counting` counts the instructions in a valid chunk. A `finding` is what is shown about a
 //! fault: its bundle, the target of a refused transfer by `targets`, and what the fault means by `advice`. `explaining` writes it
-//! as lines, and `listing` its bundle as code. `saying` adds words that stand alone, as a line or as a member. No clause says which
-//! words these are; each line is added by `push_detail` of `nc_output`, which leaves no control byte in it.
+//! as lines, and `listing` its bundle as code, with digits from `hexadecimal`. `saying` adds words that stand alone, as a line or as a
+//! member. No clause says which words these are; each line is added by `push_detail` of `nc_output` or by `lines`, which leave no control
+//! byte in it.
 //!
 //! All faults of a refused chunk are found by one reading of it: `nc_reading` gives a class for each byte, and passes over places
 //! that have no fault. `further` finds the faults by the classes, `others` writes the lines about each fault, and `totals` those
@@ -24,11 +25,13 @@ mod fault;
 mod finding;
 mod forms;
 mod further;
+mod hexadecimal;
 mod json;
 mod judged;
 mod kind;
 mod labels;
 mod law;
+mod lines;
 mod listing;
 mod numbers;
 mod objects;

@@ -1,15 +1,18 @@
 //! The bundle of a fault, read as code: a line for each instruction, with its address, its bytes and its name.
 
-ghost use Rattle.std.specs.Prelude.{◌≡◌, ◌≤◌, ◌<◌, ◌+◌, ◌-◌, true, length, OnOk};
+ghost use Rattle.std.specs.Prelude.{◌≡◌, ◌≤◌, ◌<◌, ◌+◌, ◌-◌, true, length, IfSome, OnOk};
+ghost use Rattle.nc_names.specs.Names.{IsName};
 ghost use Rattle.nc_output.specs.Shown.{AreDetails};
 ghost use Rattle.nc_output.specs.Adds.{Adds};
 
 use crate::finding::Finding;
-use crate::numbers::{address_digits, choose, put_byte};
-use nc_decode::{BUNDLE, decode};
-use nc_names::push_instruction;
+use crate::hexadecimal::{put_address, put_byte};
+use crate::lines::push_line;
+use crate::numbers::choose;
+use nc_decode::BUNDLE;
+use nc_names::{Name, front_name};
 use nc_output::push_detail;
-use std::alloc::{AllocError, Global};
+use std::alloc::AllocError;
 
 /// The number of bytes in a bundle.
 const SIZE: usize = BUNDLE as usize;
@@ -17,8 +20,11 @@ const SIZE: usize = BUNDLE as usize;
 /// The most bytes in a line.
 const ROW: usize = 8;
 
-/// The width of the column of bytes, if something follows it.
-const COLUMN: usize = 25;
+/// The length of the mark, the address and the colon before the bytes.
+const HEAD: usize = 11;
+
+/// Where what follows the bytes begins, unless they take more.
+const COLUMN: usize = 36;
 
 /// The address of a place of the bundle.
 pub(crate) fn address_of(finding: &Finding<'_>, k: usize) -> u32
@@ -34,18 +40,19 @@ pub(crate) fn is_start(finding: &Finding<'_>, k: usize) -> bool
     finding.starts >> k & 1 == 1
 }
 
-/// The bytes of the permitted instruction that begins at a place of the bundle, also if it ends after the bundle. None if there is
-/// no such instruction.
-fn instruction_at<'a>(finding: &Finding<'a>, k: usize) -> &'a [u8]
+/// The name and the bytes of the permitted instruction that begins at a place of the bundle, also if it ends after the bundle. None
+/// if there is no such instruction.
+fn named_at<'a>(finding: &Finding<'a>, k: usize) -> Option<(Name, &'a [u8])>
     requires { k < 32 }
+    ensures { IfSome result (λ named. IsName named.0) }
 {
     if !is_start(finding, k) {
-        return &[];
+        return None;
     }
     let rest = finding.rest.get(k..).unwrap_or(&[]);
-    match decode(rest) {
-        Ok(instr) => rest.get(..usize::from(instr.len)).unwrap_or(&[]),
-        Err(_) => &[],
+    match front_name(address_of(finding, k), rest) {
+        Some((name, len)) => Some((name, &rest[..len])),
+        None => None,
     }
 }
 
@@ -57,15 +64,18 @@ pub(crate) fn push_named(
 ) -> Result<(), AllocError>
     requires { k < 32 }
 {
-    push_instruction(out, address_of(finding, k), instruction_at(finding, k))
+    match named_at(finding, k) {
+        Some((name, _)) => out.extend_from_slice(&name.text[..name.len]),
+        None => Ok(()),
+    }
 }
 
 /// Puts a row of bytes into some text, in hexadecimal, with a bar before the byte at `bar`. Returns the length of the text.
 fn put_bytes(text: &mut [u8], bytes: &[u8], bar: u32) -> usize
     requires few { length bytes.now ≤ 8 }
-    requires room { length text.old ≡ 40 }
+    requires room { length text.old ≡ 44 }
     ensures within { result ≤ 40 }
-    ensures long { length text.new ≡ 40 }
+    ensures long { length text.new ≡ 44 }
 {
     let mut len = 0;
     for n in 0..bytes.len() {
@@ -79,36 +89,74 @@ fn put_bytes(text: &mut [u8], bytes: &[u8], bar: u32) -> usize
     len
 }
 
-/// Adds a line: an address, with a mark if it is that of the fault, the bytes there, with a bar at the end of the bundle, and their
-/// annotation.
+/// Puts a line into some text: an address, with a mark if it is that of the fault, the bytes there, with a bar at the end of the
+/// bundle, and their name. Returns the length of the line.
+fn put_row(
+    text: &mut [u8],
+    finding: &Finding<'_>,
+    at: u32,
+    bytes: &[u8],
+    name: Option<&Name>,
+) -> usize
+    requires few { length bytes.now ≤ 8 }
+    requires room { length text.old ≡ 128 }
+    requires named { IfSome name (λ n. IsName n.now) }
+    ensures within { result ≤ 128 }
+    ensures long { length text.new ≡ 128 }
+{
+    let end = (finding.at - finding.at % BUNDLE).wrapping_add(BUNDLE);
+    if at == finding.at {
+        text[0] = b'>';
+    }
+    put_address(&mut text[2..10], at);
+    text[10] = b':';
+    let len = HEAD + put_bytes(&mut text[HEAD..HEAD + 44], bytes, end.wrapping_sub(at));
+    match name {
+        Some(name) => {
+            let start = len.max(COLUMN) + 1;
+            text[start..start + 64].copy_from_slice(&name.text);
+            start + name.len
+        }
+        None => len,
+    }
+}
+
+/// Adds a line, and that what it shows stands there this many times.
+fn push_times(
+    out: &mut Vec<u8>,
+    line: &[u8],
+    gap: &'static [u8],
+    times: usize,
+) -> Result<(), AllocError>
+    ensures { OnOk result (Adds out.old.items out.new.items AreDetails) }
+{
+    let digits = [b'0' + (times / 10 % 10) as u8, b'0' + (times % 10) as u8];
+    let first = if times < 10 { 1 } else { 0 };
+    push_detail(out, &[line, gap, &digits[first..], b" times"])
+}
+
+/// Adds a line: an address, with a mark if it is that of the fault, the bytes there, with a bar at the end of the bundle, their name,
+/// and the number of times that they stand there, if it isn't 1.
 fn push_row(
     out: &mut Vec<u8>,
     finding: &Finding<'_>,
     at: u32,
     bytes: &[u8],
-    annotation: Vec<u8>,
+    name: Option<&Name>,
+    times: usize,
 ) -> Result<(), AllocError>
-    requires { length bytes.now ≤ 8 }
+    requires few { length bytes.now ≤ 8 }
+    requires named { IfSome name (λ n. IsName n.now) }
     ensures { OnOk result (Adds out.old.items out.new.items AreDetails) }
 {
-    let end = (finding.at - finding.at % BUNDLE).wrapping_add(BUNDLE);
-    let mut text = [b' '; 40];
-    let len = put_bytes(&mut text, bytes, end.wrapping_sub(at));
-    let width = if annotation.is_empty() {
-        len
+    let mut text = [b' '; 128];
+    let len = put_row(&mut text, finding, at, bytes, name);
+    if times <= 1 {
+        push_line(out, &text, len)
     } else {
-        len.max(COLUMN)
-    };
-    push_detail(
-        out,
-        &[
-            choose(at == finding.at, b"> ", b"  "),
-            &address_digits(at),
-            b":",
-            &text[..width],
-            &annotation,
-        ],
-    )
+        let gap = choose(name.is_some(), b"  # ", b" # ");
+        push_times(out, &text[..len.max(COLUMN)], gap, times)
+    }
 }
 
 /// Adds lines with bytes alone, the first of which are at this address.
@@ -124,26 +172,27 @@ fn push_later(
     let mut at = at;
     while !rest.is_empty() {
         let len = rest.len().min(ROW);
-        let annotation = Vec::new(*out.allocator());
-        push_row(out, finding, at, &rest[..len], annotation)?;
+        push_row(out, finding, at, &rest[..len], None, 1)?;
         at = at.wrapping_add(len as u32);
         rest = &rest[len..];
     }
     Ok(())
 }
 
-/// Adds the lines with some bytes, the first of which are at this address. Only the first line has the annotation.
+/// Adds the lines with some bytes, the first of which are at this address. Only the first line has the name and the number of times.
 fn push_bytes(
     out: &mut Vec<u8>,
     finding: &Finding<'_>,
     at: u32,
     bytes: &[u8],
-    annotation: Vec<u8>,
+    name: Option<&Name>,
+    times: usize,
 ) -> Result<(), AllocError>
+    requires { IfSome name (λ n. IsName n.now) }
     ensures { OnOk result (Adds out.old.items out.new.items AreDetails) }
 {
     let len = bytes.len().min(ROW);
-    push_row(out, finding, at, &bytes[..len], annotation)?;
+    push_row(out, finding, at, &bytes[..len], name, times)?;
     push_later(out, finding, at.wrapping_add(len as u32), &bytes[len..])
 }
 
@@ -189,29 +238,6 @@ fn run_end(finding: &Finding<'_>, first: usize, end: usize) -> usize
     last
 }
 
-/// The annotation of an instruction that stands this many times at a place of the bundle and after it: its name and operands, and
-/// the number of times.
-fn annotation_at(
-    alloc: Global,
-    finding: &Finding<'_>,
-    k: usize,
-    times: usize,
-) -> Result<Vec<u8>, AllocError>
-    requires { k < 32 }
-{
-    let mut annotation = Vec::new(alloc);
-    if !instruction_at(finding, k).is_empty() {
-        annotation.push(b' ')?;
-        push_named(&mut annotation, finding, k)?;
-    }
-    if times > 1 {
-        let gap = if annotation.is_empty() { "" } else { " " };
-        let more = format!(in alloc; "{gap} # {times} times")?;
-        annotation.extend_from_slice(more.as_bytes())?;
-    }
-    Ok(annotation)
-}
-
 /// Adds the lines about what is in `first..end`, and the equal instructions after it up to `last`.
 fn push_run(
     out: &mut Vec<u8>,
@@ -225,13 +251,10 @@ fn push_run(
     ensures { OnOk result (Adds out.old.items out.new.items AreDetails) }
 {
     let times = last.saturating_sub(first) / (end - first);
-    let annotation = annotation_at(*out.allocator(), finding, first, times)?;
     let at = address_of(finding, first);
-    let named = instruction_at(finding, first);
-    if named.is_empty() {
-        push_bytes(out, finding, at, &finding.bundle[first..end], annotation)
-    } else {
-        push_bytes(out, finding, at, named, annotation)
+    match named_at(finding, first) {
+        Some((name, bytes)) => push_bytes(out, finding, at, bytes, Some(&name), times),
+        None => push_bytes(out, finding, at, &finding.bundle[first..end], None, times),
     }
 }
 

@@ -1,6 +1,6 @@
 //! Adding text, and numbers and bytes as text.
 
-ghost use Rattle.std.specs.Prelude.{◌≡◌, ◌≤◌, ◌+◌, ◌++◌, if◌then◌else◌, OnOk, length};
+ghost use Rattle.std.specs.Prelude.{◌≡◌, ◌++◌, if◌then◌else◌, OnOk};
 ghost use Rattle.nc_output.specs.Verdicts.{address_digits};
 ghost use Rattle.nc_report.specs.machinery.Texts.{texts_joined};
 
@@ -30,9 +30,6 @@ pub(crate) fn choose(holds: bool, yes: &'static [u8], no: &'static [u8]) -> &'st
     if holds { yes } else { no }
 }
 
-/// The hexadecimal digits.
-const DIGITS: [u8; 16] = *b"0123456789abcdef";
-
 /// An address as eight hexadecimal digits.
 pub(crate) fn address_digits(at: u32) -> [u8; 8]
     ensures { result ≡ address_digits at }
@@ -40,15 +37,4 @@ pub(crate) fn address_digits(at: u32) -> [u8; 8]
     let mut digits = [0u8; 8];
     hex::encode_to_slice(at.to_be_bytes(), &mut digits).unwrap();
     digits
-}
-
-/// Puts a space and a byte in hexadecimal at a place of some text.
-#[inline(always)]
-pub(crate) fn put_byte(text: &mut [u8], at: usize, byte: u8)
-    requires { at + 3 ≤ length text.old }
-    ensures { length text.new ≡ length text.old }
-{
-    text[at] = b' ';
-    text[at + 1] = DIGITS[byte as usize / 16];
-    text[at + 2] = DIGITS[byte as usize % 16];
 }

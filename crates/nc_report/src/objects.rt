@@ -3,8 +3,10 @@
 ghost use Rattle.std.specs.Prelude.{◌≡◌, ◌≢◌, ◌<◌, ◌++◌, ℕ, List, codes, IfOk, OnOk};
 ghost use Rattle.nc_vet.specs.declared.fault.VetFault.TheVariants as vet;
 ghost use Rattle.nc_output.specs.Verdicts.{with_line_end, address_digits, place_of};
-ghost use Rattle.nc_report.specs.Objects.{InObject, InArray, IsJson, file_member, string_member, at_member, accepted_members, refused_members, fault_object, file_object};
-ghost use Rattle.nc_report.specs.Report.{ShowsOne};
+ghost use Rattle.nc_report.specs.Objects.{InObject, InArray, IsJson, AreMembers, file_member, string_member, at_member, accepted_members, refused_members, fault_object, file_object};
+ghost use Rattle.nc_report.specs.Labels.{label_of};
+ghost use Rattle.nc_report.specs.Report.{about_fault, ShowsOne};
+ghost use Rattle.nc_report.specs.machinery.Members.{reason_text, symbol_member, target_members};
 ghost use Rattle.nc_output.specs.Adds.{Adds};
 
 use crate::explaining::offset_words;
@@ -81,8 +83,7 @@ fn with_symbol(
     labels: &Labels,
     at: u32,
 ) -> Result<Vec<u8>, AllocError>
-    requires { IsJson InObject members.items }
-    ensures { IfOk result (λ all. IsJson InObject all.items) }
+    ensures { IfOk result (λ all. all.items ≡ members.items ++ symbol_member (label_of labels.now at) at) }
 {
     let Some(label) = labels.of(at) else {
         return Ok(members);
@@ -94,7 +95,9 @@ fn with_symbol(
 }
 
 /// Why the target of a refused direct transfer is not allowed, in words.
-fn reason(alloc: Global, target: Target) -> Result<Vec<u8>, AllocError> {
+fn reason(alloc: Global, target: Target) -> Result<Vec<u8>, AllocError>
+    ensures { IfOk result (λ why. why.items ≡ reason_text target) }
+{
     let mut why = Vec::from_slice(alloc, target.words)?;
     if let Some(at) = target.named {
         why.extend_from_slice(&address_digits(at))?;
@@ -108,8 +111,7 @@ fn with_target(
     members: Vec<u8>,
     target: Option<Target>,
 ) -> Result<Vec<u8>, AllocError>
-    requires { IsJson InObject members.items }
-    ensures { IfOk result (λ all. IsJson InObject all.items) }
+    ensures { IfOk result (λ all. all.items ≡ members.items ++ target_members target) }
 {
     let Some(target) = target else {
         return Ok(members);
@@ -122,7 +124,7 @@ fn with_target(
 /// The members of the object for the instruction that begins at a place of the bundle: its address, and its name if it is permitted.
 fn start_members(alloc: Global, finding: &Finding<'_>, k: usize) -> Result<Vec<u8>, AllocError>
     requires { k < 32 }
-    ensures { IfOk result (λ all. IsJson InObject all.items) }
+    ensures { IfOk result (λ all. (names : List (List ℕ)) × IsJson (InObject names) all.items) }
 {
     let mut name = Vec::new(alloc);
     push_named(&mut name, finding, k)?;
@@ -166,6 +168,13 @@ fn starts_of(alloc: Global, finding: &Finding<'_>) -> Result<Vec<u8>, AllocError
     Ok(starts)
 }
 
+/// The bytes of a bundle as hexadecimal digits.
+fn bundle_digits(bundle: [u8; 32]) -> [u8; 64] {
+    let mut digits = [0u8; 64];
+    hex::encode_to_slice(bundle, &mut digits).unwrap();
+    digits
+}
+
 /// The members about a fault: the name of its address, if that has a label; what the fault means; the target of a refused
 /// transfer; and the bundle, by its bytes and by the instructions that begin in it.
 pub(crate) fn finding_members(
@@ -173,15 +182,13 @@ pub(crate) fn finding_members(
     labels: &Labels,
     finding: &Finding<'_>,
 ) -> Result<Vec<u8>, AllocError>
-    ensures { IfOk result (λ all. IsJson InObject all.items) }
+    ensures { IfOk result (λ all. AreMembers about_fault all.items) }
 {
     let starts = starts_of(alloc, finding)?;
-    let mut bundle = [0u8; 64];
-    hex::encode_to_slice(finding.bundle, &mut bundle).unwrap();
     let named = with_symbol(alloc, no_members(alloc), labels, finding.at)?;
     let explained = with_string(named, b"meaning", finding.meaning)?;
     let targeted = with_target(alloc, explained, finding.target)?;
-    let shown = with_string(targeted, b"bundle", &bundle)?;
+    let shown = with_string(targeted, b"bundle", &bundle_digits(finding.bundle))?;
     with_array(shown, b"starts", starts)
 }
 

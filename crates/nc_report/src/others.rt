@@ -1,6 +1,6 @@
 //! The other faults of a refused chunk, found by one reading of all of it.
 
-ghost use Rattle.std.specs.Prelude.{◌≡◌, ◌++◌, ◌∷◌, [], ◌+◌, ◌%◌, ◌<◌, ◌^◌, ℕ, List, length, take, ◌==◌, if◌then◌else◌, IfOk, IfErr, OnOk, OnErr, option_to_list};
+ghost use Rattle.std.specs.Prelude.{◌≡◌, ◌++◌, ◌∷◌, [], ◌+◌, ◌%◌, ◌<◌, ◌^◌, ℕ, List, length, take, ◌==◌, if◌then◌else◌, IfOk, IfErr, OnOk, OnErr, option_to_list, vec_len};
 ghost use Rattle.std.specs.Io.KnownBytes.{Appends};
 ghost use Rattle.nc_vet.specs.Faults.{HasGoodSpan};
 ghost use Rattle.nc_report.specs.Further.{others_to};
@@ -12,14 +12,14 @@ ghost use Rattle.nc_report.specs.machinery.Added.{After, WritesOn, IsOfWriting};
 use crate::explaining::push_finding;
 use crate::fault::ReportFault;
 use crate::finding::{Finding, finding_at};
-use crate::further::fault_at;
+use crate::further::{fault_at, next_fault};
 use crate::judged::Judged;
 use crate::labels::Labels;
 use crate::numbers::push_text;
 use crate::objects::push_fault_object;
 use crate::totals::{Counts, NO_FAULTS, counted, push_last};
 use nc_output::{Format, push_name, write_out};
-use nc_reading::{Class, next_candidate, read_classes};
+use nc_reading::{Class, none_seen, read_classes};
 use nc_vet::VetFault;
 use std::alloc::AllocError;
 use std::io::Write;
@@ -101,6 +101,7 @@ fn push_place(
 fn write_much<W: Write>(out: &mut Vec<u8>, writer: &mut W) -> Result<(), ReportFault>
     ensures ok { OnOk result ((part : List ℕ) × Appends (W.contents writer.old) (W.contents writer.new) part
         × (part ++ out.new.items ≡ out.old.items)) }
+    ensures short { OnOk result (vec_len out.new < 65536) }
     ensures cut { OnErr result ((count : ℕ)
         × Appends (W.contents writer.old) (W.contents writer.new) (take count out.old.items)) }
     ensures faults { IfErr result IsOfWriting }
@@ -136,8 +137,10 @@ fn write_places<W: Write>(
     ensures cut { OnErr result (HasBegun (After out.old.items (ReportsEach format (others_to judged.now.base judged.now.limit judged.now.code.now
         classes.now own (length judged.now.code.now)))) (W.contents writer.old) (W.contents writer.new)) }
     ensures faults { IfErr result IsOfWriting }
+    ensures short { OnOk result (vec_len out.old < 65536 → vec_len out.new < 65536) }
 {
     let mut counts = NO_FAULTS;
+    let mut seen = none_seen(classes);
     let mut k = 0;
     while k < judged.code.len() {
         let found = fault_at(judged, classes, k);
@@ -150,7 +153,7 @@ fn write_places<W: Write>(
             Err(fault) => return Err(fault),
         }
         counts = counted(counts, found);
-        k = next_candidate(judged.code, classes, k + 1);
+        k = next_fault(judged, classes, k + 1, &mut seen);
     }
     Ok(counts)
 }

@@ -1,6 +1,6 @@
 //! Words that are shown: as a line of details, or as a member.
 
-ghost use Rattle.std.specs.Prelude.{OnOk};
+ghost use Rattle.std.specs.Prelude.{◌∷◌, [], OnOk};
 ghost use Rattle.nc_report.specs.Report.{Shows};
 ghost use Rattle.nc_output.specs.Adds.{Adds};
 
@@ -10,7 +10,7 @@ use std::alloc::AllocError;
 
 /// Adds words as a member with this name.
 fn push_member(out: &mut Vec<u8>, name: &'static [u8], words: &[u8]) -> Result<(), AllocError>
-    ensures { OnOk result (Adds out.old.items out.new.items (Shows Format.Json)) }
+    ensures { OnOk result (Adds out.old.items out.new.items (Shows (name.now ∷ []) Format.Json)) }
 {
     let members = with_string(no_members(*out.allocator()), name, words)?;
     push_members(out, members)
@@ -23,7 +23,7 @@ pub(crate) fn push_said(
     words: &[u8],
     format: Format,
 ) -> Result<(), AllocError>
-    ensures { OnOk result (Adds out.old.items out.new.items (Shows format)) }
+    ensures { OnOk result (Adds out.old.items out.new.items (Shows (name.now ∷ []) format)) }
 {
     match format {
         Format::Text => push_detail(out, &[words]),

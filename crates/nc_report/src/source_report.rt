@@ -6,7 +6,7 @@ ghost use Rattle.nc_vet.specs.Faults.{HasFault};
 ghost use Rattle.nc_vet.specs.declared.fault.VetFault.TheVariants.{OutOfMemory};
 ghost use Rattle.nc_output.specs.Verdicts.{with_line_end, place_of};
 ghost use Rattle.nc_vet.specs.Chunk.{Piece, code_of, AreSpelled};
-ghost use Rattle.nc_report.specs.Report.{said_of, accepted_words, ok_text, end_of, refused_line, refused_text, Shows};
+ghost use Rattle.nc_report.specs.Report.{said_of, accepted_words, ok_text, end_of, refused_line, refused_text, about_fault, Shows};
 ghost use Rattle.nc_report.specs.Report.{ReportsAccepted, ReportsFault, ReportsMore, ReportsRefused, Reports};
 ghost use Rattle.nc_report.specs.Report.{HasWritten, HasBegun};
 ghost use Rattle.nc_output.specs.Adds.{Adds};
@@ -18,6 +18,7 @@ use crate::counting::count_instructions;
 use crate::explaining::push_finding;
 use crate::fault::ReportFault;
 use crate::finding::{Finding, own_finding};
+use crate::forms::form_words;
 use crate::json::push_members;
 use crate::judged::Judged;
 use crate::labels::Labels;
@@ -171,6 +172,18 @@ fn push_verdict(
     }
 }
 
+/// Adds the members about a fault at an address.
+fn push_found_members(
+    out: &mut Vec<u8>,
+    labels: &Labels,
+    finding: &Finding<'_>,
+) -> Result<(), AllocError>
+    ensures { OnOk result (Adds out.old.items out.new.items (Shows about_fault Format.Json)) }
+{
+    let members = finding_members(*out.allocator(), labels, finding)?;
+    push_members(out, members)
+}
+
 /// Adds what is shown about a fault at an address.
 fn push_found(
     out: &mut Vec<u8>,
@@ -178,14 +191,11 @@ fn push_found(
     finding: &Finding<'_>,
     format: Format,
 ) -> Result<(), AllocError>
-    ensures { OnOk result (Adds out.old.items out.new.items (Shows format)) }
+    ensures { OnOk result (Adds out.old.items out.new.items (Shows about_fault format)) }
 {
     match format {
         Format::Text => push_finding(out, labels, finding),
-        Format::Json => {
-            let members = finding_members(*out.allocator(), labels, finding)?;
-            push_members(out, members)
-        }
+        Format::Json => push_found_members(out, labels, finding),
     }
 }
 
@@ -197,7 +207,7 @@ fn push_explained(
     format: Format,
 ) -> Result<(), AllocError>
     requires { IsPlaceIfAny judged.now.base judged.now.code.now (place_of fault) }
-    ensures { OnOk result (Adds out.old.items out.new.items (Shows format)) }
+    ensures { OnOk result (Adds out.old.items out.new.items (Shows about_fault format)) }
 {
     let Some(at) = place_of(fault) else {
         let words = words_without_place(*out.allocator(), judged, fault)?;
@@ -316,6 +326,7 @@ pub(crate) fn vet_and_report<W: Write>(
                 limit,
                 code: &code,
                 labels: &labels,
+                form: form_words(&code),
             };
             match report_refused(alloc, &name, &judged, fault, style, writer) {
                 Ok(()) => Ok(true),

@@ -3,7 +3,7 @@
 ghost use Rattle.std.specs.Prelude.{false, ◌≡◌, ◌<◌, ◌≤◌, ◌+◌, ◌/◌, ◌^◌, ◌++◌, Bool, if◌then◌else◌, ◌==◌, codes, length, map, List, ℕ, OnOk};
 ghost use Rattle.std.specs.Fmt.{decimal};
 ghost use Rattle.nc_output.specs.Shown.{detail_line};
-ghost use Rattle.nc_report.specs.Report.{Shows, counts_text};
+ghost use Rattle.nc_report.specs.Report.{about_all, Shows, counts_text};
 ghost use Rattle.nc_report.specs.Totals.{total, kinds_from, totals_line};
 ghost use Rattle.nc_output.specs.Adds.{Adds};
 ghost use Rattle.nc_report.specs.machinery.CountedFault.{counted, kind_words};
@@ -177,7 +177,7 @@ fn push_adrift(
     bundles: usize,
     format: Format,
 ) -> Result<(), AllocError>
-    ensures { OnOk result (Adds out.old.items out.new.items (Shows format)) }
+    ensures { OnOk result (Adds out.old.items out.new.items (Shows about_all format)) }
 {
     let words = adrift_words(*out.allocator(), inside, bundles)?;
     push_said(out, b"note", words.as_bytes(), format)
@@ -185,7 +185,7 @@ fn push_adrift(
 
 /// Adds whether the code is in bundles, if more than half of them begin inside an instruction.
 fn push_note(out: &mut Vec<u8>, classes: &[Class], format: Format) -> Result<(), AllocError>
-    ensures { OnOk result (Adds out.old.items out.new.items (Shows format)) }
+    ensures { OnOk result (Adds out.old.items out.new.items (Shows about_all format)) }
 {
     let bundles = classes.len() / BUNDLE as usize;
     let inside = count_inside(classes);
@@ -203,7 +203,7 @@ pub(crate) fn push_last(
     format: Format,
 ) -> Result<(), AllocError>
     requires { total counts < 2 ^ 63 }
-    ensures { OnOk result ((last : List ℕ) × Shows format last
+    ensures { OnOk result ((last : List ℕ) × Shows about_all format last
         × (out.new.items ≡ out.old.items ++ (counts_text format counts ++ last))) }
 {
     push_counts(out, counts, format)?;

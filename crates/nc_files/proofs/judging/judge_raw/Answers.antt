@@ -1,7 +1,13 @@
-use Rattle.nc_files.proofs.WrittenReports.{raw_noted}
+use Rattle.std.proofs.Common.{◌∙◌, ap}
+use Rattle.nc_files.specs.Reports.{has_note}
+use Rattle.nc_files.proofs.WrittenReports.{raw_refused, raw_accepted}
 use Rattle.nc_files.proofs.judging.judge_raw.Goals as goal
 
-pub returns-in-Ok-write_out : goal.returns-in-Ok-write_out
-returns-in-Ok-write_out g c =
-    raw_noted c.args.ask.now c.args.source.name.items c.args.source.code.items c.in-Ok.is_refused _ _ _ c.if-is_refused.false c.in-Ok.ensures
-    c.in-Ok-write_out.ensures.all
+pub returns-then-is_refused : goal.returns-then-is_refused
+returns-then-is_refused g c =
+    raw_refused c.args.ask.now c.args.source.name.items c.args.source.code.items c.in-Ok.is_refused _ _ c.if-is_refused.true c.in-Ok.ensures
+
+pub returns-in-Ok-write_note : goal.returns-in-Ok-write_note
+returns-in-Ok-write_note g c =
+    raw_accepted c.args.ask.now c.args.source.name.items c.args.source.code.items c.in-Ok.is_refused c.has_note-is_noted.result _ _ _
+    c.if-is_refused.false (c.has_note-is_noted.ensures ∙ ap (has_note c.args.ask.now.style) c.as_slice.ensures.value) c.in-Ok.ensures c.in-Ok-write_note.ensures

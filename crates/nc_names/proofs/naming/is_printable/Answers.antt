@@ -1,5 +1,5 @@
-use Rattle.std.proofs.Common.{rules}
+use Rattle.std.proofs.Common.{refl}
 use Rattle.nc_names.proofs.naming.is_printable.Goals as goal
 
-pub returns-then-byte-ge32 : goal.returns-then-byte-ge32
-returns-then-byte-ge32 c = search rules
+pub returns : goal.returns
+returns c = refl

@@ -5,6 +5,6 @@ use Rattle.nc_report.proofs.explaining.push_finding.Goals as goal
 pub returns : goal.returns
 returns c =
     let old = c.args.out.now.items in
-    let two = details_both old _ _ c.in_ok-push_label.ensures c.in_ok-push_listing.ensures in
-    let three = details_both old _ _ two c.in_ok-push_target.ensures in
+    let two = details_both old _ _ c.in_ok-push_label.ensures.details c.in_ok-push_listing.ensures in
+    let three = details_both old _ _ two c.in_ok-push_target.ensures.details in
     on_ok_weaker c.push_detail.result (details_both old _ c.push_detail.new.out.items three) c.push_detail.ensures.details

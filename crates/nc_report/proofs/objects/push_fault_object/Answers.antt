@@ -13,16 +13,16 @@ object_added o b name at w m n p q new before named placed words end = simp (end
 
 pub returns : goal.returns
 returns c =
-    let a = c.in_ok-push_members.ensures in
+    let members = c.in_ok-members.members.items in
     let out = c.push_text.new.out.items in
     on_ok_weaker c.push_text-2.result
     (λ e. record {
-      text = c.args.before.now ++ (fault_object c.args.fault ++ (a.text ++ codes "}"));
-      says = (a.text ++ codes "}", (a.text, a.says, refl), refl);
-      added = object_added c.args.out.now.items c.args.before.now (fault_name c.args.fault) (at_member (place_of c.args.fault)) a.text out
+      text = c.args.before.now ++ (fault_object c.args.fault ++ (members ++ codes "}"));
+      says = (members ++ codes "}", (members, c.in_ok-members.ensures, refl), refl);
+      added = object_added c.args.out.now.items c.args.before.now (fault_name c.args.fault) (at_member (place_of c.args.fault)) members out
           c.push_between.new.out.items c.push_at.new.out.items c.push_members.new.out.items _ c.in_ok-push_text.ensures
           (c.in_ok-push_between.ensures ∙ ap (λ (z : List ℕ). out ++ (codes "{\"fault\":\"" ++ (inner z ++ codes "\""))) c.in_ok-fault_name.ensures.named.1)
           (c.in_ok-push_at.ensures ∙ ap (λ (p : Option ℕ). c.push_between.new.out.items ++ at_member p) c.place_of.ensures)
-          a.added e;
+          c.in_ok-push_members.ensures e;
     })
     c.push_text-2.ensures

@@ -6,7 +6,7 @@ use Rattle.nc_reading.specs.Reading.{HasClasses}
 use Rattle.nc_report.specs.declared.totals.Counts.{Counts}
 use Rattle.nc_report.specs.Further.{others_to}
 use Rattle.nc_report.specs.Totals.{counts_to, total}
-use Rattle.nc_report.specs.Report.{Shows, Opens, ReportsEach, ReportsOthers, counts_text}
+use Rattle.nc_report.specs.Report.{about_all, Shows, Opens, ReportsEach, ReportsOthers, counts_text}
 use Rattle.nc_output.specs.Adds.{Adds}
 use Rattle.nc_report.proofs.Additions.{writes_after, writes_more, begun_later, cut_here}
 use Rattle.nc_report.proofs.CountedFaults.{total_small}
@@ -16,7 +16,7 @@ use Rattle.nc_report.proofs.others.write_others.Goals as goal
 -- the numbers, and what is shown after them, were added
 last_added : (f : Format) (base limit : ℕ) (code out new : List ℕ) (classes : List Class) (counts : Counts)
     → counts ≡ counts_to base limit code classes (length code)
-    → ((last : List ℕ) × Shows f last × (new ≡ out ++ (counts_text f counts ++ last))) → Adds out new (ReportsLast f base limit code classes)
+    → ((last : List ℕ) × Shows about_all f last × (new ≡ out ++ (counts_text f counts ++ last))) → Adds out new (ReportsLast f base limit code classes)
 last_added f base limit code out new classes counts e (last, d, added) = record {
   text = counts_text f counts ++ last;
   says = (last, d, ap (λ (x : Counts). counts_text f x ++ last) e);

@@ -9,11 +9,11 @@ use Rattle.nc_report.specs.machinery.CountedFault.{counted}
 use Rattle.nc_report.proofs.Additions.{writes_none, writes_more, cut_here, cut_in}
 use Rattle.nc_report.proofs.CountedFaults.{counts_more, total_small}
 use Rattle.nc_report.proofs.FurtherTexts.{completed, reported_more, reported_there}
-use Rattle.nc_report.proofs.QuietPlaces.{AreFaultless, quiet_none, others_over, counts_over}
+use Rattle.nc_report.proofs.QuietPlaces.{AreFaultless, others_over, counts_over}
 use Rattle.nc_report.proofs.others.write_places.Goals as goal
 
 pub loop-k-init : goal.loop-k-init
-loop-k-init g c = record { within = omega arith; text = writes_none _ _ (ReportsEach c.args.format []) refl; counts = refl }
+loop-k-init g c = record { within = omega arith; known = c.none_seen-seen.ensures c.args.judged.now.code.now; text = writes_none _ _ (ReportsEach c.args.format []) refl; counts = refl; short = λ before. before }
 
 pub returns-in-Err-clause-cut : goal.returns-in-Err-clause-cut
 returns-in-Err-clause-cut g c =
@@ -48,14 +48,15 @@ loop-k-preserved g c =
     let classes = c.args.classes.now in
     let own = c.args.own in
     let k = c.loop-k.k in
-    let next = c.next_candidate-k.result in
-    let low = c.next_candidate-k.ensures.low in
+    let next = c.next_fault-k.result in
+    let low = c.next_fault-k.ensures.low in
     let faults = others_to base limit code classes own in
     let quiet : AreFaultless base limit code classes (k + 1) next
-    = λ j a b. quiet_none base limit code classes j (c.next_candidate-k.ensures.quiet j a b) in
+    = c.next_fault-k.ensures.faultless in
     let (part, appended, kept) = c.in-Ok-write_much.ensures.ok in
     record {
-      within = c.next_candidate-k.ensures.within;
+      within = c.next_fault-k.ensures.within;
+      known = c.next_fault-k.ensures.known;
       text = writes_more _ _ _ _ _ _ _ part (ReportsEach c.args.format (faults k)) (ReportsEach c.args.format (others_at base limit code classes own k)) (ReportsEach c.args.format (faults next))
           (λ a b h i. subst (λ (fs : List VetFault). ReportsEach c.args.format fs (a ++ b)) (sym (others_over base limit code classes own (k + 1) next low quiet))
           (reported_more c.args.format base limit code classes own k a b h i))
@@ -65,6 +66,7 @@ loop-k-preserved g c =
       counts = c.counted-counts.ensures ∙ ap (λ (x : Counts). counted x c.fault_at-found.result) c.loop-k.invariant.counts
           ∙ ap (counted (counts_to base limit code classes k)) c.fault_at-found.ensures ∙ counts_more base limit code classes k
           ∙ sym (counts_over base limit code classes (k + 1) next low quiet);
+      short = λ before. c.in-Ok-write_much.ensures.short;
     }
 
 pub returns-clause-ok : goal.returns-clause-ok

@@ -16,7 +16,7 @@ returns-clause-cut g c =
     let source = c.args.source in
     let code = c.deref-in-Err.ensures.value ∙ ap (λ (v : Vec ℕ). v.items) c.in-Err.ensures.given_back in
     begun_any (Reports c.args.base c.args.limit c.args.style source.name.items source.code.items) _ true _ _
-    (λ text t. inr (refl, rw (c.deref-in-Err-2.ensures.value, code) at t)) c.in-Err-report_refused.ensures.cut
+    (λ text t. inr (refl, rw (c.deref-in-Err-3.ensures.value, code) at t)) c.in-Err-report_refused.ensures.cut
 
 pub returns-in-Ok-report_refused-clause-ok : goal.returns-in-Ok-report_refused-clause-ok
 returns-in-Ok-report_refused-clause-ok g c = search rules
