@@ -1,5 +1,5 @@
 /*
- * A host in C that answers the lines of a script as `nc_replay replay` does, by a region's handle.
+ * A host in C that answers the lines of a script as `nc_replay replay --queries` does, by a region's handle.
  *
  *     script BUNDLES SEATS [acts|runs]
  *

@@ -7,7 +7,7 @@ _nc_replay() {
     --workers) words=$(echo {1..16}) ;;
     *)
         case ${COMP_WORDS[1]} in
-        replay) words="--bundles --seats --explain --strict --help -h" ;;
+        replay) words="--bundles --seats --queries --explain --strict --help -h" ;;
         vet) words="--bundles --workers --explain --strict --help -h" ;;
         help) words="replay vet" ;;
         esac

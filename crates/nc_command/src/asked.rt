@@ -4,17 +4,19 @@ use nc_output::Style;
 
 /// The work that a command line of `nc_replay` asks for.
 #[derive(Clone, Copy, Debug, Drop, PartialEq, Eq)]
-pub enum Task {
+pub enum Ask {
     /// Runs a script.
     Replay { bundles: u32, seats: u32 },
     /// Vets lines of chunks.
     Vet { bundles: u32, workers: u32 },
 }
 
-/// The request that a command line of `nc_replay` makes.
+/// All that a command line of `nc_replay` asks for: its work, and what is done beside it.
 #[derive(Clone, Copy, Debug, Drop, PartialEq, Eq)]
-pub struct Ask {
-    pub task: Task,
+pub struct ReplayAsk {
+    pub work: Ask,
+    /// Whether a script's `chunk` lines are answered.
+    pub queries: bool,
     /// Whether each bad line and each refusal is explained on standard error.
     pub explain: bool,
     /// Whether the exit status is 1 if a line was bad.

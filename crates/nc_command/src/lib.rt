@@ -1,7 +1,7 @@
 //! The command lines of `nc_replay` and `nc_check`, and the requests that their words make.
 //!
-//! [`ask`] and [`ask_check`] parse the words of the two programs, which [`replay_words`] and [`check_words`] take from the
-//! system. Each command line is a table of `nc_usage`.
+//! [`ask_replay`] and [`ask_check`] parse the words of the two programs, which [`replay_words`] and [`check_words`] take from the
+//! system. [`ask`] parses words that ask for the work of `nc_replay` alone. Each command line is a table of `nc_usage`.
 #![tactic(auto)]
 
 mod asked;
@@ -9,6 +9,6 @@ mod check;
 mod options;
 mod replay;
 
-pub use asked::{Ask, CheckAsk, Task};
+pub use asked::{Ask, CheckAsk, ReplayAsk};
 pub use check::{ask_check, check_words};
-pub use replay::{ask, replay_words};
+pub use replay::{ask, ask_replay, replay_words};

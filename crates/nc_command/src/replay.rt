@@ -3,7 +3,7 @@
 ghost use Rattle.std.specs.Prelude.{◌≡◌, ◌≤◌, IfOk, IfSome};
 ghost use Rattle.nc_command.specs.Range.{AsksInRange};
 
-use crate::asked::{Ask, Task};
+use crate::asked::{Ask, ReplayAsk};
 use crate::options::{BUNDLES, WORKERS};
 use clap::builder::ValueParser;
 use clap::error::ErrorKind;
@@ -30,6 +30,13 @@ const SEATS: Word = Word {
     ..OPTION
 };
 
+/// The flag by which `chunk` lines are answered.
+const QUERIES: Word = Word {
+    name: "queries",
+    help: "Also answer `chunk <address>`, which shows one chunk",
+    ..FLAG
+};
+
 /// The flag by which bad lines and refusals are explained.
 const EXPLAIN: Word = Word {
     name: "explain",
@@ -44,24 +51,44 @@ const STRICT: Word = Word {
     ..FLAG
 };
 
-/// The program `nc_replay`.
-#[rattlefmt::skip]
+/// The program, before it has subcommands.
+const USAGE: Usage = Usage {
+    name: "nc_replay",
+    about: "Run a script on a code region, or vet chunks of 32-bit x86 code",
+    words: &[],
+};
+
+/// The subcommand that runs a script, with the options of its work alone.
+const SCRIPT: Usage = Usage {
+    name: "replay",
+    about: "Run a script from standard input and write one reply line for each of its lines",
+    words: &[SMALL, SEATS],
+};
+
+/// The subcommand that vets chunks, with the options of its work alone.
+const CHUNKS: Usage = Usage {
+    name: "vet",
+    about: "Vet the chunks on standard input, one `<address> <bytes>` a line, and write one verdict for each",
+    words: &[SMALL, WORKERS],
+};
+
+/// The command line of the work alone.
+static WORK: Program = Program {
+    usage: USAGE,
+    subcommands: &[SCRIPT, CHUNKS],
+};
+
+/// The command line of the program `nc_replay`.
 static REPLAY: Program = Program {
-    usage: Usage {
-        name: "nc_replay",
-        about: "Run a script on a code region, or vet chunks of 32-bit x86 code",
-        words: &[],
-    },
+    usage: USAGE,
     subcommands: &[
         Usage {
-            name: "replay",
-            about: "Run a script from standard input and write one reply line for each of its lines",
-            words: &[SMALL, SEATS, EXPLAIN, STRICT],
+            words: &[SMALL, SEATS, QUERIES, EXPLAIN, STRICT],
+            ..SCRIPT
         },
         Usage {
-            name: "vet",
-            about: "Vet the chunks on standard input, one `<address> <bytes>` a line, and write one verdict for each",
             words: &[SMALL, WORKERS, EXPLAIN, STRICT],
+            ..CHUNKS
         },
     ],
 };
@@ -79,39 +106,49 @@ pub(crate) fn number(found: &ArgMatches<'_>, name: &str, least: u32, most: u32) 
         .clamp(least, most)
 }
 
-/// The program. Only this function names its table, so the proofs of its callers don't go through the table.
+/// The command line of the work alone. Only this function names its table, so the proofs of its callers don't go through the table.
+fn work() -> &'static Program {
+    &WORK
+}
+
+/// The command line of the program, likewise.
 fn program() -> &'static Program {
     &REPLAY
 }
 
-/// The request that the words of a subcommand make for this task.
-fn ask_for(task: Task, found: &ArgMatches<'_>) -> Ask
-    ensures { result.task ≡ task }
-{
-    Ask {
-        task,
-        explain: found.get_flag("explain"),
-        strict: found.get_flag("strict"),
-    }
-}
-
-/// The request that a subcommand makes.
-fn asked(found: &ArgMatches<'_>) -> Option<Ask>
+/// The work that a subcommand asks for.
+fn work_in(found: &ArgMatches<'_>) -> Option<Ask>
     ensures { IfSome result AsksInRange }
 {
     if let Some(found) = found.subcommand_matches("replay") {
-        let task = Task::Replay {
+        return Some(Ask::Replay {
             bundles: number(found, "bundles", 2, MAX_BUNDLES),
             seats: number(found, "seats", 1, MOST_SEATS as u32),
-        };
-        return Some(ask_for(task, found));
+        });
     }
     let found = found.subcommand_matches("vet")?;
-    let task = Task::Vet {
+    Some(Ask::Vet {
         bundles: number(found, "bundles", 2, MAX_BUNDLES),
         workers: number(found, "workers", 1, 16),
+    })
+}
+
+/// All that a subcommand asks for.
+fn asked_in(found: &ArgMatches<'_>) -> Option<ReplayAsk>
+    ensures { IfSome result (λ asked. AsksInRange asked.work) }
+{
+    let work = work_in(found)?;
+    let replay = found.subcommand_matches("replay");
+    let flags = match replay {
+        Some(found) => found,
+        None => found.subcommand_matches("vet")?,
     };
-    Some(ask_for(task, found))
+    Some(ReplayAsk {
+        work,
+        queries: replay.is_some_and(|found| found.get_flag("queries")),
+        explain: flags.get_flag("explain"),
+        strict: flags.get_flag("strict"),
+    })
 }
 
 /// Whether a word is an option whose value is the next word.
@@ -126,44 +163,66 @@ fn names_file(words: &[&str]) -> bool {
 }
 
 /// The refusal of words that name a file.
-fn refusal_of_file(alloc: Global) -> Error {
+fn refusal_of_file(alloc: Global, program: &Program) -> Error {
     fault(
         alloc,
-        program(),
+        program,
         ErrorKind::UnknownArgument,
         "no file can be named: the lines are read from standard input, as in `nc_replay replay < FILE`",
     )
 }
 
-/// The refusal of words. If one of them names a file, it says where the lines are read.
-fn refusal(alloc: Global, words: &[&str], error: Error) -> Error {
+/// The refusal of words that name no subcommand. The parser gives it itself.
+fn refusal_of_none(alloc: Global, program: &Program) -> Error {
+    fault(
+        alloc,
+        program,
+        ErrorKind::MissingSubcommand,
+        "a subcommand is missing",
+    )
+}
+
+/// The refusal of words. If one of them names a file, it says where lines are read.
+fn refusal(alloc: Global, program: &Program, words: &[&str], error: Error) -> Error {
     if error.kind() == ErrorKind::UnknownArgument && names_file(words) {
-        return refusal_of_file(alloc);
+        return refusal_of_file(alloc, program);
     }
     error
 }
 
-/// Reads the words of a command line of `nc_replay`, which don't begin with the program's own name. Returns the request that they
-/// make, or else a fault of the words, a wish for help or the version, or lack of memory.
+/// Reads words that ask for the work of `nc_replay` alone, without the program's own name and without the flags of [`ask_replay`].
+/// Returns the work, or else a fault of the words, a wish for help or the version, or lack of memory.
 pub fn ask<'a>(alloc: Global, words: &'a [&'a str]) -> Result<Ask, Error>
     // The numbers are in the ranges of the options.
     ensures { IfOk result AsksInRange }
 {
-    let found = match matches(alloc, program(), words) {
+    let found = match matches(alloc, work(), words) {
         Ok(found) => found,
-        Err(error) => return Err(refusal(alloc, words, error)),
+        Err(error) => return Err(refusal(alloc, work(), words, error)),
     };
-    let asked = asked(&found);
+    let asked = work_in(&found);
     drop(found);
     match asked {
         Some(ask) => Ok(ask),
-        // this can't happen: the parser requires a subcommand
-        None => Err(fault(
-            alloc,
-            program(),
-            ErrorKind::MissingSubcommand,
-            "a subcommand is missing",
-        )),
+        None => Err(refusal_of_none(alloc, work())),
+    }
+}
+
+/// Reads the words of a command line of `nc_replay`, which don't begin with the program's own name. Returns all that they ask for,
+/// or else a fault of the words, a wish for help or the version, or lack of memory.
+pub fn ask_replay<'a>(alloc: Global, words: &'a [&'a str]) -> Result<ReplayAsk, Error>
+    // The numbers are in the ranges of the options.
+    ensures { IfOk result (λ asked. AsksInRange asked.work) }
+{
+    let found = match matches(alloc, program(), words) {
+        Ok(found) => found,
+        Err(error) => return Err(refusal(alloc, program(), words, error)),
+    };
+    let asked = asked_in(&found);
+    drop(found);
+    match asked {
+        Some(ask) => Ok(ask),
+        None => Err(refusal_of_none(alloc, program())),
     }
 }
 

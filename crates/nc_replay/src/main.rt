@@ -1,9 +1,9 @@
 //! The program `nc_replay`: scripts for a code region, and chunks to be vetted, from standard input to standard output.
 //!
 //! It has two subcommands. `replay` runs a script: it creates, patches, deletes and reclaims chunks in a code region, walks
-//! through them and shows them. `vet` only vets chunks, several at a time. `start` of `nc_task` carries out the words of the command
-//! line over any reader and writer. `gathering` says whether replies may be written together. `explaining` has the reader and the writer
-//! that explain bad lines and refusals on standard error.
+//! through them and shows them. `vet` only vets chunks, several at a time. `ask_replay` of `nc_command` parses the command line, and
+//! `carry_out` of `nc_task` does what it asks for over any reader and writer. `gathering` says whether replies may be written
+//! together. `explaining` has the reader and the writer that explain bad lines and refusals on standard error.
 #![tactic(auto)]
 
 ghost use Rattle.std.specs.Prelude.{◌≡◌, ◌⊎◌};
@@ -15,10 +15,10 @@ mod gathering;
 use clap::error::ErrorKind as ClapKind;
 use explaining::{ExplainedInput, ExplainedOutput};
 use gathering::most_held;
-use nc_command::{Ask, ask, replay_words};
+use nc_command::{ReplayAsk, ask_replay, replay_words};
 use nc_lines::ReplayFault;
 use nc_output::PipeWriter;
-use nc_task::{Halt, start};
+use nc_task::{Halt, carry_out};
 use nc_usage::arguments;
 use std::io::{self, BufReader, ErrorKind, Input, Write};
 use std::process::ExitCode;
@@ -26,57 +26,68 @@ use std::rt::Env;
 use std::sync::Wait;
 use std::thread::Threads;
 
-/// Carries out words for this request, over an output that explains refusals. Bad lines are explained if that is asked for.
+/// Does what is asked for over an output that explains refusals. Bad lines are explained if that is asked for.
 fn run_over<R: Threads + Wait + Sync + Eprint + AllocGlobal + Input, W: Write>(
     rt: &R,
-    asked: Ask,
-    words: &[&str],
+    asked: ReplayAsk,
     output: &mut ExplainedOutput<'_, '_, W, R>,
     most: usize,
-) -> Result<(), Halt> {
+) -> Result<(), ReplayFault> {
     let alloc = rt.alloc();
     if !asked.explain {
-        return start(rt, alloc, words, &mut rt.reader(), output, most);
+        return carry_out(rt, alloc, asked, &mut rt.reader(), output, most);
     }
     let Ok(reader) = BufReader::new(alloc, rt.reader()) else {
-        return Err(Halt::Fault(ReplayFault::OutOfMemory));
+        return Err(ReplayFault::OutOfMemory);
     };
-    let mut input = ExplainedInput::new(rt, alloc, reader, asked.task);
-    start(rt, alloc, words, &mut input, output, 0)
+    let mut input = ExplainedInput::new(rt, alloc, reader, asked);
+    carry_out(rt, alloc, asked, &mut input, output, 0)
 }
 
-/// Carries out words for this request, explains bad lines and refusals if that is asked for, and returns the number of bad lines.
+/// Does what is asked for, explains bad lines and refusals if that is asked for, and returns the number of bad lines.
 fn run_explained<R: Threads + Wait + Sync + Eprint + AllocGlobal + Input, W: Write>(
     rt: &R,
-    asked: Ask,
-    words: &[&str],
+    asked: ReplayAsk,
     writer: &mut W,
     most: usize,
-) -> Result<u64, Halt> {
+) -> Result<u64, ReplayFault> {
     let mut output = ExplainedOutput::new(rt, rt.alloc(), writer, asked.explain);
-    match run_over(rt, asked, words, &mut output, most) {
+    match run_over(rt, asked, &mut output, most) {
         Ok(()) => Ok(output.bad_lines()),
-        Err(halt) => Err(halt),
+        Err(fault) => Err(fault),
     }
 }
 
-/// Carries out words, and writes to this writer, of a script at most `most` bytes of replies together. Returns the number of bad lines
-/// if the words count them as failures.
+/// Does what is asked for, and writes to this writer, of a script at most `most` bytes of replies together. Returns the number of bad
+/// lines if they are failures.
+fn run_asked<R: Threads + Wait + Sync + Eprint + AllocGlobal + Input, W: Write>(
+    rt: &R,
+    asked: ReplayAsk,
+    writer: &mut W,
+    most: usize,
+) -> Result<u64, ReplayFault> {
+    if !asked.explain && !asked.strict {
+        carry_out(rt, rt.alloc(), asked, &mut rt.reader(), writer, most)?;
+        return Ok(0);
+    }
+    let bad = run_explained(rt, asked, writer, most)?;
+    Ok(if asked.strict { bad } else { 0 })
+}
+
+/// Carries out words, as [`run_asked`] does what they ask for.
 fn run_arguments<R: Threads + Wait + Sync + Eprint + AllocGlobal + Input, W: Write>(
     rt: &R,
     words: &[&str],
     writer: &mut W,
     most: usize,
 ) -> Result<u64, Halt> {
-    match ask(rt.alloc(), words).ok() {
-        Some(asked) if asked.explain || asked.strict => {
-            let bad = run_explained(rt, asked, words, writer, most)?;
-            Ok(if asked.strict { bad } else { 0 })
-        }
-        _ => {
-            start(rt, rt.alloc(), words, &mut rt.reader(), writer, most)?;
-            Ok(0)
-        }
+    let asked = match ask_replay(rt.alloc(), words) {
+        Ok(asked) => asked,
+        Err(error) => return Err(Halt::Words(error)),
+    };
+    match run_asked(rt, asked, writer, most) {
+        Ok(bad) => Ok(bad),
+        Err(fault) => Err(Halt::Fault(fault)),
     }
 }
 

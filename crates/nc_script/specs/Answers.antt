@@ -1,5 +1,5 @@
 -- The answer of a script to a line, and the state after it.
-use Rattle.std.specs.Prelude.{◌≡◌, ◌≢◌, ℕ, ◌*◌, ◌+◌, ◌^◌, ◌<◌, ◌⊎◌, List, [], length, map, replicate, MatchOption, Some, codes, slice_get}
+use Rattle.std.specs.Prelude.{◌≡◌, ◌≢◌, ℕ, Bool, ◌*◌, ◌+◌, ◌^◌, ◌<◌, ◌⊎◌, List, [], length, map, replicate, MatchOption, Some, codes, slice_get}
 use Rattle.std.specs.Prelude.{slice_set}
 use Rattle.nc_vet.specs.Faults.{HasFault}
 use Rattle.nc_vet.specs.declared.fault.VetFault.{VetFault}
@@ -124,9 +124,9 @@ Serves (Ask query) old reply new = (reply ≡ with_line_end (reply_to query old)
 
 -- From the old state this is an answer to the line, and `new` is the state after it. A line that makes no request is a bad
 -- line, and changes nothing.
-abbrev pub ServesLine : Script → List ℕ → List ℕ → Script → Type 0
-ServesLine old line reply new =
-    MatchOption (request_in line) ((reply ≡ bad_line) × (new ≡ old)) (λ request. Serves request old reply new)
+abbrev pub ServesLine : (queries : Bool) → Script → List ℕ → List ℕ → Script → Type 0
+ServesLine queries old line reply new =
+    MatchOption (request_in queries line) ((reply ≡ bad_line) × (new ≡ old)) (λ request. Serves request old reply new)
 
 -- the request has no other answer, and leads to no other state
 abbrev pub IsOnly : Request → Script → List ℕ → Script → Type 0
@@ -134,14 +134,15 @@ IsOnly request old reply new = (other : List ℕ) (next : Script) → Serves req
 
 -- The line has only one answer: it isn't a reclaim, or no seat has left. Once a seat has left, the number by which a reclaim
 -- frees depends on the moment at which the keeper sees that.
-abbrev pub IsDetermined : Script → List ℕ → Type 0
-IsDetermined old line = (request_in line ≢ Some Reclaim) ⊎ AllStay old
+abbrev pub IsDetermined : (queries : Bool) → Script → List ℕ → Type 0
+IsDetermined queries old line = (request_in queries line ≢ Some Reclaim) ⊎ AllStay old
 
 -- From the old state this is an answer to the line, which leads to the new state. There is no other answer if the line isn't
 -- a reclaim, or if no seat has left.
-pub record AnswersOnly (old : Script) (line reply : List ℕ) (new : Script) : Type 0 where
-  pub serves : ServesLine old line reply new
-  pub only : IsDetermined old line → (other : List ℕ) (next : Script) → ServesLine old line other next → (other ≡ reply) × (next ≡ new)
+pub record AnswersOnly (queries : Bool) (old : Script) (line reply : List ℕ) (new : Script) : Type 0 where
+  pub serves : ServesLine queries old line reply new
+  pub only : IsDetermined queries old line → (other : List ℕ) (next : Script) → ServesLine queries old line other next
+      → (other ≡ reply) × (next ≡ new)
 
 -- the initial state: there is no chunk, no seat has left, and all numbers are 0
 abbrev pub new_script : ℕ → ℕ → Script

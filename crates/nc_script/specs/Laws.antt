@@ -1,5 +1,5 @@
 -- As long as no seat leaves, lines have no other replies than those that a run wrote.
-use Rattle.std.specs.Prelude.{◌≡◌, ◌≢◌, ◌++◌, ℕ, ◌≤◌, List, [], ◌∷◌, Option, Some, All, Any}
+use Rattle.std.specs.Prelude.{◌≡◌, ◌≢◌, ◌++◌, ℕ, ◌≤◌, Bool, List, [], ◌∷◌, Option, Some, All, Any}
 use Rattle.std.specs.Io.KnownBytes.{Appends}
 use Rattle.nc_lines.specs.Answering.{AnswersLines, IsBegun}
 use Rattle.nc_script.specs.Answers.{AnswersOnly, Serves, ServesLine}
@@ -10,26 +10,28 @@ use Rattle.nc_script.specs.Reuse.{number_of, IsFreeingNumber, AllStay}
 use Rattle.nc_script.specs.Script.{Script, Retired, Staying, Left}
 
 -- the line doesn't ask for a leave
-abbrev pub IsNoLeave : List ℕ → Type 0
-IsNoLeave line = (seat : ℕ) → request_in line ≢ Some (Leave seat)
+abbrev pub IsNoLeave : (queries : Bool) → List ℕ → Type 0
+IsNoLeave queries line = (seat : ℕ) → request_in queries line ≢ Some (Leave seat)
 
 -- the reply that was written is a prefix of any answers to all of these lines
-pub record BeginsAnswers (old : Script) (before after : Option (List ℕ)) (lines : List (List ℕ)) : Type 0 where
+pub record BeginsAnswers (queries : Bool) (old : Script) (before after : Option (List ℕ)) (lines : List (List ℕ)) : Type 0 where
   pub reply : List ℕ
   pub written : Appends before after reply
-  pub begins : (all : List ℕ) (last : Script) → AnswersLines ServesLine old lines all last → (rest : List ℕ) × (all ≡ reply ++ rest)
+  pub begins : (all : List ℕ) (last : Script) → AnswersLines (ServesLine queries) old lines all last
+      → (rest : List ℕ) × (all ≡ reply ++ rest)
 
 -- if no seat has left and no line asks for a leave, lines have only one reply and lead to only one state
 abbrev pub HasOneReply : Type 0
-HasOneReply = (old : Script) (lines : List (List ℕ)) (reply other : List ℕ) (new next : Script) → AllStay old → All IsNoLeave lines
-    → AnswersLines AnswersOnly old lines reply new → AnswersLines ServesLine old lines other next → (other ≡ reply) × (next ≡ new)
+HasOneReply = (queries : Bool) (old : Script) (lines : List (List ℕ)) (reply other : List ℕ) (new next : Script) → AllStay old
+    → All (IsNoLeave queries) lines → AnswersLines (AnswersOnly queries) old lines reply new
+    → AnswersLines (ServesLine queries) old lines other next → (other ≡ reply) × (next ≡ new)
 
 -- if no seat has left and no line asks for a leave, the part written of the answers to some first lines is a prefix of the
 -- answers to all lines
 abbrev pub BeginsAll : Type 0
-BeginsAll = (old : Script) (before after : Option (List ℕ)) (lines : List (List ℕ)) → AllStay old → All IsNoLeave lines
-    → IsBegun AnswersOnly old before after lines
-    → BeginsAnswers old before after lines
+BeginsAll = (queries : Bool) (old : Script) (before after : Option (List ℕ)) (lines : List (List ℕ)) → AllStay old
+    → All (IsNoLeave queries) lines → IsBegun (AnswersOnly queries) old before after lines
+    → BeginsAnswers queries old before after lines
 
 -- while no seat has left, the number by which a reclaim frees is the least number of all seats
 abbrev pub FreesByLeast : Type 0

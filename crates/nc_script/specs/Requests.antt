@@ -1,5 +1,5 @@
 -- The requests that lines make, and the words that they consist of.
-use Rattle.std.specs.Prelude.{ℕ, ◌+◌, ◌-◌, ◌*◌, ◌&&◌, List, [], ◌∷◌, Option, Some, None, if◌then◌else◌, codes, nat_le}
+use Rattle.std.specs.Prelude.{ℕ, ◌+◌, ◌-◌, ◌*◌, Bool, ◌&&◌, List, [], ◌∷◌, Option, Some, None, if◌then◌else◌, codes, nat_le}
 use Rattle.std.specs.Option.{option_map, option_and_then}
 use Rattle.nc_lines.specs.Lines.{words_in, is_long}
 use Rattle.nc_lines.specs.Words.{address_in, placed_in}
@@ -75,10 +75,10 @@ single_in request (word ∷ words) = None
 abbrev pub ask_in : List ℕ → List (List ℕ) → Option Request
 ask_in word words = option_and_then (λ query. single_in (Ask query) words) (query_in word)
 
--- the request made by the words of a line, if they make one
-abbrev pub request_of : List (List ℕ) → Option Request
-request_of [] = None
-request_of (word ∷ words) =
+-- the request made by the words of a line, if they make one; `chunk` makes one only where queries are answered
+abbrev pub request_of : (queries : Bool) → List (List ℕ) → Option Request
+request_of queries [] = None
+request_of queries (word ∷ words) =
     if is_word word (codes "create") then create_in words
     else if is_word word (codes "modify") then modify_in words
     else if is_word word (codes "delete") then delete_in words
@@ -86,9 +86,9 @@ request_of (word ∷ words) =
     else if is_word word (codes "leave") then of_seat_in Leave words
     else if is_word word (codes "reclaim") then single_in Reclaim words
     else if is_word word (codes "walk") then walk_in words
-    else if is_word word (codes "chunk") then chunk_at_in words
+    else if queries && is_word word (codes "chunk") then chunk_at_in words
     else ask_in word words
 
 -- the request made by a line; a line that is too long or has no such form makes none, and is a bad line
-abbrev pub request_in : List ℕ → Option Request
-request_in line = if is_long line then None else request_of (words_in line)
+abbrev pub request_in : (queries : Bool) → List ℕ → Option Request
+request_in queries line = if is_long line then None else request_of queries (words_in line)

@@ -1,5 +1,5 @@
 -- The effects of a run of a script.
-use Rattle.std.specs.Prelude.{◌≡◌, ◌≢◌, ◌⊎◌, ◌↔◌, ℕ, List, Option, Result, OnOk, IfErr, IfSome, IsErrOf}
+use Rattle.std.specs.Prelude.{◌≡◌, ◌≢◌, ◌⊎◌, ◌↔◌, ℕ, Bool, List, Option, Result, OnOk, IfErr, IfSome, IsErrOf}
 use Rattle.std.specs.Io.KnownBytes.{Consumes, IsAtEnd}
 use Rattle.nc_decode.specs.Bundles.{IsRegionSize}
 use Rattle.nc_gens.specs.Seen.{AreSeats}
@@ -11,14 +11,15 @@ use Rattle.nc_script.specs.Answers.{AnswersOnly, new_script}
 use Rattle.nc_script.specs.Script.{Script}
 
 -- exactly the answers to these lines were written, beginning in the initial state
-abbrev pub HasAnswered : ℕ → ℕ → Option (List ℕ) → Option (List ℕ) → List (List ℕ) → Type 0
-HasAnswered bundles seats before after lines =
-    (new : Script) × IsAnswered AnswersOnly (new_script bundles seats) new before after lines
+abbrev pub HasAnswered : (queries : Bool) → (bundles seats : ℕ) → Option (List ℕ) → Option (List ℕ) → List (List ℕ) → Type 0
+HasAnswered queries bundles seats before after lines =
+    (new : Script) × IsAnswered (AnswersOnly queries) (new_script bundles seats) new before after lines
 
--- The effect of a run of a script, by its result. The reader was `reader` before it and is `left` after it; the writer was
--- `writer` and is `after`. `remaining` gives the bytes that a reader has left to read, and `contents` those that a writer has.
-pub record HasRun {R W T : Type 0} (bundles seats : ℕ) (remaining : R → Option (List ℕ)) (contents : W → Option (List ℕ))
-    (reader left : R) (writer after : W) (result : Result T ReplayFault) : Type 0 where
+-- The effect of a run of a script, by its result. Its `chunk` lines are answered if queries are, and are bad lines if not. The reader
+-- was `reader` before it and is `left` after it; the writer was `writer` and is `after`. `remaining` gives the bytes that a reader has
+-- left to read, and `contents` those that a writer has.
+pub record HasRun {R W T : Type 0} (queries : Bool) (bundles seats : ℕ) (remaining : R → Option (List ℕ))
+    (contents : W → Option (List ℕ)) (reader left : R) (writer after : W) (result : Result T ReplayFault) : Type 0 where
   -- The two numbers are checked first, in this order, before anything is read or written.
   pub bad_size : IsErrOf result BadSize ↔ ¬ IsRegionSize bundles
   pub bad_seats : IsErrOf result BadSeats ↔ (IsRegionSize bundles × ¬ AreSeats seats)
@@ -26,16 +27,16 @@ pub record HasRun {R W T : Type 0} (bundles seats : ℕ) (remaining : R → Opti
   pub untouched : ¬ (IsRegionSize bundles × AreSeats seats) → (left ≡ reader) × (after ≡ writer)
   -- The whole input was read, and exactly the answers to its lines were written.
   pub ok : OnOk result (IfSome (remaining reader) (λ input.
-      HasAnswered bundles seats (contents writer) (contents after) (lines_of input)))
+      HasAnswered queries bundles seats (contents writer) (contents after) (lines_of input)))
   pub read : OnOk result (IsAtEnd (remaining left))
   -- A prefix of the answers was written.
   pub write_failed : IsErrOf result WriteFailed → IfSome (remaining reader) (λ input.
-      IsBegun AnswersOnly (new_script bundles seats) (contents writer) (contents after) (lines_of input))
+      IsBegun (AnswersOnly queries) (new_script bundles seats) (contents writer) (contents after) (lines_of input))
   -- Exactly the answers to the lines whose line end was read were written.
   pub read_failed : IsErrOf result ReadFailed → (front : List ℕ) × Consumes (remaining reader) (remaining left) front
-      × HasAnswered bundles seats (contents writer) (contents after) (ended_lines front)
+      × HasAnswered queries bundles seats (contents writer) (contents after) (ended_lines front)
   -- Exactly the answers to the lines before the one that failed were written, or there was no memory for the region, and nothing was
   -- read or written.
   pub out_of_memory : IsErrOf result OutOfMemory
       → ((left ≡ reader) × (after ≡ writer)) ⊎ IfSome (remaining reader) (λ input.
-      IsCutShort AnswersOnly (new_script bundles seats) (contents writer) (contents after) (lines_of input))
+      IsCutShort (AnswersOnly queries) (new_script bundles seats) (contents writer) (contents after) (lines_of input))

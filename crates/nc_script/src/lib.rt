@@ -3,7 +3,8 @@
 //! [`run`] runs a script over any reader and writer: it creates, patches, deletes and reclaims chunks in a code region, whose
 //! threads check in and leave, walks through them and shows them. The calls of `nc_lines` read the lines and write the replies;
 //! `session` answers a line, by the calls of a region and those on its threads' seats (`seats`). `request` parses the request
-//! that a line makes, and `query` answers lines that change nothing. [`run_gathered`] writes replies together.
+//! that a line makes, and `query` answers lines that change nothing. [`run_gathered`] writes replies together, and [`run_queries`] also
+//! answers `chunk` lines.
 #![tactic(auto)]
 
 mod answer;
@@ -14,4 +15,4 @@ mod seats;
 mod session;
 mod words;
 
-pub use replay::{law_of_answers, run, run_gathered};
+pub use replay::{law_of_answers, run, run_gathered, run_queries};

@@ -1,5 +1,6 @@
 //! Running a script from a reader to a writer.
 
+ghost use Rattle.std.specs.Prelude.{false, true};
 ghost use Rattle.nc_gens.specs.Seen.{AreSeats};
 ghost use Rattle.nc_decode.specs.Bundles.{IsRegionSize};
 ghost use Rattle.nc_script.specs.Laws.{BeginsAll, HasOneReply, FreesByLeast, LeavesOpen};
@@ -14,6 +15,15 @@ use nc_region::Region;
 use std::alloc::Global;
 use std::io::{Read, Write};
 
+/// How the lines of a script are answered.
+#[derive(Clone, Copy)]
+struct Manner {
+    /// The most bytes of answers that are held back.
+    most: usize,
+    /// Whether `chunk` lines are answered.
+    queries: bool,
+}
+
 /// Runs a script on a new region of `bundles` bundles, for threads with `seats` seats: reads its lines, and writes the answer
 /// to each as soon as its line end has been read. Each answer is a write of its own, unless the writer takes only a part.
 ///
@@ -25,8 +35,7 @@ use std::io::{Read, Write};
 /// - `checkin` and `leave` with a seat act for the seat's thread;
 /// - `reclaim` frees each retired chunk for which every seat has checked in since its deletion or has left;
 /// - `walk` with an address and choices shows the places of a walk and its end;
-/// - `dump` shows every chunk;
-/// - `chunk` with an address shows the chunk that has it, or else the first one above it.
+/// - `dump` shows every chunk.
 ///
 /// Any other line, and any line of more than 1,048,576 bytes, is answered as a bad line. The promises about bytes hold for a
 /// reader and a writer whose bytes are known; nothing is promised about when a device fails.
@@ -37,7 +46,7 @@ pub fn run<R: Read, W: Write>(
     bundles: u32,
     seats: u32,
 ) -> Result<(), ReplayFault>
-    ensures { HasRun bundles seats R.remaining W.contents reader.old reader.new writer.old writer.new result }
+    ensures { HasRun false bundles seats R.remaining W.contents reader.old reader.new writer.old writer.new result }
 {
     run_gathered(alloc, reader, writer, bundles, seats, 0)
 }
@@ -52,7 +61,44 @@ pub fn run_gathered<R: Read, W: Write>(
     seats: u32,
     most: usize,
 ) -> Result<(), ReplayFault>
-    ensures { HasRun bundles seats R.remaining W.contents reader.old reader.new writer.old writer.new result }
+    ensures { HasRun false bundles seats R.remaining W.contents reader.old reader.new writer.old writer.new result }
+{
+    let manner = Manner {
+        most,
+        queries: false,
+    };
+    run_in(alloc, reader, writer, bundles, seats, manner)
+}
+
+/// Runs a script as [`run_gathered`] does, but also answers lines with the word `chunk` and an address. They show the chunk that has the
+/// address, or else the first one above it.
+pub fn run_queries<R: Read, W: Write>(
+    alloc: Global,
+    reader: &mut R,
+    writer: &mut W,
+    bundles: u32,
+    seats: u32,
+    most: usize,
+) -> Result<(), ReplayFault>
+    ensures { HasRun true bundles seats R.remaining W.contents reader.old reader.new writer.old writer.new result }
+{
+    let manner = Manner {
+        most,
+        queries: true,
+    };
+    run_in(alloc, reader, writer, bundles, seats, manner)
+}
+
+/// Runs a script on a new region, if the numbers of bundles and of seats are valid.
+fn run_in<R: Read, W: Write>(
+    alloc: Global,
+    reader: &mut R,
+    writer: &mut W,
+    bundles: u32,
+    seats: u32,
+    manner: Manner,
+) -> Result<(), ReplayFault>
+    ensures { HasRun manner.queries bundles seats R.remaining W.contents reader.old reader.new writer.old writer.new result }
 {
     if !is_region_size(bundles) {
         return Err(ReplayFault::BadSize);
@@ -60,7 +106,7 @@ pub fn run_gathered<R: Read, W: Write>(
     if seats == 0 || seats as usize > MOST_SEATS {
         return Err(ReplayFault::BadSeats);
     }
-    run_new(alloc, reader, writer, bundles, seats, most)
+    run_new(alloc, reader, writer, bundles, seats, manner)
 }
 
 /// Runs a script on a new region with valid numbers of bundles and of seats.
@@ -70,11 +116,11 @@ fn run_new<R: Read, W: Write>(
     writer: &mut W,
     bundles: u32,
     seats: u32,
-    most: usize,
+    manner: Manner,
 ) -> Result<(), ReplayFault>
     requires size { IsRegionSize bundles }
     requires seats { AreSeats seats }
-    ensures { HasRun bundles seats R.remaining W.contents reader.old reader.new writer.old writer.new result }
+    ensures { HasRun manner.queries bundles seats R.remaining W.contents reader.old reader.new writer.old writer.new result }
 {
     let Ok((gens, keeper, passes)) = Gens::new(alloc, seats) else {
         return Err(ReplayFault::OutOfMemory);
@@ -84,8 +130,8 @@ fn run_new<R: Read, W: Write>(
     };
     match Region::new(alloc, bundles, &gens, keeper) {
         Ok(region) => {
-            let mut session = Session::new(alloc, region, threads);
-            answer_gathered(alloc, &mut session, reader, writer, most)
+            let mut session = Session::new(alloc, region, threads, manner.queries);
+            answer_gathered(alloc, &mut session, reader, writer, manner.most)
         }
         Err(_) => Err(ReplayFault::OutOfMemory),
     }

@@ -1,11 +1,12 @@
 //! The request that a line makes.
 
-ghost use Rattle.std.specs.Prelude.{◌≡◌, ◌≤◌, IfOk, [], ◌∷◌};
+ghost use Rattle.std.specs.Prelude.{◌≡◌, ◌≤◌, ◌&&◌, Bool, IfOk, [], ◌∷◌, codes};
 ghost use Rattle.std.specs.Option.{option_copied, option_map};
 ghost use Rattle.nc_lines.specs.Lines.{words_in};
 ghost use Rattle.nc_lines.specs.Words.{words_after};
 ghost use Rattle.nc_script.specs.Requests.{request_in, create_in, modify_in, delete_in, of_seat_in, walk_in};
 ghost use Rattle.nc_script.specs.Requests.{addresses_in, chunk_at_in};
+ghost use Rattle.nc_script.specs.Queries as spelling;
 ghost use Rattle.nc_script.specs.Requests as spec;
 ghost use Rattle.nc_script.specs.machinery.Shown.{shown};
 
@@ -142,32 +143,41 @@ fn walk_of(alloc: Global, text: &[u8]) -> Result<Option<Request>, AllocError>
     }
 }
 
-/// The request made by a line, or nothing if it is a bad line.
-pub(crate) fn request_of(alloc: Global, line: &[u8]) -> Result<Option<Request>, AllocError>
-    ensures { IfOk result (λ found. option_map shown found ≡ request_in line.now) }
+/// The request made by a line, or nothing if it is a bad line, as one with `chunk` is unless `queries` are answered.
+pub(crate) fn request_of(
+    alloc: Global,
+    line: &[u8],
+    queries: bool,
+) -> Result<Option<Request>, AllocError>
+    ensures { IfOk result (λ found. option_map shown found ≡ request_in queries line.now) }
 {
     if line.len() > LINE_LIMIT {
         return Ok(None);
     }
     match memchr(b' ', line) {
-        Some(end) => asked_by(alloc, &line[..end], Some(&line[end + 1..])),
-        None => asked_by(alloc, line, None),
+        Some(end) => asked_by(alloc, &line[..end], Some(&line[end + 1..]), queries),
+        None => asked_by(alloc, line, None, queries),
     }
 }
 
 /// The request made by the first word of a line and the text after it, or nothing if they make none.
-fn asked_by(alloc: Global, key: &[u8], rest: Option<&[u8]>) -> Result<Option<Request>, AllocError>
-    ensures { IfOk result (λ found. option_map shown found ≡ spec.request_of (key.now ∷ words_after (option_copied rest.entry))) }
+fn asked_by(
+    alloc: Global,
+    key: &[u8],
+    rest: Option<&[u8]>,
+    queries: bool,
+) -> Result<Option<Request>, AllocError>
+    ensures { IfOk result (λ found. option_map shown found ≡ spec.request_of queries (key.now ∷ words_after (option_copied rest.entry))) }
 {
     match rest {
-        Some(text) => asked_with(alloc, key, text),
+        Some(text) => asked_with(alloc, key, text, queries),
         None => Ok(asked_alone(key)),
     }
 }
 
 /// The request made by the only word of a line.
 fn asked_alone(key: &[u8]) -> Option<Request>
-    ensures { option_map shown result ≡ spec.request_of (key.now ∷ []) }
+    ensures { (queries : Bool) → option_map shown result ≡ spec.request_of queries (key.now ∷ []) }
 {
     if is_word(key, b"reclaim") {
         return Some(Request::Reclaim);
@@ -176,9 +186,21 @@ fn asked_alone(key: &[u8]) -> Option<Request>
     Some(Request::Ask { query })
 }
 
+/// Whether a word begins the lines of a query, and these are answered.
+fn begins_query(key: &[u8], queries: bool) -> bool
+    ensures { result ≡ (queries && spelling.is_word key.now (codes "chunk")) }
+{
+    queries && is_word(key, b"chunk")
+}
+
 /// The request made by the first word of a line and the text after it.
-fn asked_with(alloc: Global, key: &[u8], text: &[u8]) -> Result<Option<Request>, AllocError>
-    ensures { IfOk result (λ found. option_map shown found ≡ spec.request_of (key.now ∷ words_in text.now)) }
+fn asked_with(
+    alloc: Global,
+    key: &[u8],
+    text: &[u8],
+    queries: bool,
+) -> Result<Option<Request>, AllocError>
+    ensures { IfOk result (λ found. option_map shown found ≡ spec.request_of queries (key.now ∷ words_in text.now)) }
 {
     if is_word(key, b"create") {
         return create_of(alloc, text);
@@ -198,7 +220,7 @@ fn asked_with(alloc: Global, key: &[u8], text: &[u8]) -> Result<Option<Request>,
     if is_word(key, b"walk") {
         return walk_of(alloc, text);
     }
-    if is_word(key, b"chunk") {
+    if begins_query(key, queries) {
         return Ok(chunk_of(text));
     }
     Ok(None)

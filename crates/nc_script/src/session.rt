@@ -25,29 +25,33 @@ pub struct Session<'g> {
     alloc: Global,
     region: Region<'g>,
     seats: Seats<'g>,
+    /// Whether `chunk` lines are answered.
+    queries: bool,
 }
 
 impl<'g> Model for Session<'g> {
     ghost use Rattle.std.specs.Prelude.{◌≡◌};
-    ghost use Rattle.nc_script.specs.machinery.Session.{SessionState};
+    ghost use Rattle.nc_script.specs.machinery.Session.{SessionOf};
 
-    ghost Value = { SessionState };
+    ghost Value = { SessionOf };
 
-    ghost view = { λ s. record { region = s.region; seats = s.seats } };
+    ghost view = { λ s. record { queries = s.queries; state = record { region = s.region; seats = s.seats } } };
 
     ghost invariant = { λ s. s.region.keeper.table ≡ s.seats.table };
 }
 
 impl<'g> Session<'g> {
-    /// A session over a region and its threads' seats, whose passes belong to the region's table.
-    pub fn new(alloc: Global, region: Region<'g>, seats: Seats<'g>) -> Session<'g>
+    /// A session over a region and its threads' seats, whose passes belong to the region's table. It answers `chunk` lines if
+    /// `queries` are wanted.
+    pub fn new(alloc: Global, region: Region<'g>, seats: Seats<'g>, queries: bool) -> Session<'g>
         requires { region.keeper.table ≡ seats.table }
-        ensures { result ≡ record { region = region.entry; seats = seats.entry } }
+        ensures { result ≡ record { queries = queries; state = record { region = region.entry; seats = seats.entry } } }
     {
         Session {
             alloc,
             region,
             seats,
+            queries,
         }
     }
 }
@@ -58,7 +62,7 @@ impl<'g> Responder for Session<'g> {
     fn answer(&mut self, kept: &[u8], out: &mut Vec<u8>) -> Result<(), AllocError> {
         // Called for its contract only.
         let _facts = self.region.limit();
-        match request_of(self.alloc, kept)? {
+        match request_of(self.alloc, kept, self.queries)? {
             Some(request) => serve(self.alloc, &mut self.region, &mut self.seats, request, out),
             None => out.extend_from_slice(b"bad line\n"),
         }

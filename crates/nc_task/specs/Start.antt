@@ -1,18 +1,17 @@
 -- The effects of the program.
-use Rattle.std.specs.Prelude.{◌≢◌, ◌⊎◌, ℕ, List, Option, Result, Ok, Err, OnOk, IfErr, IfSome, IsErrOf, ⊤}
-use Rattle.std.specs.Io.KnownBytes.{Consumes, IsAtEnd}
-use Rattle.nc_gens.specs.Seen.{AreSeats}
+use Rattle.std.specs.Prelude.{◌≡◌, ◌≢◌, ◌↔◌, ℕ, Bool, List, Option, Result, Ok, Err, OnOk, IfErr, IfSome, IsErrOf, ⊤}
+use Rattle.std.specs.Io.KnownBytes.{IsAtEnd}
 use Rattle.nc_decode.specs.Bundles.{IsRegionSize, limit_after}
 use Rattle.nc_work.specs.Verdicts.{AreWorkers}
+use Rattle.nc_command.specs.declared.asked.Ask.{Ask}
+use Rattle.nc_command.specs.declared.asked.Ask.TheVariants.{Replay, Vet}
 use Rattle.nc_lines.specs.declared.fault.ReplayFault.{ReplayFault}
-use Rattle.nc_lines.specs.declared.fault.ReplayFault.TheVariants.{ReadFailed, WriteFailed, OutOfMemory}
+use Rattle.nc_lines.specs.declared.fault.ReplayFault.TheVariants.{WriteFailed, BadSize, BadSeats, BadWorkers}
 use Rattle.nc_task.specs.declared.halt.Halt.{Halt}
 use Rattle.nc_task.specs.declared.halt.Halt.TheVariants.{Words, Fault}
-use Rattle.nc_lines.specs.Lines.{lines_of, ended_lines}
-use Rattle.nc_lines.specs.Answering.{IsBegun, IsCutShort}
-use Rattle.nc_script.specs.Answers.{AnswersOnly, new_script}
-use Rattle.nc_script.specs.Run.{HasAnswered}
+use Rattle.nc_lines.specs.Lines.{lines_of}
 use Rattle.nc_lines.specs.Vetting.{HasVetted, HasBegunVetted}
+use Rattle.nc_script.specs.Run.{HasRun}
 
 -- `P` holds if the program stopped at its command line
 abbrev pub IfWords : {T : Type 0} → Result T Halt → Type 0 → Type 0
@@ -26,33 +25,24 @@ IfRun (Ok x) P = P (Ok x)
 IfRun (Err (Words error)) P = ⊤
 IfRun (Err (Fault fault)) P = P (Err fault)
 
--- a script was run with numbers in range, with this outcome and these bytes read and written: the contract of `run` of
--- nc_script
-pub record HasReplayed {T : Type 0} (untouched : Type 0) (input left before after : Option (List ℕ))
-    (outcome : Result T ReplayFault) : Type 0 where
-  pub bundles : ℕ
-  pub seats : ℕ
-  pub size : IsRegionSize bundles
-  pub seats_in_range : AreSeats seats
-  pub ok : OnOk outcome (IfSome input (λ bytes. HasAnswered bundles seats before after (lines_of bytes)))
-  pub read : OnOk outcome (IsAtEnd left)
-  pub write_failed : IsErrOf outcome WriteFailed
-      → IfSome input (λ bytes. IsBegun AnswersOnly (new_script bundles seats) before after (lines_of bytes))
-  pub read_failed : IsErrOf outcome ReadFailed → (front : List ℕ) × Consumes input left front
-      × HasAnswered bundles seats before after (ended_lines front)
-  pub out_of_memory : IsErrOf outcome OutOfMemory → untouched
-      ⊎ IfSome input (λ bytes. IsCutShort AnswersOnly (new_script bundles seats) before after (lines_of bytes))
+-- the effect of vetting lines of chunks, by its result: the contract of `vet_lines` of nc_lines
+pub record HasVettedLines {R W T : Type 0} (bundles workers : ℕ) (remaining : R → Option (List ℕ)) (contents : W → Option (List ℕ))
+    (reader left : R) (writer after : W) (result : Result T ReplayFault) : Type 0 where
+  pub bad_size : IsErrOf result BadSize ↔ ¬ IsRegionSize bundles
+  pub bad_workers : IsErrOf result BadWorkers ↔ (IsRegionSize bundles × ¬ AreWorkers workers)
+  pub no_seats : IfErr result (λ fault. fault ≢ BadSeats)
+  pub untouched : ¬ (IsRegionSize bundles × AreWorkers workers) → (left ≡ reader) × (after ≡ writer)
+  pub ok : OnOk result (IfSome (remaining reader) (λ input.
+      HasVetted (limit_after bundles) (contents writer) (contents after) (lines_of input)))
+  pub read : OnOk result (IsAtEnd (remaining left))
+  pub write_failed : IsErrOf result WriteFailed → IfSome (remaining reader) (λ input.
+      HasBegunVetted (limit_after bundles) (contents writer) (contents after) (lines_of input))
+  pub unwritten : IfErr result (λ fault. fault ≢ WriteFailed → after ≡ writer)
 
--- lines of chunks were vetted with numbers in range, with this outcome and these bytes read and written: the contract of
--- `vet_lines` of nc_lines
-pub record HasVettedLines {T : Type 0} (unwritten : Type 0) (input left before after : Option (List ℕ))
-    (outcome : Result T ReplayFault) : Type 0 where
-  pub bundles : ℕ
-  pub workers : ℕ
-  pub size : IsRegionSize bundles
-  pub workers_in_range : AreWorkers workers
-  pub ok : OnOk outcome (IfSome input (λ bytes. HasVetted (limit_after bundles) before after (lines_of bytes)))
-  pub read : OnOk outcome (IsAtEnd left)
-  pub write_failed : IsErrOf outcome WriteFailed
-      → IfSome input (λ bytes. HasBegunVetted (limit_after bundles) before after (lines_of bytes))
-  pub nothing : IfErr outcome (λ fault. fault ≢ WriteFailed → unwritten)
+-- the effect of this work, by its result: a script was run, whose `chunk` lines are answered if queries are, or lines were vetted
+abbrev pub IsDone : {R W T : Type 0} → (queries : Bool) → Ask → (R → Option (List ℕ)) → (W → Option (List ℕ))
+    → (reader left : R) (writer after : W) → Result T ReplayFault → Type 0
+IsDone queries (Replay bundles seats) remaining contents reader left writer after result =
+    HasRun queries bundles seats remaining contents reader left writer after result
+IsDone queries (Vet bundles workers) remaining contents reader left writer after result =
+    HasVettedLines bundles workers remaining contents reader left writer after result

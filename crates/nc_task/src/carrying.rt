@@ -1,54 +1,71 @@
-//! Words carried out over any reader and writer.
+//! Work carried out over any reader and writer.
 
-ghost use Rattle.std.specs.Prelude.{◌≡◌, ◌⊎◌};
-ghost use Rattle.nc_task.specs.Start.{IfWords, IfRun, HasReplayed, HasVettedLines};
+ghost use Rattle.std.specs.Prelude.{◌≡◌, false};
+ghost use Rattle.nc_command.specs.Range.{AsksInRange};
+ghost use Rattle.nc_command.specs.declared.asked.Ask.{Ask};
+ghost use Rattle.nc_task.specs.Start.{IfWords, IfRun, IsDone};
 
 use crate::halt::Halt;
-use nc_command::{Task, ask};
+use nc_command::{Ask, ReplayAsk, ask};
 use nc_lines::{ReplayFault, vet_lines};
-use nc_script::run_gathered;
+use nc_script::{run, run_gathered, run_queries};
 use nc_work::Open;
 use std::alloc::Global;
 use std::io::{Read, Write};
 use std::sync::Wait;
 use std::thread::Threads;
 
-/// Carries out the words of a command line, given without the program's own name. It runs a script, and holds back at most `most`
-/// bytes of replies to write them together; or it vets lines of chunks by workers.
+/// Carries out the words of a command line, which don't begin with the program's own name. It runs a script, or vets lines of chunks
+/// by workers. The words are those that `ask` of `nc_command` takes. Each answer to a script's line is a write of its own.
 pub fn start<'a, T: Threads + Wait + Sync, R: Read, W: Write>(
     rt: &T,
     alloc: Global,
     words: &'a [&'a str],
     reader: &mut R,
     writer: &mut W,
-    most: usize,
 ) -> Result<(), Halt>
     // A fault of the command line: nothing was read or written.
     ensures words { IfWords result ((reader.new ≡ reader.old) × (writer.new ≡ writer.old)) }
 
-    // Otherwise a script was run, or lines were vetted, with numbers in range.
-    ensures ran { IfRun result (λ outcome.
-        HasReplayed ((reader.new ≡ reader.old) × (writer.new ≡ writer.old)) (R.remaining reader.old) (R.remaining reader.new)
-        (W.contents writer.old) (W.contents writer.new) outcome
-        ⊎ HasVettedLines (writer.new ≡ writer.old) (R.remaining reader.old) (R.remaining reader.new)
-        (W.contents writer.old) (W.contents writer.new) outcome) }
+    // Otherwise some work with numbers in range was done.
+    ensures ran { IfRun result (λ outcome. (work : Ask) × AsksInRange work
+        × IsDone false work R.remaining W.contents reader.old reader.new writer.old writer.new outcome) }
 {
-    let task = match ask(alloc, words) {
-        Ok(asked) => asked.task,
+    let work = match ask(alloc, words) {
+        Ok(work) => work,
         Err(error) => return Err(Halt::Words(error)),
     };
-    match task {
-        Task::Replay { bundles, seats } => {
-            match run_gathered(alloc, reader, writer, bundles, seats, most) {
-                Ok(()) => Ok(()),
-                Err(fault) => Err(Halt::Fault(fault)),
-            }
+    let done = match work {
+        Ask::Replay { bundles, seats } => run(alloc, reader, writer, bundles, seats),
+        Ask::Vet { bundles, workers } => {
+            vet_lines(rt, alloc, reader, writer, bundles, workers, &Open)
         }
-        Task::Vet { bundles, workers } => {
-            match vet_lines(rt, alloc, reader, writer, bundles, workers, &Open) {
-                Ok(()) => Ok(()),
-                Err(fault) => Err(Halt::Fault(fault)),
-            }
+    };
+    match done {
+        Ok(()) => Ok(()),
+        Err(fault) => Err(Halt::Fault(fault)),
+    }
+}
+
+/// Does the work that a command line asks for. Of a script's answers at most `most` bytes are held back and written together, and
+/// its `chunk` lines are answered if that is asked for. Lines and refusals are explained by the reader and the writer, if at all.
+pub fn carry_out<T: Threads + Wait + Sync, R: Read, W: Write>(
+    rt: &T,
+    alloc: Global,
+    asked: ReplayAsk,
+    reader: &mut R,
+    writer: &mut W,
+    most: usize,
+) -> Result<(), ReplayFault>
+    ensures { IsDone asked.queries asked.work R.remaining W.contents reader.old reader.new writer.old writer.new result }
+{
+    match asked.work {
+        Ask::Replay { bundles, seats } if asked.queries => {
+            run_queries(alloc, reader, writer, bundles, seats, most)
+        }
+        Ask::Replay { bundles, seats } => run_gathered(alloc, reader, writer, bundles, seats, most),
+        Ask::Vet { bundles, workers } => {
+            vet_lines(rt, alloc, reader, writer, bundles, workers, &Open)
         }
     }
 }

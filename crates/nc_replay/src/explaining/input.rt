@@ -5,16 +5,16 @@ ghost use Rattle.std.specs.Io.KnownBytes.{ReadConsumes};
 
 use crate::explaining::following::Following;
 use crate::explaining::mistakes::{Mistake, mistake_in};
-use nc_command::Task;
+use nc_command::ReplayAsk;
 use nc_lines::LINE_LIMIT;
 use std::alloc::Global;
 use std::io::{Read, Result};
 
-/// The lines of a task as they are read.
+/// The lines of a request as they are read.
 #[derive(Drop)]
 struct Lines<'r, E> {
     rt: &'r E,
-    task: Task,
+    asked: ReplayAsk,
     line: Following,
 }
 
@@ -22,7 +22,7 @@ impl<'r, E: Eprint> Lines<'r, E> {
     /// Explains the line at hand if it is bad, and goes on to the next one. If nothing can be printed, nothing is lost.
     fn explain(&mut self) {
         let mistake = match self.line.kept() {
-            Some(line) => mistake_in(self.task, line),
+            Some(line) => mistake_in(self.asked, line),
             None => None,
         };
         if let Some(Mistake { word, text, digits }) = mistake {
@@ -44,7 +44,7 @@ impl<'r, E: Eprint> Lines<'r, E> {
     }
 }
 
-/// Passes on the bytes of a reader, and says what is wrong with each line of a task that gets the reply `bad line`.
+/// Passes on the bytes of a reader, and says what is wrong with each line of a request that gets the reply `bad line`.
 ///
 /// A read gives one byte. So whoever answers each line as it ends has answered all lines before the one that is explained.
 #[derive(Drop)]
@@ -55,11 +55,11 @@ pub struct ExplainedInput<'r, R, E> {
 
 impl<'r, R: Read, E: Eprint> ExplainedInput<'r, R, E> {
     /// Passes on the bytes of this reader. A read of it should be cheap, as that of a `BufReader` is.
-    pub fn new(rt: &'r E, alloc: Global, reader: R, task: Task) -> ExplainedInput<'r, R, E> {
+    pub fn new(rt: &'r E, alloc: Global, reader: R, asked: ReplayAsk) -> ExplainedInput<'r, R, E> {
         let line = Following::new(alloc, LINE_LIMIT + 1);
         ExplainedInput {
             reader,
-            lines: Lines { rt, task, line },
+            lines: Lines { rt, asked, line },
         }
     }
 }

@@ -1,7 +1,7 @@
 //! What is wrong with a line that gets the reply `bad line`.
 
 use crate::explaining::shapes::{CHUNK, Form, Shape, request_of};
-use nc_command::Task;
+use nc_command::{Ask, ReplayAsk};
 use nc_lines::LINE_LIMIT;
 
 /// What is wrong with a line: a sentence that may begin with what a word is, and may end with a number of digits.
@@ -157,17 +157,24 @@ fn mistake_in_bytes_of(line: &[u8]) -> Option<Mistake> {
 
 /// What is said of a line that begins with no request.
 const UNKNOWN: &str =
+    "a request begins with create, modify, delete, checkin, leave, reclaim, walk or dump, in lower case";
+
+/// What is said of a line that begins with no request, where queries are answered.
+const UNKNOWN_QUERY: &str =
     "a request begins with create, modify, delete, checkin, leave, reclaim, walk, dump or chunk, in lower case";
 
 /// What is wrong with a line of a script, whose words are separated by single spaces.
-fn mistake_in_request(line: &[u8]) -> Option<Mistake> {
+fn mistake_in_request(line: &[u8], queries: bool) -> Option<Mistake> {
     let (word, rest) = match line.iter().position(|byte| *byte == b' ') {
         Some(end) => (&line[..end], Some(&line[end + 1..])),
         None => (line, None),
     };
     match request_of(word) {
+        Some(request) if request.is_query && !queries => {
+            of_line("a chunk line is answered only with --queries")
+        }
         Some(request) => mistake_in_words(request.words, rest),
-        None => of_line(UNKNOWN),
+        None => of_line(if queries { UNKNOWN_QUERY } else { UNKNOWN }),
     }
 }
 
@@ -180,12 +187,12 @@ fn mistake_in_chunk(line: &[u8]) -> Option<Mistake> {
     mistake_in_words(CHUNK, Some(line))
 }
 
-/// What is wrong with a line for this task, if it gets the reply `bad line`.
-pub(crate) fn mistake_in(task: Task, line: &[u8]) -> Option<Mistake> {
+/// What is wrong with a line for this request, if it gets the reply `bad line`.
+pub(crate) fn mistake_in(asked: ReplayAsk, line: &[u8]) -> Option<Mistake> {
     match mistake_in_bytes_of(line) {
-        None => match task {
-            Task::Replay { .. } => mistake_in_request(line),
-            Task::Vet { .. } => mistake_in_chunk(line),
+        None => match asked.work {
+            Ask::Replay { .. } => mistake_in_request(line, asked.queries),
+            Ask::Vet { .. } => mistake_in_chunk(line),
         },
         mistake => mistake,
     }

@@ -27,6 +27,8 @@ pub(crate) struct Request {
     pub word: &'static [u8],
     /// The words after it.
     pub words: Shape,
+    /// Whether its lines are answered only where queries are.
+    pub is_query: bool,
 }
 
 /// The forms of words.
@@ -81,15 +83,15 @@ pub(crate) const CHUNK: Shape = Shape {
 /// All requests of a script.
 #[rattlefmt::skip]
 pub(crate) static REQUESTS: [Request; 9] = [
-    Request { word: b"create", words: CHUNK },
-    Request { word: b"modify", words: CHUNK },
-    Request { word: b"delete", words: PLACE },
-    Request { word: b"checkin", words: SEAT },
-    Request { word: b"leave", words: SEAT },
-    Request { word: b"reclaim", words: NONE },
-    Request { word: b"walk", words: WALK },
-    Request { word: b"dump", words: NONE },
-    Request { word: b"chunk", words: PLACE },
+    Request { word: b"create", words: CHUNK, is_query: false },
+    Request { word: b"modify", words: CHUNK, is_query: false },
+    Request { word: b"delete", words: PLACE, is_query: false },
+    Request { word: b"checkin", words: SEAT, is_query: false },
+    Request { word: b"leave", words: SEAT, is_query: false },
+    Request { word: b"reclaim", words: NONE, is_query: false },
+    Request { word: b"walk", words: WALK, is_query: false },
+    Request { word: b"dump", words: NONE, is_query: false },
+    Request { word: b"chunk", words: PLACE, is_query: true },
 ];
 
 /// The request of a script whose lines begin with this word.

@@ -1,11 +1,11 @@
 -- What answers a request answers the line that asks for it.
-use Rattle.std.proofs.Common.{◌≡◌, ◌≢◌, ◌⊎◌, ◌++◌, List, ℕ, Option, Some, None, Result, OnOk, sym, subst}
+use Rattle.std.proofs.Common.{◌≡◌, ◌≢◌, ◌⊎◌, ◌++◌, Bool, List, ℕ, Option, Some, None, Result, OnOk, refl, sym, subst}
 use Rattle.std.proofs.lemmas.Result.{on_ok_weaker}
 use Rattle.nc_region.specs.Region.{Region, IsRegion}
 use Rattle.nc_lines.specs.Lines.{bad_line}
 use Rattle.nc_script.specs.Requests.{Request, Reclaim, request_in}
 use Rattle.nc_script.specs.Reuse.{AllStay}
-use Rattle.nc_script.specs.machinery.Session.{SeatsState, SessionState, script_of, Follows, FollowsIn, FollowsLine}
+use Rattle.nc_script.specs.machinery.Session.{SeatsState, SessionOf, SessionState, script_of, Follows, FollowsIn, FollowsLine}
 use Rattle.nc_script.proofs.serving.OneAnswer.{request_only, line_only, bad_only}
 
 -- what was asked for is the request that was answered
@@ -26,20 +26,26 @@ module _ {T E : Type 0} (r : Result T E) (new old : List ℕ) (asked request : R
       (on_ok_weaker r (λ answer. (answer.0, answer.1, answer.2 seats)) h)
 
 -- a line that asks for a request
-pub line_follows : (request : Request) (old new : SessionState) (line reply : List ℕ) → IsRegion old.region.marked old.region.chunks
-    → request_in line ≡ Some request → Follows request old reply new → FollowsLine old line reply new
-line_follows request old new line reply is e follows seats freed fits =
-    let (next, number, serves, still) = follows seats freed fits in
-    let before = script_of old.region seats freed in
-    let after = script_of new.region next number in (
-      next,
-      number,
-      line_only request before after line reply e serves
-          (λ determined. request_only request old.region seats freed reply after is
-          (subst (λ (asked : Option Request). (asked ≢ Some Reclaim) ⊎ AllStay before) e determined) serves),
-      still,
-    )
+pub line_follows : (queries : Bool) (request : Request) (old new : SessionState) (line reply : List ℕ)
+    → IsRegion old.region.marked old.region.chunks → request_in queries line ≡ Some request → Follows request old reply new
+    → FollowsLine (record { queries = queries; state = old }) line reply (record { queries = queries; state = new })
+line_follows queries request old new line reply is e follows = (
+  refl,
+  λ seats freed fits.
+      let (next, number, serves, still) = follows seats freed fits in
+      let before = script_of old.region seats freed in
+      let after = script_of new.region next number in (
+        next,
+        number,
+        line_only queries request before after line reply e serves
+            (λ determined. request_only request old.region seats freed reply after is
+            (subst (λ (asked : Option Request). (asked ≢ Some Reclaim) ⊎ AllStay before) e determined) serves),
+        still,
+      ),
+)
 
 -- a bad line, which changes nothing
-pub bad_line_follows : (state : SessionState) (line : List ℕ) → request_in line ≡ None → FollowsLine state line bad_line state
-bad_line_follows state line e seats freed fits = (seats, freed, bad_only (script_of state.region seats freed) line e, fits)
+pub bad_line_follows : (session : SessionOf) (line : List ℕ) → request_in session.queries line ≡ None
+    → FollowsLine session line bad_line session
+bad_line_follows session line e =
+    (refl, λ seats freed fits. (seats, freed, bad_only session.queries (script_of session.state.region seats freed) line e, fits))

@@ -1,6 +1,6 @@
 -- A line has one answer, and leads to one state.
 use Rattle.std.proofs.Common.{◌≤◌, length, slice_set, ◌^◌}
-use Rattle.std.proofs.Common.{◌≡◌, ◌≢◌, ◌⊎◌, ◌++◌, ℕ, ◌<◌, List, [], ◌∷◌, Option, Some, None, inl, inr, refl, sym, ap, ◌∙◌, subst, arith}
+use Rattle.std.proofs.Common.{◌≡◌, ◌≢◌, ◌⊎◌, ◌++◌, ℕ, ◌<◌, Bool, List, [], ◌∷◌, Option, Some, None, inl, inr, refl, sym, ap, ◌∙◌, subst, arith}
 use Rattle.std.specs.Prelude.{All, MatchOption}
 use Rattle.std.proofs.lemmas.List.Elements.{All-tail}
 use Rattle.nc_vet.specs.Faults.{HasFault}
@@ -265,9 +265,10 @@ request_only (Walk start choices) region seats freed reply new is determined h =
 request_only (Ask query) region seats freed reply new is determined h = ask_only query (script_of region seats freed) reply new h
 
 -- a line that asks for this has this answer, and only this one if it leaves nothing open
-pub line_only : (request : Request) (old new : Script) (line reply : List ℕ) → request_in line ≡ Some request
-    → Serves request old reply new → (IsDetermined old line → IsOnly request old reply new) → AnswersOnly old line reply new
-line_only request old new line reply e h only =
+pub line_only : (queries : Bool) (request : Request) (old new : Script) (line reply : List ℕ) → request_in queries line ≡ Some request
+    → Serves request old reply new → (IsDetermined queries old line → IsOnly request old reply new)
+    → AnswersOnly queries old line reply new
+line_only queries request old new line reply e h only =
     let Shown : Option Request → List ℕ → Script → Type 0 =
     λ r t n. MatchOption r ((t ≡ bad_line) × (n ≡ old)) (λ asked. Serves asked old t n) in
     record {
@@ -276,8 +277,9 @@ line_only request old new line reply e h only =
     }
 
 -- a line that asks for nothing is only a bad line
-pub bad_only : (old : Script) (line : List ℕ) → request_in line ≡ None → AnswersOnly old line bad_line old
-bad_only old line e =
+pub bad_only : (queries : Bool) (old : Script) (line : List ℕ) → request_in queries line ≡ None
+    → AnswersOnly queries old line bad_line old
+bad_only queries old line e =
     let Shown : Option Request → List ℕ → Script → Type 0 =
     λ r t n. MatchOption r ((t ≡ bad_line) × (n ≡ old)) (λ asked. Serves asked old t n) in
     record {

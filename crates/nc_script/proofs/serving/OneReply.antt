@@ -1,5 +1,5 @@
 -- Lines have no other replies than those that a run wrote, as long as no seat leaves.
-use Rattle.std.proofs.Common.{◌≡◌, ◌≢◌, ◌++◌, ℕ, ◌≤◌, List, [], ◌∷◌, get_or, set, length, Option, Some, None, inl, inr, refl, sym, ap, ◌∙◌}
+use Rattle.std.proofs.Common.{◌≡◌, ◌≢◌, ◌++◌, ℕ, ◌≤◌, Bool, List, [], ◌∷◌, get_or, set, length, Option, Some, None, inl, inr, refl, sym, ap, ◌∙◌}
 use Rattle.std.proofs.Common.{subst, append_assoc, arith, zero, suc}
 use Rattle.std.specs.Prelude.{All, MatchOption}
 use Rattle.std.proofs.lemmas.List.Elements.{All-tail, All-take}
@@ -48,24 +48,24 @@ stay_on_line (Some request) old reply new not_leave stay h =
 
 -- lines have only one list of replies, one line after the other
 pub one_text : HasOneReply
-one_text old [] reply other new next stay none a b = (b.0 ∙ sym a.0, b.1 ∙ sym a.1)
-one_text old (line ∷ lines) reply other new next stay none a b =
+one_text queries old [] reply other new next stay none a b = (b.0 ∙ sym a.0, b.1 ∙ sym a.1)
+one_text queries old (line ∷ lines) reply other new next stay none a b =
     let (mid, answer, rest, one, e, more) = a in
     let (also, second, others, two, f, same_so) = b in
     let same = one.only (inr stay) second also two in
-    let still = stay_on_line (request_in line) old answer mid (none 0 line (omega arith)) stay one.serves in
-    let on = one_text mid lines rest others new next still (All-tail IsNoLeave line lines none) more
-    (subst (λ (s : Script). AnswersLines ServesLine s lines others next) same.1 same_so) in
+    let still = stay_on_line (request_in queries line) old answer mid (none 0 line (omega arith)) stay one.serves in
+    let on = one_text queries mid lines rest others new next still (All-tail (IsNoLeave queries) line lines none) more
+    (subst (λ (s : Script). AnswersLines (ServesLine queries) s lines others next) same.1 same_so) in
     (f ∙ (ap (λ (t : List ℕ). t ++ others) same.0 ∙ (ap (λ (t : List ℕ). answer ++ t) on.0 ∙ sym e)), on.1)
 
 -- the answers to lines begin with the answers to the first of them
-first_answers : (old : Script) (first others : List (List ℕ)) (all : List ℕ) (last : Script)
-    → AnswersLines ServesLine old (first ++ others) all last
-    → (mid : Script) × (reply : List ℕ) × (rest : List ℕ) × AnswersLines ServesLine old first reply mid × (all ≡ reply ++ rest)
-first_answers old [] others all last h = (old, [], all, (refl, refl), refl)
-first_answers old (line ∷ first) others all last h =
+first_answers : (queries : Bool) (old : Script) (first others : List (List ℕ)) (all : List ℕ) (last : Script)
+    → AnswersLines (ServesLine queries) old (first ++ others) all last
+    → (mid : Script) × (reply : List ℕ) × (rest : List ℕ) × AnswersLines (ServesLine queries) old first reply mid × (all ≡ reply ++ rest)
+first_answers queries old [] others all last h = (old, [], all, (refl, refl), refl)
+first_answers queries old (line ∷ first) others all last h =
     let (mid, answer, more, one, e, on) = h in
-    let (end, reply, rest, so, f) = first_answers mid first others more last on in (
+    let (end, reply, rest, so, f) = first_answers queries mid first others more last on in (
       end,
       answer ++ reply,
       rest,
@@ -75,16 +75,16 @@ first_answers old (line ∷ first) others all last h =
 
 -- a beginning of the answers to first lines is one of all answers
 pub begins_all : BeginsAll
-begins_all old before after lines stay none begun = record {
+begins_all queries old before after lines stay none begun = record {
   reply = begun.reply;
   written = begun.written;
   begins = λ all last h.
       let (mid, reply, rest, so, e) =
-      first_answers old begun.first begun.others all last
-      (subst (λ (ls : List (List ℕ)). AnswersLines ServesLine old ls all last) begun.split h) in
-      let none_first = subst (All IsNoLeave) (take_at begun.first begun.others (length begun.first) refl)
-      (All-take IsNoLeave (length begun.first) (begun.first ++ begun.others) (subst (All IsNoLeave) begun.split none)) in
-      let same = one_text old begun.first (begun.reply ++ begun.missing) reply begun.new mid stay none_first begun.runs so in
+      first_answers queries old begun.first begun.others all last
+      (subst (λ (ls : List (List ℕ)). AnswersLines (ServesLine queries) old ls all last) begun.split h) in
+      let none_first = subst (All (IsNoLeave queries)) (take_at begun.first begun.others (length begun.first) refl)
+      (All-take (IsNoLeave queries) (length begun.first) (begun.first ++ begun.others) (subst (All (IsNoLeave queries)) begun.split none)) in
+      let same = one_text queries old begun.first (begun.reply ++ begun.missing) reply begun.new mid stay none_first begun.runs so in
       (begun.missing ++ rest, e ∙ (ap (λ (t : List ℕ). t ++ rest) same.0 ∙ append_assoc begun.reply begun.missing rest));
 }
 

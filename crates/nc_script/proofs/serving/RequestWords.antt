@@ -1,5 +1,5 @@
 -- The requests that the words of a text make, read of the text.
-use Rattle.std.proofs.Common.{◌≡◌, ◌≢◌, ◌++◌, ◌+◌, ◌<◌, ◌≤◌, ◌==◌, ℕ, zero, suc, Bool, true, false, List, [], ◌∷◌, Option, Some, None, length, take, drop}
+use Rattle.std.proofs.Common.{◌≡◌, ◌≢◌, ◌++◌, ◌+◌, ◌<◌, ◌≤◌, ◌==◌, ◌&&◌, ℕ, zero, suc, Bool, true, false, List, [], ◌∷◌, Option, Some, None, length, take, drop}
 use Rattle.std.proofs.Common.{slice_index, refl, sym, ap, ◌∙◌, subst, append_assoc, arith}
 use Rattle.std.proofs.lemmas.List.{drop_more, take_all, take-append-drop}
 use Rattle.std.proofs.lemmas.List.Elements.{All-nil, All-cons}
@@ -93,10 +93,11 @@ neither true x y e f = e
 neither false x y e f = f
 
 -- a text makes no request after a word that wants none
-pub none_with : (word text : List ℕ) → is_word word (codes "create") ≡ false → is_word word (codes "modify") ≡ false
+pub none_with : (queries : Bool) (word text : List ℕ) → is_word word (codes "create") ≡ false → is_word word (codes "modify") ≡ false
     → is_word word (codes "delete") ≡ false → is_word word (codes "checkin") ≡ false → is_word word (codes "leave") ≡ false
-    → is_word word (codes "walk") ≡ false → is_word word (codes "chunk") ≡ false → None ≡ request_of (word ∷ words_in text)
-none_with word text create modify delete checkin leave walk chunk =
+    → is_word word (codes "walk") ≡ false → (queries && is_word word (codes "chunk")) ≡ false
+    → None ≡ request_of queries (word ∷ words_in text)
+none_with queries word text create modify delete checkin leave walk chunk =
     sym (passed _ _ _ None create (passed _ _ _ None modify (passed _ _ _ None delete (passed _ _ _ None checkin (passed _ _ _ None leave
     (neither _ _ _ (single_text Reclaim text) (passed _ _ _ None walk (passed _ _ _ None chunk
     (nothing_after (query_in word) _ (λ query. single_text (Ask query) text))))))))))
@@ -184,5 +185,6 @@ line_word line none =
     (subst (All (λ b. (b == 32) ≡ false)) (take_all (length line) line (omega arith)) (front_unspaced line (length line) none))
 
 -- the request of a line that isn't too long is that of its words
-pub short_request : (line : List ℕ) → length line ≤ line_limit → request_in line ≡ request_of (words_in line)
-short_request line short = grind (arith)
+pub short_request : (queries : Bool) (line : List ℕ) → length line ≤ line_limit
+    → request_in queries line ≡ request_of queries (words_in line)
+short_request queries line short = grind (arith)

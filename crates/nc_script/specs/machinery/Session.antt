@@ -1,6 +1,6 @@
 -- Machinery of the proofs, cited by no public contract: the states of a script that a session represents. The number by which
 -- the last reclaim freed isn't stored, so there may be several.
-use Rattle.std.specs.Prelude.{◌≡◌, ℕ, ◌-◌, ◌<◌, ◌≤◌, ◌^◌, ⊤, List, map, take, drop, length, slice_get, slice_index, slice_index_or}
+use Rattle.std.specs.Prelude.{◌≡◌, ℕ, ◌-◌, ◌<◌, ◌≤◌, ◌^◌, ⊤, Bool, List, map, take, drop, length, slice_get, slice_index, slice_index_or}
 use Rattle.std.specs.Prelude.{Option, Some, None}
 use Rattle.nc_gens.specs.Seen.{PassState}
 use Rattle.nc_list.specs.declared.chunk.Chunk.{Chunk}
@@ -85,11 +85,18 @@ Follows request old reply new = (seats : List ScriptSeat) (freed : ℕ) → Fits
     → (next : List ScriptSeat) × (number : ℕ) × Serves request (script_of old.region seats freed) reply (script_of new.region next number)
     × FitsSession new next number
 
+-- a session that answers queries or doesn't
+pub record SessionOf : Type 0 where
+  pub queries : Bool
+  pub state : SessionState
+
 -- whatever state the session represented, this answers the line, and leads to a state that it represents now
-abbrev pub FollowsLine : SessionState → List ℕ → List ℕ → SessionState → Type 0
-FollowsLine old line reply new = (seats : List ScriptSeat) (freed : ℕ) → FitsSession old seats freed
-    → (next : List ScriptSeat) × (number : ℕ) × AnswersOnly (script_of old.region seats freed) line reply (script_of new.region next number)
-    × FitsSession new next number
+abbrev pub FollowsLine : SessionOf → List ℕ → List ℕ → SessionOf → Type 0
+FollowsLine old line reply new =
+    (new.queries ≡ old.queries) × ((seats : List ScriptSeat) (freed : ℕ) → FitsSession old.state seats freed
+    → (next : List ScriptSeat) × (number : ℕ)
+    × AnswersOnly old.queries (script_of old.state.region seats freed) line reply (script_of new.state.region next number)
+    × FitsSession new.state next number)
 
 -- whatever state the region and any seats represented, this answers the request, and leads to a state that they represent now
 abbrev pub FollowsIn : Request → Region → List ℕ → Region → Type 0

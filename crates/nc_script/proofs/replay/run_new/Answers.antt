@@ -1,5 +1,5 @@
 -- What the session answers is what the script answers.
-use Rattle.std.proofs.Common.{◌≢◌, List, replicate, inr, refl}
+use Rattle.std.proofs.Common.{◌≡◌, ◌≢◌, ap, List, replicate, inr, refl}
 use Rattle.std.specs.Prelude.{Result, Ok, Err, IfErr, IsErrOf}
 use Rattle.std.proofs.lemmas.Result.{on_ok_weaker}
 use Rattle.std.proofs.lemmas.Option.{IfSome_then}
@@ -10,7 +10,7 @@ use Rattle.nc_lines.specs.Answering.{IsAnswered, IsBegun, IsCutShort}
 use Rattle.nc_script.specs.Answers.{AnswersOnly, new_script}
 use Rattle.nc_script.specs.Run.{HasAnswered}
 use Rattle.nc_script.specs.Script.{ScriptSeat, Staying}
-use Rattle.nc_script.specs.machinery.Session.{FollowsLine}
+use Rattle.nc_script.specs.machinery.Session.{SessionOf, SessionState, FollowsLine}
 use Rattle.nc_script.proofs.seating.FirstState.{begins_run}
 use Rattle.nc_script.proofs.serving.Carried.{answered_script, begun_script, cut_script}
 use Rattle.nc_script.proofs.replay.run_new.Goals as goal
@@ -30,10 +30,12 @@ no_workers_of (Err fault) h = h.2
 pub returns-in-Ok-new-2 : goal.returns-in-Ok-new-2
 returns-in-Ok-new-2 g c =
     let old = c.new-session.result in
+    let queries = c.args.manner.queries in
+    let is : old.queries ≡ queries = ap (λ (s : SessionOf). s.queries) c.new-session.ensures in
     let seats : List ScriptSeat = replicate c.args.seats (Staying 0) in
     let script = new_script c.args.bundles c.args.seats in
     let (begins, fits) = begins_run c.in-Ok-new-2.region c.in-Ok-new.threads c.args.bundles c.args.seats _ c.in-Ok.keeper c.in-Ok.passes.items
-    c.requires.seats.0 c.in-Ok.ensures.keeper c.in-Ok.ensures.passes c.in-Ok-new-2.ensures.region c.in-Ok-new.ensures old c.new-session.ensures in
+    c.requires.seats.0 c.in-Ok.ensures.keeper c.in-Ok.ensures.passes c.in-Ok-new-2.ensures.region c.in-Ok-new.ensures old.state (ap (λ (s : SessionOf). s.state) c.new-session.ensures) in
     let input = g.R.Read.remaining c.args.reader.now in
     let before = g.W.Write.contents c.args.writer.now in
     let after = g.W.Write.contents c.answer_gathered.new.writer in
@@ -47,25 +49,25 @@ returns-in-Ok-new-2 g c =
           (λ h.
           IfSome_then input
           {P = (λ bytes. IsAnswered FollowsLine old c.answer_gathered.new.responder before after (lines_of bytes))}
-          {Q = (λ bytes. HasAnswered c.args.bundles c.args.seats before after (lines_of bytes))}
-          h (λ bytes a. answered_script old seats 0 script fits begins c.answer_gathered.new.responder before after (lines_of bytes) a))
+          {Q = (λ bytes. HasAnswered queries c.args.bundles c.args.seats before after (lines_of bytes))}
+          h (λ bytes a. answered_script old seats 0 script fits begins queries is c.answer_gathered.new.responder before after (lines_of bytes) a))
           ran.ok;
       read = ran.read;
       write_failed = λ e.
           IfSome_then input
           {P = (λ bytes. IsBegun FollowsLine old before after (lines_of bytes))}
-          {Q = (λ bytes. IsBegun AnswersOnly script before after (lines_of bytes))}
-          (ran.write_failed e) (λ bytes b. begun_script old seats 0 script fits begins before after (lines_of bytes) b);
+          {Q = (λ bytes. IsBegun (AnswersOnly queries) script before after (lines_of bytes))}
+          (ran.write_failed e) (λ bytes b. begun_script old seats 0 script fits begins queries is before after (lines_of bytes) b);
       read_failed = λ e.
           (let (front, consumed, answered) = ran.read_failed e in (
             front,
             consumed,
-            answered_script old seats 0 script fits begins c.answer_gathered.new.responder before after (ended_lines front) answered,
+            answered_script old seats 0 script fits begins queries is c.answer_gathered.new.responder before after (ended_lines front) answered,
           ));
       out_of_memory = λ e.
           inr
           (IfSome_then input
           {P = (λ bytes. IsCutShort FollowsLine old before after (lines_of bytes))}
-          {Q = (λ bytes. IsCutShort AnswersOnly script before after (lines_of bytes))}
-          (ran.out_of_memory e) (λ bytes s. cut_script old seats 0 script fits begins before after (lines_of bytes) s));
+          {Q = (λ bytes. IsCutShort (AnswersOnly queries) script before after (lines_of bytes))}
+          (ran.out_of_memory e) (λ bytes s. cut_script old seats 0 script fits begins queries is before after (lines_of bytes) s));
     }
