@@ -1,10 +1,12 @@
-//! Tests of `nc_gens`, `nc_work`, `nc_lines`, `nc_script` and `nc_report`.
+//! Tests of `nc_gens`, `nc_work`, `nc_lines`, `nc_script`, `nc_task` and `nc_report`.
 
 mod devices;
 mod generations;
+mod holding;
 mod lines;
 mod reports;
 pub mod rows;
+mod starting;
 mod words;
 mod workers;
 mod writes;

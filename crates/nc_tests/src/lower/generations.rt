@@ -2,8 +2,9 @@
 ghost use Rattle.std.specs.Prelude.{◌≡◌};
 
 use crate::lower::rows::right;
-use crate::region::fixtures::one_seat;
+use crate::region::fixtures::{one_seat, shared_anew};
 use nc_gens::{Gens, GensFault, Keeper, Pass};
+use nc_region::Shared;
 use std::alloc::Global;
 use std::test::Fail;
 use std::thread::Threads;
@@ -24,9 +25,17 @@ fn bad_seats_are_refused(rt: HostRuntime) -> Result<(), Fail> {
 }
 
 /// The function may start threads but not wait, so nothing that it calls waits. It returns the first stamp, `since` after a
-/// meeting and after a check-in, and the result of a look once the seat has left without taking the second stamp.
-fn all_calls<T: Threads>(_rt: &T, gens: &Gens, keeper: &mut Keeper, mut pass: Pass) -> [u64; 4]
-    requires { (keeper.old.table ≡ gens.now) × (pass.table ≡ gens.now) }
+/// meeting and after a check-in, and the result of a look once the seat has left without taking the second stamp. A visitor of a
+/// shared region checks in and leaves too.
+fn all_calls<T: Threads>(
+    _rt: &T,
+    gens: &Gens,
+    keeper: &mut Keeper,
+    mut pass: Pass,
+    shared: &Shared<'_>,
+    mut visitor: Pass,
+) -> [u64; 4]
+    requires { (keeper.old.table ≡ gens.now) × (pass.table ≡ gens.now) × (visitor.table ≡ shared.now) }
 {
     let stamp = gens.bump(keeper).unwrap_or(0);
     gens.meet(&mut pass, keeper);
@@ -35,12 +44,22 @@ fn all_calls<T: Threads>(_rt: &T, gens: &Gens, keeper: &mut Keeper, mut pass: Pa
     let since = pass.since();
     let _second = gens.bump(keeper);
     gens.leave(pass);
+    shared.check_in(&mut visitor);
+    shared.leave(visitor);
     [stamp, met, since, gens.look(keeper)]
 }
 
 #[test]
 fn no_wait(rt: HostRuntime) -> Result<(), Fail> {
-    let (gens, mut keeper, pass) = one_seat(rt.alloc())?;
-    let answers = all_calls(&rt, &gens, &mut keeper, pass);
-    right(answers == [1, 0, 1, 2] && keeper.generation() == 2, 1)
+    let alloc = rt.alloc();
+    let (gens, mut keeper, pass) = one_seat(alloc)?;
+    let (others, second, visitor) = one_seat(alloc)?;
+    let called = match shared_anew(alloc, 2, &others, second) {
+        Some(shared) => {
+            let answers = all_calls(&rt, &gens, &mut keeper, pass, &shared, visitor);
+            answers == [1, 0, 1, 2] && keeper.generation() == 2
+        },
+        None => false,
+    };
+    right(called, 1)
 }

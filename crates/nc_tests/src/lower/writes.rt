@@ -2,24 +2,27 @@
 
 ghost use Rattle.std.specs.Prelude.{⊤};
 
+use crate::hostile::devices::Bytewise;
 use crate::lower::rows::right;
 use nc_lines::{Responder, answer_all, answer_gathered};
 use std::alloc::{AllocError, Global};
 use std::io::{self, Read, Write};
 use std::test::Fail;
 
-/// Takes all bytes of each write, and counts bytes and writes.
+/// Takes all bytes of each write, and counts bytes and writes, and the bytes of the longest write.
 #[derive(Drop)]
-struct Counting {
-    bytes: usize,
-    writes: usize,
+pub struct Counting {
+    pub bytes: usize,
+    pub writes: usize,
+    pub longest: usize,
 }
 
 impl Counting {
-    fn new() -> Counting {
+    pub fn new() -> Counting {
         Counting {
             bytes: 0,
             writes: 0,
+            longest: 0,
         }
     }
 }
@@ -28,6 +31,7 @@ impl Write for Counting {
     fn write(&mut self, buf: &[u8]) -> io::Result<usize> {
         self.bytes = self.bytes.wrapping_add(buf.len());
         self.writes = self.writes.wrapping_add(1);
+        self.longest = self.longest.max(buf.len());
         Ok(buf.len())
     }
 
@@ -45,21 +49,6 @@ impl Responder for Agreeing {
 
     fn answer(&mut self, _kept: &[u8], out: &mut Vec<u8>) -> Result<(), AllocError> {
         out.extend_from_slice(b"ok\n")
-    }
-}
-
-/// Gives one byte in each read.
-#[derive(Drop)]
-struct Bytewise {
-    rest: &'static [u8],
-}
-
-impl Read for Bytewise {
-    fn read(&mut self, buf: &mut [u8]) -> io::Result<usize> {
-        let count = self.rest.len().min(buf.len()).min(1);
-        buf[..count].copy_from_slice(&self.rest[..count]);
-        self.rest = &self.rest[count..];
-        Ok(count)
     }
 }
 
@@ -125,7 +114,7 @@ fn one_byte_a_read(rt: HostRuntime) -> Result<(), Fail> {
     let mut number = 0u32;
     for row in &SINGLE_READS {
         number = number.wrapping_add(1);
-        let mut reader = Bytewise { rest: LINES };
+        let mut reader = Bytewise::whole(LINES);
         right(are_written(rt.alloc(), &mut reader, row), number)?;
     }
     Ok(())
