@@ -80,6 +80,7 @@ CALLS = {
     "nc_host_version": (u32,),
     "places": (None, to(Handle), u32, size, ctypes.c_char_p, ctypes.c_char_p),
     "allocations_asked": (ctypes.c_long,),
+    "largest_allocation": (size,),
     "blocks_kept": (ctypes.c_long,),
     "refuse_allocations": (None, ctypes.c_bool),
     "hold_allocation": (None, ctypes.c_long),

@@ -1,5 +1,5 @@
-"""The largest region, and in it one chunk of all bundles but the guard: it is vetted, created without a buffer, told as runs, walked,
-patched, deleted and reclaimed, and its span is used again.
+"""The largest region, and in it one chunk of all bundles but the guard: it is vetted, made an image, created without a buffer, told as runs,
+walked, patched, deleted and reclaimed, and its span is used again.
 
 The chunk repeats seven kinds of bundles, whose instructions stand below. What has to be found is worked out from these by their places.
 """
@@ -192,6 +192,15 @@ class Largest(unittest.TestCase):
             code = replaced(self.code, place, bytes.fromhex(digits))
             self.assertEqual(nc.vet(nc.START, LIMIT, code), (fault, nc.START + place))
         self.assertEqual(nc.vet(nc.START, LIMIT, self.code + STOPS), (nc.OUT_OF_RANGE, 0))
+
+    def test_image(self):
+        """The chunk fills a text but for the guard. With a return as its last byte it is refused, and the text is as it was."""
+        verdict, image = nc.image(nc.START, self.code, LENGTH + nc.BUNDLE)
+        self.assertEqual(verdict, (nc.OK, 0))
+        self.assertTrue(image == self.code + STOPS)
+        verdict, image = nc.image(nc.START, replaced(self.code, LENGTH - 1, b"\xc3"), LENGTH + nc.BUNDLE, 0x5A)
+        self.assertEqual(verdict, (nc.NOT_PERMITTED, nc.START + LENGTH - 1))
+        self.assertTrue(image == b"\x5a" * len(image))
 
     def test_no_room(self):
         """A buffer for all acts of this chunk would have 800 MB; one for a single act is refused."""

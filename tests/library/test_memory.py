@@ -71,6 +71,16 @@ class TakesNone(unittest.TestCase):
             self.assertEqual(region.patch(region.limit, OTHER).fault, nc.PATCH_NOT_LIVE)
             self.assertEqual(LIBRARY.nc_region_patch(region.handle, base(599) + 2, OTHER, len(OTHER), None, 0).plain().fault, nc.OK)
 
+    def test_a_small_load(self):
+        """A vetted chunk of 16 bundles comes into pages that are made, beside a chunk in the list."""
+        region, seats = filled_region(20)
+        chunk = nc.Vetted(base(1), region.limit, filled("eb1e") * 16)
+        retired(region, range(1, 20))
+        self.assertEqual([seat.check_in() for seat in seats], [nc.OK] * 2)
+        self.assertEqual(region.reclaim(), 19)
+        with self.no_memory():
+            self.assertEqual(LIBRARY.nc_region_load(region.handle, chunk.handle, None, 0).plain(), (nc.OK, 0, 0))
+
     def test_runs(self):
         region, _ = filled_region(600)
         with self.no_memory():
@@ -221,6 +231,28 @@ class BytesOfAList(unittest.TestCase):
             self.most(self.CHUNKS // 50)
             self.reclaim([number for number in left if number % 50 == 1])
             self.most(0)
+
+
+class OfAWalk(unittest.TestCase):
+    """A walk of n places takes at most 8 n bytes in one block, however many choices it leaves over."""
+    CHOICES = [0] * 100_000
+
+    def assert_walk(self, code, count, end):
+        """A walk through a chunk of this code has so many places."""
+        region = nc.Region(4, 1)
+        self.assertEqual(region.create(nc.START, filled(code)).fault, nc.OK)
+        LIBRARY.largest_allocation()
+        fault, places, ended = region.walk(nc.START, self.CHOICES)
+        largest = LIBRARY.largest_allocation()
+        self.assertEqual((fault, len(places), ended), (nc.OK, count, end))
+        self.assertLessEqual(4 * count, largest)
+        self.assertLessEqual(largest, 8 * count + 64)
+
+    def test_places_alone(self):
+        self.assert_walk("f4", 1, nc.END_STOP)
+        self.assert_walk("eb1e", 2, nc.END_STOP)
+        self.assert_walk("", 33, nc.END_STOP)
+        self.assert_walk("ebfe", 100_001, nc.END_MORE)
 
 
 class Stack(unittest.TestCase):

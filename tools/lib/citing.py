@@ -13,8 +13,8 @@ IMPORT = re.compile(r"ghost use Rattle\.(nc_\w+)\.specs\.([\w.]+)\.\{([^}]*)\};"
 MODULE = re.compile(r"ghost use Rattle\.(nc_\w+)\.specs\.([\w.]+) as (\w+);")
 EXPORT = re.compile(r"^\s*pub use [\w:]*?(?:(\w+)|\{([^}]*)\});", re.M)
 WORD = re.compile(r"[A-Za-z_][\w']*")
-CLAUSE = re.compile(r"^\s*(requires|ensures|ghost)\b")
 NAMED = re.compile(r"^\s*(requires|ensures)(?: (\w+))? \{")
+MARK = re.compile(r"[][(){};]")
 
 
 class Contract:
@@ -55,23 +55,29 @@ def exported(crate):
     return names
 
 
+def end_of_head(lines, start):
+    """The line at which the head of a function ends, and whether it ends in a `;` there, as it does without a body. The first `;` or `{`
+    outside all brackets that opens no clause is its end."""
+    depth = 0
+    for at in range(start, len(lines)):
+        line = lines[at].split("//")[0]
+        opening = NAMED.match(line)
+        for mark in MARK.finditer(line):
+            is_clause = opening and mark.end() == opening.end()
+            if depth == 0 and mark.group() in ";{" and not is_clause:
+                return at, mark.group() == ";"
+            depth += (mark.group() in "([{") - (mark.group() in ")]}")
+    raise ValueError(f"the head at line {start + 1} has no end")
+
+
 def clauses(lines, start):
-    """The lines of the clauses that follow a function's signature, up to its body, with their comments."""
-    kept, at = [], start
-    while at < len(lines) and not CLAUSE.match(lines[at]) and not lines[at].strip().startswith("//"):
-        if lines[at].rstrip().endswith(("{", ";", "{}")):
-            break
-        at += 1
-    while at < len(lines):
-        line = lines[at]
-        if line.strip() in ("{", "{}") or line.rstrip().endswith(");"):
-            break
-        if CLAUSE.match(line) or line.strip().startswith("//") or kept:
-            kept.append(line)
-        elif at > start:
-            break
-        at += 1
-    return kept
+    """The lines of a function's clauses with their comments, from its signature to its body or its `;`."""
+    end, is_bodiless = end_of_head(lines, start)
+    head = lines[start + 1 : end + is_bodiless]
+    first = next((at for at, line in enumerate(head) if NAMED.match(line)), len(head))
+    while first and head[first - 1].strip().startswith("//"):
+        first -= 1
+    return head[first:]
 
 
 def owner_of(head, names):

@@ -36,7 +36,7 @@ def elf(*segments, cut=None, **changed):
 
 def with_symbols(file, *symbols):
     """A file without sections, and these symbols in a table of its own: for each its address, name, type and section."""
-    entries, names = bytes(16), b"\0"
+    entries, names = bytearray(16), bytearray(1)
     for address, name, kind, section in symbols:
         entries += struct.pack("<IIIBBH", len(names), address, 0, kind, 0, section)
         names += name + b"\0"

@@ -10,7 +10,7 @@ TOP = os.path.dirname(os.path.dirname(os.path.dirname(os.path.abspath(__file__))
 NOPS = "90" * 32
 CHUNK = "eb1e" + "90" * 30
 
-# A script for 4 bundles and one seat, a line and its reply in turn. Its last line has no end.
+# A script with queries for 4 bundles and one seat, a line and its reply in turn. Its last line has no end.
 SCRIPT = [
     ("create 00010000 " + CHUNK, "ok"),
     ("create 00010000 " + CHUNK, "refused Occupied"),
@@ -33,7 +33,7 @@ SCRIPT = [
 ]
 SCRIPT_TEXT = "\n".join(line for line, _ in SCRIPT)
 SCRIPT_REPLIES = [reply + "\n" for _, reply in SCRIPT]
-SCRIPT_WORDS = ["replay", "--bundles", "4", "--seats", "1"]
+SCRIPT_WORDS = ["replay", "--bundles", "4", "--seats", "1", "--queries"]
 
 # Lines of chunks for 4 bundles, and their verdicts.
 LINES_TEXT = "00010000 %s\n00010001 %s\n" % (NOPS, NOPS)
@@ -72,6 +72,15 @@ def built(name, words, given=subprocess.DEVNULL):
     program = os.path.join(crate, "out", name)
     if not os.path.exists(program):
         rt("run", *words, cwd=crate, stdin=given, stdout=subprocess.DEVNULL)
+    return program
+
+
+def built_tests(name):
+    """The path of a crate's tests. They are built, and run once, if they aren't there."""
+    crate = os.path.join(TOP, "crates", name)
+    program = os.path.join(crate, "out", name + "_tests")
+    if not os.path.exists(program):
+        rt("test", cwd=crate, stdin=subprocess.DEVNULL, stdout=subprocess.DEVNULL)
     return program
 
 

@@ -1,5 +1,7 @@
 """Larger scripts for nc_replay, with their replies, so that want of memory which isn't real would be seen: chunks of several
-bundles, lists of many chunks, walks of many choices, and lines up to the limit."""
+bundles, lists of many chunks, walks of many choices, lines up to the limit, and many lines of chunks."""
+
+import random
 
 NOPS = "90" * 32
 START = 0x10000
@@ -59,6 +61,54 @@ def long_walk():
     return script + "\n", "ok\nwalk 00010000" + " 00010000" * 2000 + " more\n"
 
 
+def longest_walk():
+    """A walk whose line has as many bytes as a line may, and one of one choice more. A branch leads from the first bundle to the second, by
+    single steps or at once, and a masked jump from there into either of them."""
+    rng, places, choices = random.Random(1), [START], []
+    while len("walk 00010000") + 9 * len(choices) < LINE_LIMIT:
+        at, inside = places[-1], START + rng.randrange(64)
+        choices.append(inside if at == START + 35 or rng.randrange(2) else 0)
+        if at == START:
+            places.append(START + (32 if choices[-1] else 2))
+        elif at == START + 32:
+            places.append(START + 35)
+        elif at == START + 35:
+            places.append(inside - inside % 32)
+        else:
+            places.append(at + 1)
+    script = "create 00010000 741e" + "90" * 30 + "83e0e0ffe0" + "90" * 27 + "\n"
+    line = "walk 00010000" + "".join(" %08x" % choice for choice in choices)
+    assert len(line) == LINE_LIMIT
+    return script + line + "\n" + line + " 00010000\n", "ok\nwalk" + "".join(" %08x" % at for at in places) + " more\nbad line\n"
+
+
+def long_list():
+    """A list of five thousand chunks of one bundle, each with a number of its own, which are created in no order. Those at every seventh
+    place are deleted, and freed."""
+    numbers = range(5000)
+    places = [START + 64 * number for number in numbers]
+    codes = ["b8" + number.to_bytes(4, "little").hex() + "90" * 27 for number in numbers]
+    script = "".join("create %08x %s\n" % (places[number], codes[number]) for number in random.Random(1).sample(numbers, len(numbers)))
+    script += "dump\n" + "".join("delete %08x\n" % at for at in places[::7]) + "dump\nreclaim\ncheckin 0\nreclaim\ndump\n"
+    shown = [" %08x live %s" % chunk for chunk in zip(places, codes)]
+    retired = [" %08x retired 32 %d" % (places[number], number // 7 + 1) if number % 7 == 0 else shown[number] for number in numbers]
+    left = [shown[number] for number in numbers if number % 7]
+    stamps = "".join("stamp %d\n" % (i + 1) for i in range(len(places[::7])))
+    replies = "ok\n" * len(numbers) + "dump" + "".join(shown) + "\n" + stamps + "dump" + "".join(retired)
+    return script, replies + "\nfreed 0\nok\nfreed %d\ndump%s\n" % (len(places[::7]), "".join(left))
+
+
+def many_chunk_lines(count):
+    """So many lines of chunks of one bundle. Every thirteenth one has a return, whose address is told."""
+    lines, verdicts = [], []
+    for number in range(count):
+        base, place = START + 32 * (number % 65536), 2 * (number % 32)
+        is_bad = number % 13 == 0
+        lines.append("%08x %s\n" % (base, NOPS[:place] + "c3" + NOPS[place + 2:] if is_bad else NOPS))
+        verdicts.append("refused NotPermitted %08x\n" % (base + place // 2) if is_bad else "ok\n")
+    return "".join(lines), "".join(verdicts)
+
+
 def long_line(bundles):
     """A chunk of this many bundles, and a list that shows it. The last line has no end."""
     return create(START, bundles) + "dump", "ok\ndump 00010000 live " + NOPS * bundles + "\n"
@@ -95,7 +145,8 @@ RUNS = [
     (script.__doc__, ["replay", "--bundles", bundles, "--seats", seats], *script())
     for script, bundles, seats in [
         (many_chunks, "2048", "1"), (from_both_ends, "2048", "1"), (many_reused, "2048", "1"), (partial_overlap, "2048", "1"),
-        (long_walk, "4", "1"), (over_pages, "524288", "1"), (last_of_the_most_seats, "4", "256")]
+        (long_walk, "4", "1"), (over_pages, "524288", "1"), (last_of_the_most_seats, "4", "256"), (longest_walk, "4", "1"),
+        (long_list, "16384", "1")]
 ] + [
     ("a chunk of %d bundles" % bundles, ["replay", "--bundles", "20000", "--seats", "1"], *long_line(bundles))
     for bundles in (1024, 4096, 16383)
@@ -107,6 +158,7 @@ RUNS = [
      reply + "\nrefused BadBase\n")
     for length, reply in [(LINE_LIMIT, "bad line"), (LINE_LIMIT - 1, "refused BadLength"), (LINE_LIMIT + 1, "bad line"), (3000009, "bad line")]
 ] + [
+    ("200,000 lines of chunks", ["vet", "--bundles", "2097152", "--workers", "4"], *many_chunk_lines(200_000)),
     ("the last bundle of the largest region", ["replay", "--bundles", "2097152", "--seats", "1"], "walk 0400ffe0\nwalk 04010000\n",
      "walk 0400ffe0 stop\nrefused NotBundle\n"),
 ]

@@ -7,12 +7,15 @@
    FAILING_ERROR  its error, as in errno; 0 has a write answer that it took nothing
    FAILING_REPORT the number of an open file, to which a byte is written when that call comes
    STARTED_REPORT the number of an open file, to which a byte is written for each thread that the program starts
+   OPENED_REPORT  the number of an open file, to which a byte is written for each file that the program opens
    WRITES_REPORT  the number of an open file, to which a byte is written for each write to standard output */
 #define _GNU_SOURCE
 #include "environment.h"
 #include <dlfcn.h>
 #include <errno.h>
+#include <fcntl.h>
 #include <pthread.h>
+#include <stdarg.h>
 #include <sys/syscall.h>
 #include <unistd.h>
 
@@ -23,6 +26,7 @@ static long error;
 static long report;
 static long calls;
 static long started;
+static long opened;
 static long writes;
 
 __attribute__((constructor)) static void begin(void)
@@ -33,6 +37,7 @@ __attribute__((constructor)) static void begin(void)
     size = (size_t)number("FAILING_SIZE", -1);
     failing = number("FAILING_FILE", -1);
     started = number("STARTED_REPORT", -1);
+    opened = number("OPENED_REPORT", -1);
     writes = number("WRITES_REPORT", -1);
 }
 
@@ -67,6 +72,17 @@ ssize_t write(int file, const void *bytes, size_t count)
     if (fails(file))
         return error ? -1 : 0;
     return syscall(SYS_write, file, bytes, at_most(count));
+}
+
+int open(const char *name, int flags, ...)
+{
+    va_list rest;
+    va_start(rest, flags);
+    int mode = flags & O_CREAT ? va_arg(rest, int) : 0;
+    va_end(rest);
+    if (opened >= 0)
+        syscall(SYS_write, (int)opened, "o", 1);
+    return (int)syscall(SYS_openat, AT_FDCWD, name, flags, mode);
 }
 
 int pthread_create(pthread_t *thread, const pthread_attr_t *attributes, void *(*routine)(void *), void *argument)
