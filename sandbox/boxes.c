@@ -98,6 +98,11 @@ int ncs_free(NcsBox *b) {
     if (!ncs_module_is_ours(b->module) || !ncs_box_claim(b, &nobody)) {
         return 0;
     }
+    if (!ncs_area_clear(b)) {
+        b->dead = 1;
+        ncs_box_release(b);
+        return 0;
+    }
     (void)pthread_mutex_lock(&ncs_lock);
     ncs_segment_free(b->selector);
     (void)pthread_mutex_unlock(&ncs_lock);
@@ -113,7 +118,7 @@ int ncs_reset(NcsBox *b) {
     if (!ncs_module_is_ours(b->module) || !ncs_box_claim(b, &somebody)) {
         return 0;
     }
-    made = ncs_low_empty(b->data_at + DATA_LEAST, b->limits.memory - DATA_LEAST);
+    made = ncs_low_empty(b->data_at + DATA_LEAST, b->limits.memory - DATA_LEAST) && ncs_area_clear(b);
     if (made) {
         begin(b);
     } else {

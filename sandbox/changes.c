@@ -24,8 +24,9 @@ typedef struct Chunk {
 
 /* ---- Acts */
 
+/* One store of one byte. The compiler neither merges, moves nor leaves out volatile ones, and all processors see them in their order [30]. */
 static void put(uint8_t *text, uint32_t at, uint8_t byte) {
-    __atomic_store_n(text + at, byte, __ATOMIC_SEQ_CST);
+    __atomic_store_n((volatile uint8_t *)text + at, byte, __ATOMIC_RELEASE);
 }
 
 static void put_act(uint8_t *text, const NcAct *act, const uint8_t *code, uint32_t base) {
@@ -91,7 +92,10 @@ int ncs_live_meet(Live *live, Thread *t, uint32_t place) {
             }
             wait_for_writer(t, turns++);
         }
-        byte = __atomic_load_n(live->writable + place, __ATOMIC_SEQ_CST);
+        byte = NC_STOP;
+        if (place < __atomic_load_n(&live->filled, __ATOMIC_SEQ_CST)) {
+            byte = __atomic_load_n(live->writable + place, __ATOMIC_SEQ_CST);
+        }
     } while (changes_of(live) != before);
     if (byte == NC_STOP) {
         return MET_STOP;
@@ -113,7 +117,7 @@ static Live *live_of(const NcsModule *m, NcsRefusal *why) {
     if (!ncs_module_is_ours(m)) {
         return ncs_refuse(why, NCS_BAD_SYSTEM, "the module was made before this process forked");
     }
-    return m->live != NULL ? m->live : ncs_refuse(why, NCS_NOT_LIVE, "the module isn't one of ncs_module_live");
+    return m->live != NULL ? m->live : ncs_refuse(why, NCS_NOT_LIVE, "the module's code never changes");
 }
 
 void ncs_live_lock(Live *live) {
@@ -139,10 +143,13 @@ static void make_runs(Live *live, const Chunk *chunk) {
     make(live, chunk->acts, told.count, chunk);
 }
 
-static int load(Live *live, NcVetted *vetted, const Chunk *chunk, NcsRefusal *why) {
-    NcChange loaded;
+static int load(NcsModule *m, NcVetted *vetted, const Chunk *chunk, NcsRefusal *why) {
+    Live *live = m->live;
+    NcChange loaded = {NC_OUT_OF_MEMORY, 0, 0};
     ncs_live_lock(live);
-    loaded = nc_region_load(&live->region, vetted, NULL, 0);
+    if (ncs_live_fill(m, chunk->base + (uint32_t)chunk->len)) {
+        loaded = nc_region_load(&live->region, vetted, NULL, 0);
+    }
     if (loaded.fault == NC_OK) {
         make_runs(live, chunk);
     }
@@ -151,24 +158,23 @@ static int load(Live *live, NcVetted *vetted, const Chunk *chunk, NcsRefusal *wh
 }
 
 /* The code is judged before the lock is taken, so threads judge side by side. */
-static int judge_and_load(Live *live, uint32_t limit, Chunk *chunk, NcsRefusal *why) {
+static int judge_and_load(NcsModule *m, Chunk *chunk, NcsRefusal *why) {
     NcVetted vetted = {NULL};
-    NcVerdict judged = nc_vetted_new(chunk->base, limit, chunk->code, chunk->len, &vetted);
+    NcVerdict judged = nc_vetted_new(chunk->base, m->limit, chunk->code, chunk->len, &vetted);
     int made;
     if (judged.fault != NC_OK) {
         return ncs_refuse_fault(why, NCS_BAD_CODE, judged.fault, judged.at);
     }
-    made = has_room(chunk) ? load(live, &vetted, chunk, why) : ncs_refuse_fault(why, NCS_NO_MEMORY, NC_OUT_OF_MEMORY, 0);
+    made = has_room(chunk) ? load(m, &vetted, chunk, why) : ncs_refuse_fault(why, NCS_NO_MEMORY, NC_OUT_OF_MEMORY, 0);
     nc_vetted_free(&vetted);
     return made;
 }
 
 /* The copy is what is judged and what is put: the host may lend memory of a box, which another thread changes. */
 int ncs_create(NcsModule *m, NcsAt base, const void *code, size_t len, NcsRefusal *why) {
-    Live *live = live_of(m, why);
     Chunk chunk = {base.at, len, 0, NULL, NULL};
     int made;
-    if (live == NULL) {
+    if (live_of(m, why) == NULL) {
         return 0;
     }
     if (len >= m->limit) {
@@ -181,7 +187,7 @@ int ncs_create(NcsModule *m, NcsAt base, const void *code, size_t len, NcsRefusa
     if (len != 0) {
         memcpy(chunk.code, code, len);
     }
-    made = judge_and_load(live, m->limit, &chunk, why);
+    made = judge_and_load(m, &chunk, why);
     free(chunk.acts);
     free(chunk.code);
     return made;
@@ -219,6 +225,7 @@ static uint32_t delete_chunk(Live *live, uint32_t base) {
     if (begun.fault == NC_OK) {
         make_runs(live, &chunk);
         ncs_must(nc_region_end_delete(&live->region).fault == NC_OK, "a deletion has no end");
+        live->retired++;
     }
     free(chunk.acts);
     return begun.fault;

@@ -194,9 +194,13 @@ struct Live {
     NcRegion region;      /* under the lock */
     pthread_mutex_t lock; /* around a call on the region with its acts [28] */
     uint8_t *writable;    /* the text, from place 0, mapped a second time */
+    uint8_t *staged;      /* what isn't filled of it, executable where no box reaches */
+    uint32_t filled;      /* bytes of the text, from place 0, that have pages; written under the lock, atomic */
+    uint32_t retired;     /* chunks that are deleted and not yet freed; under the lock */
     uint64_t changes;     /* odd while acts are being made; atomic [25] */
     unsigned calls;       /* how many are under way; atomic */
     unsigned given;       /* seats; written under the lock, atomic */
+    unsigned seat_count;  /* of the region */
     Seat seats[SEATS];
 };
 
@@ -209,12 +213,20 @@ int ncs_live_meet(Live *live, Thread *thread, uint32_t place);
 
 /* ---- livecode.c */
 
+int ncs_live_fill(NcsModule *module, uint32_t end); /* under the lock: whether the text has pages up to there now */
+void ncs_live_free(NcsModule *module); /* NULL is allowed in it */
+
+/* ---- seats.c */
+
 uint32_t ncs_live_begin(Live *live); /* NCS_RETURNED if one more call is under way now, or why it isn't */
 void ncs_live_end(Live *live);
 void ncs_seat_take(Live *live, Thread *thread); /* and checks in: directly before the way in, in a call that was begun [16, 17, 18] */
 void ncs_seat_leave(Thread *thread);
 uint32_t ncs_seats_reclaim(Live *live); /* under its lock */
-void ncs_live_free(NcsModule *module); /* NULL is allowed in it */
+
+/* ---- area.c */
+
+int ncs_area_clear(NcsBox *box); /* deletes the chunks there. Whether it has */
 
 /* ---- modules.c and boxes.c */
 
@@ -224,6 +236,7 @@ struct NcsModule {
     int users; /* itself and its boxes; under ncs_lock */
     uint32_t text_at, limit, selector; /* the linear address of place 0, and the limit of the code */
     Live *live; /* NULL if the text never changes */
+    uint32_t room; /* of live code: where it begins, behind the file's code */
 };
 
 struct NcsBox {
@@ -236,6 +249,7 @@ struct NcsBox {
     uint32_t heap;    /* where its free part begins */
     uint32_t nest_at; /* the stack pointer that the code left at its last call of the host: untrusted */
     NcsEnd end;       /* what left it dead */
+    NcsSpan area;     /* in which its code may change code */
     unsigned callback_count;
     struct {
         NcsCallback function;

@@ -1,4 +1,4 @@
-/* Modules whose code changes: the text twice in memory, and seats for the threads inside. TRUSTED, NOT PROVED. [1 to 5, 16, 17, 18] */
+/* Modules whose code changes: the text twice in memory, of which only what is used has pages. TRUSTED, NOT PROVED. [1 to 5] */
 #define _GNU_SOURCE
 #include "inner.h"
 
@@ -14,94 +14,10 @@
 #ifndef MFD_NOEXEC_SEAL
 #define MFD_NOEXEC_SEAL 8u
 #endif
-
-/* ---- Seats. A thread has one while it is inside, from just before its way in. Of seats that no thread has whoever reclaims checks in, so
-   they hold nothing back. */
-
-static int claim(Seat *seat) {
-    int nobody = 0;
-    return __atomic_compare_exchange_n(&seat->taken, &nobody, 1, 0, __ATOMIC_SEQ_CST, __ATOMIC_SEQ_CST);
-}
-
-static void release(Seat *seat) {
-    __atomic_store_n(&seat->taken, 0, __ATOMIC_SEQ_CST);
-}
-
-static void check_in(Seat *seat) {
-    if (nc_seat_check_in(&seat->handle) != NC_OK) {
-        abort(); /* its handle isn't empty */
-    }
-}
-
-/* A new seat holds back what was deleted since the last reclaim, until somebody checks in by it. */
-static int give_seats(Live *live, unsigned wanted) {
-    unsigned k;
-    uint32_t fault = NC_OK;
-    ncs_live_lock(live);
-    for (k = live->given; k < wanted && fault == NC_OK; k++) {
-        fault = nc_region_seat(&live->region, &live->seats[k].handle);
-        if (fault == NC_OK) {
-            __atomic_store_n(&live->given, k + 1, __ATOMIC_SEQ_CST);
-        }
-    }
-    ncs_live_unlock(live);
-    return fault == NC_OK;
-}
-
-static unsigned given_seats(const Live *live) {
-    return __atomic_load_n(&live->given, __ATOMIC_SEQ_CST);
-}
-
-/* A call has at most one thread inside, and whoever reclaims takes one seat at a time. So there is always a free seat if there is one more
-   than there are calls. */
-uint32_t ncs_live_begin(Live *live) {
-    unsigned calls = __atomic_add_fetch(&live->calls, 1, __ATOMIC_SEQ_CST);
-    uint32_t how = NCS_RETURNED;
-    if (calls >= SEATS) {
-        how = NCS_BUSY;
-    } else if (calls >= given_seats(live) && !give_seats(live, calls + 1)) {
-        how = NCS_HOST;
-    }
-    if (how != NCS_RETURNED) {
-        ncs_live_end(live);
-    }
-    return how;
-}
-
-void ncs_live_end(Live *live) {
-    __atomic_sub_fetch(&live->calls, 1, __ATOMIC_SEQ_CST);
-}
-
-void ncs_seat_take(Live *live, Thread *t) {
-    while (t->seat >= given_seats(live) || !claim(&live->seats[t->seat])) {
-        t->seat = t->seat + 1 < given_seats(live) ? t->seat + 1 : 0;
-    }
-    t->met_at = 0;
-    t->seated = live;
-    check_in(&live->seats[t->seat]);
-}
-
-void ncs_seat_leave(Thread *t) {
-    if (t->seated != NULL) {
-        release(&t->seated->seats[t->seat]);
-        t->seated = NULL;
-    }
-}
-
-uint32_t ncs_seats_reclaim(Live *live) {
-    NcCount freed;
-    unsigned k;
-    for (k = 0; k < live->given; k++) {
-        if (claim(&live->seats[k])) {
-            check_in(&live->seats[k]);
-            release(&live->seats[k]);
-        }
-    }
-    freed = nc_region_reclaim(&live->region);
-    return freed.fault == NC_OK ? freed.count : 0;
-}
-
-/* ---- The module */
+#ifndef MADV_POPULATE_WRITE
+#define MADV_POPULATE_WRITE 23
+#endif
+#define GROWTH (256u << 10) /* bytes of text that get pages at once */
 
 /* A file without a name. It is no program, which some systems ask for; its pages may be executed all the same. Older kernels don't know
    this. */
@@ -110,7 +26,7 @@ static int nameless_file(void) {
     return file < 0 && errno == EINVAL ? memfd_create("nc_sandbox", MFD_CLOEXEC) : file;
 }
 
-/* A file for the text, or -1. Its pages are taken now, so no later store finds no memory. */
+/* A file for the text, or -1. Pages for its first `len` bytes are taken now, so no later store there finds no memory. */
 static int make_file(uint32_t len, NcsRefusal *why) {
     int file = nameless_file();
     if (file < 0 && errno != EMFILE && errno != ENFILE && errno != ENOMEM) {
@@ -126,9 +42,9 @@ static int make_file(uint32_t len, NcsRefusal *why) {
     return -1;
 }
 
-/* Out of reach of 32-bit addresses, and of a forked child. */
-static uint8_t *map_writable(int file, uint32_t len) {
-    void *at = mmap(NULL, len, PROT_READ | PROT_WRITE, MAP_SHARED, file, 0);
+/* A mapping of the whole text, out of reach of 32-bit addresses, and of a forked child. */
+static uint8_t *map_high(int file, uint32_t len, int protection) {
+    void *at = mmap(NULL, len, protection, MAP_SHARED, file, 0);
     if (at == MAP_FAILED) {
         return NULL;
     }
@@ -139,11 +55,80 @@ static uint8_t *map_writable(int file, uint32_t len) {
     return at;
 }
 
+/* Takes pages for a part of the text. A system before Linux 5.14 can't, with EINVAL. */
+static int take_pages(uint8_t *at, uint32_t len) {
+    int made;
+    do {
+        made = madvise(at, len, MADV_POPULATE_WRITE) == 0;
+    } while (!made && errno == EINTR);
+    return made;
+}
+
+/* The part of the text behind what is filled, up to `to`, becomes executable where boxes run it. It is full of stops. Where that fails, no
+   page may be there [4]. */
+static int show(NcsModule *m, uint32_t to) {
+    Live *live = m->live;
+    uint32_t len = to - live->filled;
+    void *at = (void *)((uintptr_t)m->text_at + live->filled);
+    if (mremap(live->staged + live->filled, len, len, MREMAP_MAYMOVE | MREMAP_FIXED, at) == at) {
+        __atomic_store_n(&live->filled, to, __ATOMIC_SEQ_CST);
+        return 1;
+    }
+    ncs_must(mmap(at, len, PROT_NONE, MAP_PRIVATE | MAP_ANONYMOUS | MAP_NORESERVE | MAP_FIXED_NOREPLACE, -1, 0) == at || errno == EEXIST,
+             "memory of the text is lost");
+    return 0;
+}
+
+/* Under the lock. Where the text has no page it has no code, and a thread that comes there stops [4]. */
+int ncs_live_fill(NcsModule *m, uint32_t end) {
+    Live *live = m->live;
+    uint32_t to = (end + GROWTH - 1) / GROWTH * GROWTH;
+    to = to < m->limit ? to : m->limit;
+    if (end <= live->filled) {
+        return 1;
+    }
+    if (!take_pages(live->writable + live->filled, to - live->filled)) {
+        return 0;
+    }
+    memset(live->writable + live->filled, NC_STOP, to - live->filled);
+    return show(m, to);
+}
+
+/* The zone, and a file's code, which the region has as its first chunk, with stops around it. Plain stores do, since nothing is executable
+   yet. */
+static void fill_first(const NcsModule *m, uint32_t len) {
+    uint8_t *text = m->live->writable;
+    ncs_zone_lay(text);
+    memset(text + NC_START, NC_STOP, len - NC_START);
+    if (m->image.code_len != 0) {
+        memcpy(text + m->image.code_at, m->image.bytes + m->image.code_offset, m->image.code_len);
+    }
+}
+
 /* Under ncs_lock. What is executed can never be written, and what is written never executed. */
-static int map_executable(NcsModule *m, int file) {
-    m->text_at = ncs_low_new(m->limit, PROT_READ | PROT_EXEC, file);
+static int map_executable(NcsModule *m, int file, uint32_t len) {
+    m->live->staged = map_high(file, m->limit, PROT_READ | PROT_EXEC);
+    m->text_at = m->live->staged != NULL ? ncs_low_new(m->limit, PROT_NONE, -1) : 0;
     m->selector = m->text_at != 0 && ncs_low_keep(m->text_at, m->limit) ? ncs_segment_code(m->text_at, m->limit) : 0;
-    return m->selector != 0;
+    return m->selector != 0 && show(m, len);
+}
+
+/* Maps the text. Its first `len` bytes have pages; all of it, where the system can't take pages later. */
+static int map_text(NcsModule *m, int file, uint32_t len) {
+    int made = 0;
+    m->live->writable = map_high(file, m->limit, PROT_READ | PROT_WRITE);
+    if (m->live->writable != NULL) {
+        if (!take_pages(m->live->writable, len)) {
+            len = m->limit;
+        }
+        if (fallocate(file, 0, 0, len) == 0) {
+            fill_first(m, len);
+            (void)pthread_mutex_lock(&ncs_lock);
+            made = map_executable(m, file, len);
+            (void)pthread_mutex_unlock(&ncs_lock);
+        }
+    }
+    return made;
 }
 
 static int can_serialize(void) {
@@ -157,18 +142,11 @@ static int make_text(NcsModule *m, NcsRefusal *why) {
         ncs_refuse(why, NCS_BAD_SYSTEM, "the system has no membarrier that makes processors serialize");
         return 0;
     }
-    file = make_file(m->limit, why);
+    file = make_file(m->room, why);
     if (file < 0) {
         return 0;
     }
-    m->live->writable = map_writable(file, m->limit);
-    if (m->live->writable != NULL) {
-        ncs_zone_lay(m->live->writable);
-        memset(m->live->writable + NC_START, NC_STOP, m->limit - NC_START);
-    }
-    (void)pthread_mutex_lock(&ncs_lock);
-    made = m->live->writable != NULL && map_executable(m, file);
-    (void)pthread_mutex_unlock(&ncs_lock);
+    made = ftruncate(file, m->limit) == 0 && map_text(m, file, m->room);
     (void)close(file);
     if (!made) {
         ncs_refuse(why, NCS_NO_MEMORY, "there is no room for the code, below 4 GiB and above, or no segment left");
@@ -176,7 +154,19 @@ static int make_text(NcsModule *m, NcsRefusal *why) {
     return made;
 }
 
-static int begin(NcsModule *m, uint32_t bundles, NcsRefusal *why) {
+/* A file's code is a chunk before any of the text is executable, so its creation needs no acts. */
+static int create_first(NcsModule *m, NcsRefusal *why) {
+    const Image *image = &m->image;
+    NcChange made;
+    if (image->code_len == 0) {
+        return 1;
+    }
+    made = nc_region_create(&m->live->region, image->code_at, image->bytes + image->code_offset, image->code_len, NULL, 0);
+    return made.fault == NC_OK || ncs_refuse_fault(why, NCS_BAD_CODE, made.fault, made.at);
+}
+
+/* One seat more than there are calls. */
+static int make_region(NcsModule *m, uint32_t bundles, uint32_t calls, NcsRefusal *why) {
     Live *live = aligned_alloc(sizeof(Seat), sizeof *live);
     uint32_t fault;
     if (live == NULL) {
@@ -184,14 +174,19 @@ static int begin(NcsModule *m, uint32_t bundles, NcsRefusal *why) {
     }
     memset(live, 0, sizeof *live);
     m->live = live;
+    live->seat_count = calls + 1;
     if (pthread_mutex_init(&live->lock, NULL) != 0) {
         return ncs_refuse_fault(why, NCS_NO_MEMORY, NC_OUT_OF_MEMORY, 0);
     }
-    fault = nc_region_new(bundles, SEATS, &live->region);
-    if (fault != NC_OK) {
-        return ncs_refuse_fault(why, NCS_BAD_SYSTEM, fault, 0);
-    }
-    if (!ncs_prepare(why)) {
+    fault = nc_region_new(bundles, live->seat_count, &live->region);
+    return fault == NC_OK || ncs_refuse_fault(why, NCS_BAD_SYSTEM, fault, 0);
+}
+
+/* Makes the text, of which the file's code has what is below the room. The process is prepared only for code that is accepted. */
+static int begin(NcsModule *m, uint32_t bundles, uint32_t calls, NcsRefusal *why) {
+    bundles = ncs_bundles_for((m->room - NC_START) / NC_BUNDLE + bundles);
+    m->limit = NC_LIMIT(bundles);
+    if (!make_region(m, bundles, calls, why) || !create_first(m, why) || !ncs_prepare(why)) {
         return 0;
     }
     m->life = ncs_life();
@@ -202,23 +197,59 @@ static int begin(NcsModule *m, uint32_t bundles, NcsRefusal *why) {
     return 0;
 }
 
-NcsModule *ncs_module_live(uint32_t bundles, NcsRefusal *why) {
-    NcsModule *m;
+static int judge_live(uint32_t bundles, uint32_t calls, NcsRefusal *why) {
     if (bundles == 0 || bundles >= NC_MAX_BUNDLES) {
-        return ncs_refuse(why, NCS_BAD_LIMITS, "the number of bundles isn't 1 to 2097151");
+        return ncs_refuse(why, NCS_BAD_LIMITS, "the number of bundles isn't 1 to 2097151") != NULL;
     }
-    m = ncs_module_new(NULL, 0, why);
+    if (calls == 0 || calls > NCS_LIVE_CALLS) {
+        return ncs_refuse(why, NCS_BAD_LIMITS, "the number of calls isn't 1 to 255") != NULL;
+    }
+    return 1;
+}
+
+NcsModule *ncs_module_live(uint32_t bundles, uint32_t calls, NcsRefusal *why) {
+    NcsModule *m = judge_live(bundles, calls, why) ? ncs_module_new(NULL, 0, why) : NULL;
     if (m == NULL) {
         return NULL;
     }
-    bundles = ncs_bundles_for(bundles);
-    m->limit = NC_LIMIT(bundles);
+    m->room = NC_START;
     m->image.data_begin = m->image.data_end = STACK_TOP;
-    if (begin(m, bundles, why)) {
+    if (begin(m, bundles, calls, why)) {
         return m;
     }
     ncs_module_drop(m);
     return NULL;
+}
+
+/* Where the room behind the file's code begins, or 0 if there is none for so many bundles. Code where none can be is refused later. */
+static uint32_t room_behind(const Image *image, uint32_t bundles) {
+    uint64_t end = ((uint64_t)image->code_at + image->code_len + PAGE - 1) / PAGE * PAGE;
+    uint64_t before = end > NC_START ? (end - NC_START) / NC_BUNDLE : 0;
+    return before + bundles < NC_MAX_BUNDLES ? (uint32_t)(NC_START + before * NC_BUNDLE) : 0;
+}
+
+NcsModule *ncs_module_live_elf(const void *file, size_t len, uint32_t bundles, uint32_t calls, NcsRefusal *why) {
+    NcsModule *m = judge_live(bundles, calls, why) ? ncs_module_new(file, len, why) : NULL;
+    const char *wrong;
+    if (m == NULL) {
+        return NULL;
+    }
+    wrong = ncs_elf_read(&m->image);
+    m->room = wrong == NULL ? room_behind(&m->image, bundles) : 0;
+    if (wrong != NULL) {
+        ncs_refuse(why, NCS_BAD_FILE, wrong);
+    } else if (m->room == 0) {
+        ncs_refuse(why, NCS_BAD_LIMITS, "there is no room for so many bundles behind the file's code");
+    } else if (begin(m, bundles, calls, why)) {
+        return m;
+    }
+    ncs_module_drop(m);
+    return NULL;
+}
+
+NcsSpan ncs_room(const NcsModule *m) {
+    const NcsSpan none = {{0}, 0}, room = {{m->room}, m->limit - NC_BUNDLE - m->room};
+    return m->live != NULL ? room : none;
 }
 
 void ncs_live_free(NcsModule *m) {
@@ -233,6 +264,9 @@ void ncs_live_free(NcsModule *m) {
     nc_region_free(&live->region);
     if (live->writable != NULL) {
         (void)munmap(live->writable, m->limit);
+    }
+    if (live->staged != NULL && live->filled < m->limit) {
+        (void)munmap(live->staged + live->filled, m->limit - live->filled);
     }
     (void)pthread_mutex_destroy(&live->lock);
     free(live);

@@ -56,7 +56,7 @@ enum {
     NCS_BAD_HANDLER, /* the thread has chosen NCS_SIGNALS_PROMISED, and a handler lacks SA_ONSTACK: `at` is its signal's number */
     NCS_NO_MEMORY,   /* there is no memory, no room below 4 GiB, or no segment left */
     NCS_BAD_SYSTEM,  /* the system refuses what boxes need, or the module or process has forked: the sentence says what */
-    NCS_NOT_LIVE,    /* the module isn't one of ncs_module_live, so its code never changes */
+    NCS_NOT_LIVE,    /* the module's code never changes */
     NCS_BAD_CHANGE,  /* nc_host refuses a change of live code: `fault` says why */
     NCS_LOST_HANDLER /* a signal of this library has another handler by now: `at` is its number */
 };
@@ -104,12 +104,27 @@ void ncs_module_free(NcsModule *module);
 /* ---- Live code */
 
 /*
- * Makes a module whose code is created, patched and deleted while its boxes run. Its text has room for `bundles` bundles of 32 bytes, 1 to
- * 2097151, from 00010000 on, and may be up to a page longer. At first all of it is stops. Its boxes have a stack of 1 MiB, below 00110000.
- * At most NCS_LIVE_CALLS calls of its boxes may be under way at once, and calls within calls count. Returns null if it is refused.
+ * Make a module whose code is created, patched and deleted while its boxes run. Both return null if they are refused.
+ *   ncs_module_live      Its text has room for `bundles` bundles of 32 bytes, 1 to 2097151, from 00010000 on. Its boxes have a stack of
+ *                        1 MiB, below 00110000.
+ *   ncs_module_live_elf  It begins as a file that ncs_module_elf would take. The file's code is the first chunk, and the room for `bundles`
+ *                        bundles begins on the next page. Refused with NCS_BAD_LIMITS if there isn't so much below 64 MiB.
+ * The room may be up to a page longer. At first all of it is stops, and takes no memory. It takes memory up to the last bundle that is
+ * created, in steps of 256 KiB, and keeps that until the module is freed. At most `calls` calls of the module's boxes may be under way at
+ * once, 1 to NCS_LIVE_CALLS, and calls within calls count. A reclaim looks at each of them.
  */
 #define NCS_LIVE_CALLS 255u
-NcsModule *ncs_module_live(uint32_t bundles, NcsRefusal *why);
+NcsModule *ncs_module_live(uint32_t bundles, uint32_t calls, NcsRefusal *why);
+NcsModule *ncs_module_live_elf(const void *file, size_t len, uint32_t bundles, uint32_t calls, NcsRefusal *why);
+
+/* Bytes of the address space of code, in whole bundles. */
+typedef struct NcsSpan {
+    NcsAt from;
+    uint32_t len;
+} NcsSpan;
+
+/* Returns the room of a module with live code. Its length is 0 if the code never changes. */
+NcsSpan ncs_room(const NcsModule *module);
 
 /*
  * The changes. Any thread may make them, also in a call-back. They wait for each other, and never for a thread inside. Each returns 1 if
@@ -134,6 +149,20 @@ int ncs_delete(NcsModule *module, NcsAt base, NcsRefusal *why);
  */
 uint32_t ncs_reclaim(NcsModule *module);
 
+/* What ncs_hole finds. */
+typedef struct NcsHole {
+    NcsAt at;      /* where the hole begins; if `len` is 0, where to ask on, or else the end */
+    uint32_t len;  /* bytes in which no chunk is */
+    uint32_t held; /* bytes of deleted chunks below it, from the address that was asked for, which threads still hold back */
+} NcsHole;
+
+/*
+ * Finds the first hole of a module's room at or above `from`, up to `to`. If a deleted chunk is in the way, it reclaims. It looks at 256
+ * chunks at most, and returns a hole of length 0 if none of them leaves room. A hole is a hint: another thread may take it, and only the
+ * creation decides.
+ */
+NcsHole ncs_hole(NcsModule *module, NcsAt from, NcsAt to);
+
 /* ---- Boxes */
 
 #define NCS_MEMORY_MAX (1u << 30)
@@ -150,8 +179,8 @@ typedef struct NcsLimits {
    be null. */
 NcsBox *ncs_box_new(NcsModule *module, const NcsLimits *limits, NcsRefusal *why);
 
-/* Gives a box its first memory again, and revives it. Its call-backs stay. Returns 1 if that is done. While a call of the box is under way
-   it returns 0, and does nothing. If the system refuses, it returns 0, and the box is dead. */
+/* Gives a box its first memory again, deletes the code that it has made, and revives it. Its call-backs stay. Returns 1 if that is done.
+   While a call of the box is under way it returns 0, and does nothing. If the system refuses, it returns 0, and the box is dead. */
 int ncs_reset(NcsBox *box);
 
 /* Ends the call that is under way, with the calls that its call-backs have made, or else the next one, with NCS_KILLED. Any thread may ask
@@ -159,7 +188,8 @@ int ncs_reset(NcsBox *box);
    a kill that hasn't ended a call. */
 void ncs_kill(NcsBox *box);
 
-/* Frees a box, and returns 1. While a call of the box is under way it returns 0, and does nothing. Null is allowed. */
+/* Frees a box, deletes the code that it has made, and returns 1. While a call of the box is under way it returns 0, and does nothing. If there
+   is no memory to delete code, it returns 0, and the box is dead. Null is allowed. */
 int ncs_free(NcsBox *box);
 
 /* ---- Signals */
@@ -200,7 +230,7 @@ enum {
     NCS_DENIED,    /* * by ncs_deny */
     NCS_TOO_DEEP,  /* the thread has too many calls under way, and nothing was entered */
     NCS_DEAD,      /* an earlier call has left the box dead, and nothing was entered */
-    NCS_BUSY,      /* another thread is in a call of the box, or NCS_LIVE_CALLS of its module are under way; nothing was entered */
+    NCS_BUSY,      /* another thread is in a call of the box, or as many of its module as may be are under way; nothing was entered */
     NCS_HOST       /* too many arguments, a thread that can't be prepared or has lost its alternate stack, a signal of the library with
                       another handler, or a box of before a fork; * one of these is found while the call is under way, or a call-back
                       didn't return */
@@ -240,6 +270,26 @@ typedef uint64_t (*NcsCallback)(NcsBox *box, void *user, const uint32_t *args);
    NCS_CALLBACK(0), and a box gets at most NCS_CALLBACKS of them. Returns 0 if it isn't given. The host makes this call only while no other
    thread is in a call of the box. */
 NcsAt ncs_callback(NcsBox *box, NcsCallback function, void *user, unsigned args);
+
+/*
+ * Lets the code of a box change code of its module, by the box's next four call-backs, and returns the address of the first. They change
+ * nothing outside of `area`, a part of the module's room. The host keeps areas of different boxes apart, and makes no chunk there itself.
+ *   hole(from, to)         finds the first hole of the area at or above `from`, and writes it to `to` as ncs_hole returns it
+ *   create(at, from, len)  as ncs_create, from memory of the box
+ *   patch(at, from, len)   as ncs_patch
+ *   delete(at)             as ncs_delete
+ * Each returns 0, or a negative number in EAX, and changes nothing then: -14 (EFAULT) for memory that isn't the box's, -22 (EINVAL) for a
+ * place outside of the area, -12 (ENOMEM), or -(NCS_FAULT_CODE + fault) with the fault's address in EDX. The bytes are copied before they are
+ * judged. A request takes as long as its bytes, and counts as time of the call.
+ *
+ * A reset and ncs_free delete each chunk of the area. Until then other boxes of the module can jump there, and read what its immediates
+ * say. Where its boxes serve different tenants, each tenant has a module of his own: a box that stays inside holds the deleted code of all
+ * boxes of the module back, and creations wait for each other.
+ * An area without length, the only one in a module whose code never changes, has no room. So code finds out that it can't make any. Returns
+ * 0 if the area isn't in the room or isn't bundles, if the box has an area, or if it has no four call-backs left.
+ */
+#define NCS_FAULT_CODE 256u
+NcsAt ncs_code_calls(NcsBox *box, NcsSpan area);
 
 /* Within a call-back of the box, ends the call that made it with NCS_DENIED, once the call-back has returned. Elsewhere it does nothing. */
 void ncs_deny(NcsBox *box);

@@ -44,3 +44,7 @@ PROVIDE(nc_open = 0x00000180);
 PROVIDE(nc_close = 0x000001a0);
 PROVIDE(nc_lseek = 0x000001c0);
 PROVIDE(nc_size = 0x000001e0);
+PROVIDE(nc_hole = 0x00000200);
+PROVIDE(nc_create = 0x00000220);
+PROVIDE(nc_patch = 0x00000240);
+PROVIDE(nc_delete = 0x00000260);

@@ -177,7 +177,7 @@ int main(int argc, char **argv) {
     unsigned seconds = argc == 2 ? (unsigned)atoi(argv[1]) : 2;
     NcsRefusal why;
     int wrong;
-    module = ncs_module_live(0x8000, &why);
+    module = ncs_module_live(0x8000, 1, &why);
     if (module == NULL) {
         printf("%s: live code: %s\n", why.kind == NCS_BAD_SYSTEM ? "skipped" : "refused", why.sentence);
         return why.kind == NCS_BAD_SYSTEM ? 77 : 2;

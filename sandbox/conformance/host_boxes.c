@@ -56,7 +56,7 @@ static size_t lay_file(uint8_t *to, const uint8_t *code, uint32_t len) {
 static NcsModule *make_live(const uint8_t *code, uint32_t len) {
     uint8_t all[NC_BUNDLE + KIT_CODE_MAX];
     NcsAt at = {STUB_AT};
-    NcsModule *module = ncs_module_live(LIVE_BUNDLES, NULL);
+    NcsModule *module = ncs_module_live(LIVE_BUNDLES, 1, NULL);
     lay_stub(all);
     memcpy(all + NC_BUNDLE, code, len);
     if (module != NULL && !ncs_create(module, at, all, NC_BUNDLE + len, NULL)) {

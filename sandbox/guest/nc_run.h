@@ -29,11 +29,16 @@
  *     6  000001c0  lseek(file, low, high,  place, 64 bits           EBADF, EINVAL, ESPIPE
  *                  from)
  *     7  000001e0  size(file)              bytes, 64 bits           EBADF, ESPIPE
+ *     8  00000200  hole(from, to)          0                        EFAULT
+ *     9  00000220  create(at, from, len)   0                        EFAULT, EINVAL, ENOMEM, 256 and more: see nc_create
+ *    10  00000240  patch(at, from, len)    0                        the same
+ *    11  00000260  delete(at)              0                        EINVAL, ENOMEM, 256 and more
  */
 #ifndef NC_RUN_H
 #define NC_RUN_H
 
-/* The calls by their numbers, each with the words of its arguments. */
+/* The calls by their numbers, each with the words of its arguments. Those for code begin at NC_RUN_CODE, and any host can give them to a
+   box (ncs_code_calls). */
 #define NC_RUN_CALLS(CALL) \
     CALL(0, read, 3) \
     CALL(1, write, 3) \
@@ -43,6 +48,12 @@
     CALL(5, close, 1) \
     CALL(6, lseek, 4) \
     CALL(7, size, 1)
+#define NC_RUN_CODE 8
+#define NC_RUN_CODE_CALLS(CALL) \
+    CALL(8, hole, 2) \
+    CALL(9, create, 3) \
+    CALL(10, patch, 3) \
+    CALL(11, delete, 1)
 
 /* The clocks of nc_clock, which counts nanoseconds. */
 #define NC_CLOCK_REAL 0      /* since 1970 */
@@ -92,6 +103,28 @@ long long nc_lseek(int file, long long offset, int from);
 
 /* Returns a regular file's length in bytes. ESPIPE for anything else. */
 long long nc_size(int file);
+
+/* A part of the area in which the program may make code. */
+struct nc_hole {
+    unsigned at;   /* where it begins; if `len` is 0, where to ask on, or else the area's end */
+    unsigned len;  /* bytes in which no chunk is, a multiple of 32; 0 if the call has found none */
+    unsigned held; /* bytes of deleted chunks below it, from the address that was asked for, which can't be used yet */
+};
+
+/* Finds the first hole of the area at or above `from`, looking at 256 chunks at most. Without nc-run --live-code there is none, and `at` is
+   0. A hole is a hint. */
+int nc_hole(unsigned from, struct nc_hole *to);
+
+/* Makes a chunk of whole bundles at `at`, from `len` bytes that are copied first. The low half of the result is 0, or a negative number: -14
+   (EFAULT) for bytes that aren't in the memory, -22 (EINVAL) if it isn't in the area, -12 (ENOMEM), or -(256 + fault) with a fault of
+   nc_host.h, such as NC_OCCUPIED. The upper half is the address of a fault in the code, else 0. A refusal changes nothing. */
+long long nc_create(unsigned at, const void *from, unsigned len);
+
+/* Replaces whole instructions of a chunk, within a bundle, with others of the same lengths. The result is as that of nc_create. */
+long long nc_patch(unsigned at, const void *from, unsigned len);
+
+/* Deletes the chunk that begins at `at`. Its span is a hole again once each thread that was inside has come out. */
+long long nc_delete(unsigned at);
 
 #ifdef __cplusplus
 }

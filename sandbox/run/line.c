@@ -11,6 +11,7 @@
 #define PAGE 4096u
 #define MEMORY_DEFAULT (256u << 20)
 #define WRITE_DEFAULT (1u << 30)
+#define LIVE_MOST (63u << 20)
 
 static const char HELP[] =
     "Run a program that nc-cc has compiled for the sandbox\n"
@@ -24,6 +25,7 @@ static const char HELP[] =
     "Options:\n"
     "      --time <MS>       Processor time in milliseconds, from 0 to 4294967295; 0 sets no limit [default: 0]\n"
     "      --memory <SIZE>   Bytes of data, heap and stack; K, M and G may follow [default: 256M]\n"
+    "      --live-code <SIZE>  Bytes of code that the program may make, as for --memory, up to 63M [default: 0]\n"
     "      --call <NAME>     Call this function of the file, and print its result\n"
     "      --dir <DIR>       Let the program read files below this folder\n"
     "      --dir-rw <DIR>    Let the program read, write and make files below this folder\n"
@@ -125,6 +127,13 @@ static int take_memory(const char *value, Line *line) {
     return -1;
 }
 
+static int take_live(const char *value, Line *line) {
+    uint64_t size;
+    int good = read_size(value, LIVE_MOST, &size);
+    line->live = good ? (uint32_t)size : 0;
+    return good ? -1 : wrong("--live-code wants bytes, such as 1048576, 1024K or 1M, up to 63M: ", value);
+}
+
 static int take_write(const char *value, Line *line) {
     int good = read_size(value, UINT64_MAX, &line->write);
     return good ? -1 : wrong("--write wants bytes, such as 1048576, 1024K or 1M, below 2^64: ", value);
@@ -178,6 +187,7 @@ static const struct Option {
 } OPTIONS[] = {
     {"--time", take_time, 1},
     {"--memory", take_memory, 1},
+    {"--live-code", take_live, 1},
     {"--call", take_call, 1},
     {"--dir", take_folder, 1},
     {"--dir-rw", take_writable, 1},

@@ -2,6 +2,8 @@
 #define _GNU_SOURCE
 #include "run.h"
 
+#include "nc_host.h"
+
 #include <errno.h>
 #include <fcntl.h>
 #include <signal.h>
@@ -40,6 +42,12 @@ static int read_all(int file, uint8_t **bytes, size_t *len) {
     return 0;
 }
 
+/* A program makes one call at a time. */
+static NcsModule *make_module(const Run *run, NcsRefusal *why) {
+    uint32_t bundles = (run->line.live + NC_BUNDLE - 1) / NC_BUNDLE;
+    return bundles == 0 ? ncs_module_elf(run->bytes, run->len, why) : ncs_module_live_elf(run->bytes, run->len, bundles, 1, why);
+}
+
 static int load(Run *run) {
     int file = open(run->line.file, O_RDONLY | O_CLOEXEC), error = file < 0 ? errno : read_all(file, &run->bytes, &run->len);
     NcsRefusal why;
@@ -49,7 +57,7 @@ static int load(Run *run) {
     if (error != 0) {
         return error == ENOMEM ? report_system("out of memory", 0) : report_file(run, strerror(error), "");
     }
-    run->module = ncs_module_elf(run->bytes, run->len, &why);
+    run->module = make_module(run, &why);
     if (run->module == NULL) {
         return report_refusal(run, &why);
     }

@@ -19,6 +19,7 @@ enum { WALL_TRY, WALL_MUST, WALL_NONE };
 
 typedef struct Line {
     uint32_t milliseconds, memory;
+    uint32_t live;      /* bytes of code that the program may make */
     uint64_t write;     /* bytes that may be written below the folder */
     const char *call;   /* the function to call, or NULL for the entry */
     const char *folder; /* of --dir or --dir-rw, or NULL */

@@ -124,7 +124,7 @@ static uint64_t call_size(NcsBox *box, void *user, const uint32_t *args) {
     return S_ISREG(about.st_mode) ? (uint64_t)about.st_size : failed(ESPIPE);
 }
 
-/* Call-backs get their addresses in their order, so the table is by numbers. */
+/* Call-backs get their addresses in their order, so the table is by numbers. The last four are those of the library, for code. */
 int calls_give(Run *run) {
 #define CALL(number, name, words) [number] = {call_##name, words},
     static const struct {
@@ -137,5 +137,5 @@ int calls_give(Run *run) {
             return 0;
         }
     }
-    return 1;
+    return ncs_code_calls(run->box, ncs_room(run->module)).at == NCS_CALLBACK(NC_RUN_CODE);
 }

@@ -77,7 +77,7 @@ static void give_up(const NcsRefusal *why) {
 
 NcsModule *codes_module(uint32_t bundles) {
     NcsRefusal why;
-    NcsModule *module = ncs_module_live(bundles, &why);
+    NcsModule *module = ncs_module_live(bundles, NCS_LIVE_CALLS, &why);
     if (module == NULL) {
         give_up(&why);
     }

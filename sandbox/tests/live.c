@@ -276,8 +276,8 @@ static void refused_modules(void) {
     CHECK(is_refused(m, ncs_delete(m, (NcsAt){HERE}, &why), &why, NCS_NOT_LIVE, 0));
     CHECK(ncs_reclaim(m) == 0);
     ncs_module_free(m);
-    CHECK(ncs_module_live(0, &why) == NULL && why.kind == NCS_BAD_LIMITS && why.sentence != NULL);
-    CHECK(ncs_module_live(NC_MAX_BUNDLES, &why) == NULL && why.kind == NCS_BAD_LIMITS && ncs_module_live(0xFFFFFFFF, NULL) == NULL);
+    CHECK(ncs_module_live(0, 1, &why) == NULL && why.kind == NCS_BAD_LIMITS && why.sentence != NULL);
+    CHECK(ncs_module_live(NC_MAX_BUNDLES, 1, &why) == NULL && why.kind == NCS_BAD_LIMITS && ncs_module_live(0xFFFFFFFF, 1, NULL) == NULL);
 }
 
 static void try_refusals(void) {
@@ -306,7 +306,7 @@ static void refuse_module(int number, int error, uint32_t kind) {
     watching_refuse = number;
     watching_times = 100;
     watching_errno = error;
-    CHECK(ncs_module_live(BUNDLES, &why) == NULL && why.kind == kind && why.fault == 0 && why.sentence != NULL);
+    CHECK(ncs_module_live(BUNDLES, 4, &why) == NULL && why.kind == kind && why.fault == 0 && why.sentence != NULL);
     watching_refuse = 0;
     maps = read_maps();
     CHECK(maps.all == before_it.all);
@@ -334,7 +334,7 @@ static void try_system(void) {
 static NcsModule *scarce;
 
 static int scarce_module(NcsRefusal *why) {
-    NcsModule *m = ncs_module_live(BUNDLES, why);
+    NcsModule *m = ncs_module_live(BUNDLES, 4, why);
     ncs_module_free(m);
     return m != NULL;
 }

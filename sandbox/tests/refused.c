@@ -84,7 +84,7 @@ static void undo_box(void) {
 static int make_live(unsigned nth, int later, int *which) {
     NcsRefusal why;
     refusing_begin(nth, later);
-    made_module = ncs_module_live(2, &why);
+    made_module = ncs_module_live(2, 2, &why);
     *which = refusing_end();
     return outcome(made_module != NULL, *which, &why);
 }
@@ -365,7 +365,7 @@ int main(void) {
     refuse_first(&promise);
     module = testing_module(code);
     box = testing_box(module);
-    live = ncs_module_live(2, &why);
+    live = ncs_module_live(2, 2, &why);
     if (live == NULL && why.kind == NCS_BAD_SYSTEM) {
         printf("skipped: requests that are refused: %s\n", why.sentence);
         return SKIPPED;

@@ -273,7 +273,7 @@ static int child(void) {
     while (maps != NULL && fgets(line, sizeof line, maps) != NULL) {
         right &= strstr(line, "memfd:nc_sandbox") == NULL;
     }
-    return right && maps != NULL && ncs_module_live(BUNDLES, &why) != NULL && why.kind == NCS_OK;
+    return right && maps != NULL && ncs_module_live(BUNDLES, NCS_LIVE_CALLS, &why) != NULL && why.kind == NCS_OK;
 }
 
 static void try_child(void) {

@@ -112,7 +112,7 @@ static void try_endings(void) {
     unsigned k, ended = 0;
     NcsBox *box;
     asides_lay(code);
-    module = ncs_module_live(ASIDES_LEN / 32, NULL);
+    module = ncs_module_live(ASIDES_LEN / 32, NCS_LIVE_CALLS, NULL);
     CHECK(module != NULL && ncs_create(module, (NcsAt){CODE_AT}, code, sizeof code, NULL));
     box = box_with(LONG, end_thread, NULL);
     for (k = 0; k < NCS_LIVE_CALLS + 45; k++) {
@@ -127,7 +127,7 @@ static void try_endings(void) {
 
 /* A thread whose time is over waits for no change, since the writer may never get this processor. */
 static void try_waiting(void) {
-    NcsModule *live = ncs_module_live(ASIDES_LEN / 32, NULL);
+    NcsModule *live = ncs_module_live(ASIDES_LEN / 32, NCS_LIVE_CALLS, NULL);
     NcsBox *box = asides_box(live, LONG);
     Thread late = {.used = UINT64_MAX, .deadline = 5, .box = box};
     live->live->changes++; /* a writer has begun */

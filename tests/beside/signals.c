@@ -585,7 +585,7 @@ static int refuse_first(void) {
         CHECK(sigaction(taken[k], NULL, &before[k]) == 0);
     }
     CHECK(ncs_module_code("\xC3", 1, &why) == NULL && why.kind == NCS_BAD_CODE);
-    CHECK(ncs_module_live(1, &why) == NULL && why.kind == NCS_BAD_SYSTEM && !ncs_signals(NCS_SIGNALS_BLOCKED, &why));
+    CHECK(ncs_module_live(1, 1, &why) == NULL && why.kind == NCS_BAD_SYSTEM && !ncs_signals(NCS_SIGNALS_BLOCKED, &why));
     for (k = 0; k < sizeof taken / sizeof *taken; k++) {
         CHECK(sigaction(taken[k], NULL, &now) == 0 && now.sa_handler == before[k].sa_handler && now.sa_flags == before[k].sa_flags);
     }
