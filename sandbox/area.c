@@ -59,15 +59,15 @@ static uint64_t told(int made, const NcsRefusal *why) {
 }
 
 static int is_in_area(const NcsBox *b, uint32_t at, uint32_t len) {
-    return at >= b->area.from.at && len <= b->area.len && at - b->area.from.at <= b->area.len - len;
+    return at >= b->memory->area.from.at && len <= b->memory->area.len && at - b->memory->area.from.at <= b->memory->area.len - len;
 }
 
 /* hole(from, to): writes the three numbers there, which nothing has judged before. */
 static uint64_t call_hole(NcsBox *b, void *user, const uint32_t *args) {
-    const NcsAt begin = b->area.from, end = {begin.at + b->area.len}, from = {args[0] > begin.at ? args[0] : begin.at};
+    const NcsAt begin = b->memory->area.from, end = {begin.at + b->memory->area.len}, from = {args[0] > begin.at ? args[0] : begin.at};
     NcsHole hole = {end, 0, 0};
     (void)user;
-    if (b->area.len != 0) {
+    if (b->memory->area.len != 0) {
         hole = ncs_hole(b->module, from, end);
     }
     return ncs_set(b, (NcsAt){args[1]}, &hole, sizeof hole) ? 0 : failed(EFAULT);
@@ -121,7 +121,7 @@ static NcChunk chunk_at(Live *live, uint32_t at) {
 }
 
 int ncs_area_clear(NcsBox *b) {
-    uint32_t at = b->area.from.at, end = at + b->area.len;
+    uint32_t at = b->memory->area.from.at, end = at + b->memory->area.len;
     while (at < end) {
         NcChunk found = chunk_at(b->module->live, at);
         if (found.fault != NC_OK || found.base >= end) {
@@ -143,18 +143,24 @@ static int is_room(const NcsModule *m, NcsSpan area) {
                              area.from.at % NC_BUNDLE == 0 && area.len % NC_BUNDLE == 0);
 }
 
+static int is_same(NcsSpan a, NcsSpan b) {
+    return a.from.at == b.from.at && a.len == b.len;
+}
+
 NcsAt ncs_code_calls(NcsBox *b, NcsSpan area) {
     static const struct {
         NcsCallback function;
         unsigned args;
     } calls[] = {{call_hole, 2}, {call_create, 3}, {call_patch, 3}, {call_delete, 1}};
+    const unsigned count = sizeof calls / sizeof *calls;
+    NcsSpan *had = &b->memory->area;
     NcsAt first = {0};
     unsigned k;
-    if (!is_room(b->module, area) || b->area.len != 0 || b->callback_count + sizeof calls / sizeof *calls > NCS_CALLBACKS) {
+    if (!is_room(b->module, area) || (had->len != 0 && !is_same(*had, area)) || b->callback_count + count > NCS_CALLBACKS) {
         return first;
     }
-    b->area = area;
-    for (k = 0; k < sizeof calls / sizeof *calls; k++) {
+    *had = area;
+    for (k = 0; k < count; k++) {
         NcsAt at = ncs_callback(b, calls[k].function, NULL, calls[k].args);
         first = k == 0 ? at : first;
     }

@@ -24,9 +24,13 @@ void ncs_box_release(NcsBox *b) {
 }
 
 /* Its memory is 0 so far. */
-static void begin(NcsBox *b) {
-    ncs_elf_copy_data(&b->module->image, ncs_box_data(b, 0));
-    b->heap = (b->module->image.data_end + 15) & ~15u;
+static void fill(NcsBox *b) {
+    const Image *image = &b->module->image;
+    ncs_elf_copy_data(image, ncs_box_data(b, 0));
+    __atomic_store_n(&b->memory->heap, (image->data_end + 15) & ~15u, __ATOMIC_SEQ_CST);
+}
+
+static void revive(NcsBox *b) {
     b->denied = b->dead = 0;
     memset(&b->end, 0, sizeof b->end);
     __atomic_store_n(&b->killed, 0, __ATOMIC_SEQ_CST);
@@ -47,17 +51,29 @@ static const char *judge_limits(const NcsModule *m, const NcsLimits *limits) {
 
 /* Nothing from 00010000 on is read-only, so no address that ncs_box_has accepts makes the host fault. */
 static int map_memory(NcsBox *b) {
-    uint32_t memory = b->limits.memory;
+    Memory *memory = b->memory;
+    uint32_t len = b->limits.memory;
     int mapped;
     (void)pthread_mutex_lock(&ncs_lock);
-    b->data_at = ncs_low_new(memory, PROT_NONE, -1);
-    b->selector = b->data_at != 0 ? ncs_segment_data(b->data_at, memory) : 0;
+    memory->at = b->data_at = ncs_low_new(len, PROT_NONE, -1);
+    memory->selector = memory->at != 0 ? ncs_segment_data(memory->at, len) : 0;
     (void)pthread_mutex_unlock(&ncs_lock);
-    mapped = b->selector != 0;
-    return mapped && mprotect(ncs_box_data(b, DATA_LEAST), memory - DATA_LEAST, PROT_READ | PROT_WRITE) == 0;
+    mapped = memory->selector != 0;
+    return mapped && mprotect(ncs_box_data(b, DATA_LEAST), len - DATA_LEAST, PROT_READ | PROT_WRITE) == 0;
 }
 
-NcsBox *ncs_box_new(NcsModule *m, const NcsLimits *limits, NcsRefusal *why) {
+static void join(NcsBox *b, Memory *memory) {
+    b->memory = memory;
+    b->data_at = memory->at;
+    (void)pthread_mutex_lock(&ncs_lock);
+    b->module->users++;
+    b->next = memory->boxes;
+    memory->boxes = b;
+    (void)pthread_mutex_unlock(&ncs_lock);
+}
+
+/* A box without memory so far. NULL if it is refused. */
+static NcsBox *new_box(NcsModule *m, const NcsLimits *limits, NcsRefusal *why) {
     const char *wrong = judge_limits(m, limits);
     NcsBox *b;
     if (wrong != NULL) {
@@ -70,23 +86,82 @@ NcsBox *ncs_box_new(NcsModule *m, const NcsLimits *limits, NcsRefusal *why) {
     if (b == NULL) {
         return ncs_refuse(why, NCS_NO_MEMORY, "out of memory");
     }
-    if (!ncs_mask_is_kept(why) || !ncs_prepare(why)) {
+    b->module = m;
+    b->limits = *limits;
+    return b;
+}
+
+NcsBox *ncs_box_new(NcsModule *m, const NcsLimits *limits, NcsRefusal *why) {
+    NcsBox *b = new_box(m, limits, why);
+    Memory *memory = b != NULL ? calloc(1, sizeof *memory) : NULL;
+    if (memory == NULL || !ncs_mask_is_kept(why) || !ncs_prepare(why)) {
+        if (b != NULL && memory == NULL) {
+            ncs_refuse(why, NCS_NO_MEMORY, "out of memory");
+        }
+        free(memory);
         free(b);
         return NULL;
     }
-    b->module = m;
-    b->limits = *limits;
-    (void)pthread_mutex_lock(&ncs_lock);
-    m->users++;
-    (void)pthread_mutex_unlock(&ncs_lock);
+    join(b, memory);
+    b->stack = m->image.data_begin;
     if (!map_memory(b)) {
         (void)ncs_free(b);
         ncs_unprepare();
         return ncs_refuse(why, NCS_NO_MEMORY, "there is no room below 4 GiB for its memory, or no segment left");
     }
-    begin(b);
+    fill(b);
+    revive(b);
     ncs_refuse(why, NCS_OK, "nothing is refused");
     return b;
+}
+
+NcsBox *ncs_box_beside(NcsBox *of, NcsAt stack, uint32_t depth, uint32_t milliseconds, NcsRefusal *why) {
+    const NcsLimits limits = {of->limits.memory, depth, milliseconds};
+    NcsBox *b = new_box(of->module, &limits, why);
+    if (b == NULL) {
+        return NULL;
+    }
+    if (stack.at % 16 != 0 || !ncs_box_has(of, stack.at, 0)) {
+        free(b);
+        return ncs_refuse(why, NCS_BAD_LIMITS, "the stack doesn't begin in the box's memory, at a multiple of 16");
+    }
+    join(b, of->memory);
+    b->stack = stack.at;
+    revive(b);
+    ncs_refuse(why, NCS_OK, "nothing is refused");
+    return b;
+}
+
+/* Under ncs_lock. Takes it out of the list; whether it was the last. */
+static int part(NcsBox *b) {
+    NcsBox **link = &b->memory->boxes;
+    while (*link != b) {
+        link = &(*link)->next;
+    }
+    *link = b->next;
+    return b->memory->boxes == NULL;
+}
+
+/* Leaves its memory, and frees that with its last box. Whether it has: there may be no memory to delete the code that it made. */
+static int leave(NcsBox *b) {
+    int was_last, made;
+    (void)pthread_mutex_lock(&ncs_lock);
+    was_last = part(b);
+    (void)pthread_mutex_unlock(&ncs_lock);
+    made = !was_last || ncs_area_clear(b);
+    (void)pthread_mutex_lock(&ncs_lock);
+    if (!made) {
+        b->next = b->memory->boxes;
+        b->memory->boxes = b;
+    } else if (was_last) {
+        ncs_segment_free(b->memory->selector);
+    }
+    (void)pthread_mutex_unlock(&ncs_lock);
+    if (made && was_last) {
+        ncs_low_free(b->memory->at, b->limits.memory);
+        free(b->memory);
+    }
+    return made;
 }
 
 /* It is claimed for nobody, and never released. */
@@ -98,33 +173,59 @@ int ncs_free(NcsBox *b) {
     if (!ncs_module_is_ours(b->module) || !ncs_box_claim(b, &nobody)) {
         return 0;
     }
-    if (!ncs_area_clear(b)) {
+    if (!leave(b)) {
         b->dead = 1;
         ncs_box_release(b);
         return 0;
     }
-    (void)pthread_mutex_lock(&ncs_lock);
-    ncs_segment_free(b->selector);
-    (void)pthread_mutex_unlock(&ncs_lock);
-    ncs_low_free(b->data_at, b->limits.memory);
     ncs_module_drop(b->module);
     free(b);
     return 1;
 }
 
+/* Under ncs_lock. Claims all boxes of the memory, or none. */
+static int claim_all(Memory *memory, Thread *t) {
+    NcsBox *b = memory->boxes, *back;
+    while (b != NULL && ncs_box_claim(b, t)) {
+        b = b->next;
+    }
+    for (back = memory->boxes; b != NULL && back != b; back = back->next) {
+        ncs_box_release(back);
+    }
+    return b == NULL;
+}
+
+/* Under ncs_lock. Gives back those that were claimed. */
+static void release_all(Memory *memory, const Thread *t, int dead) {
+    NcsBox *b;
+    for (b = memory->boxes; b != NULL; b = b->next) {
+        if (__atomic_load_n(&b->owner, __ATOMIC_RELAXED) == t) {
+            revive(b);
+            b->dead = dead;
+            ncs_box_release(b);
+        }
+    }
+}
+
 int ncs_reset(NcsBox *b) {
     static Thread somebody;
     int made;
-    if (!ncs_module_is_ours(b->module) || !ncs_box_claim(b, &somebody)) {
+    if (!ncs_module_is_ours(b->module)) {
+        return 0;
+    }
+    (void)pthread_mutex_lock(&ncs_lock);
+    made = claim_all(b->memory, &somebody);
+    (void)pthread_mutex_unlock(&ncs_lock);
+    if (!made) {
         return 0;
     }
     made = ncs_low_empty(b->data_at + DATA_LEAST, b->limits.memory - DATA_LEAST) && ncs_area_clear(b);
     if (made) {
-        begin(b);
-    } else {
-        b->dead = 1;
+        fill(b);
     }
-    ncs_box_release(b);
+    (void)pthread_mutex_lock(&ncs_lock);
+    release_all(b->memory, &somebody, !made);
+    (void)pthread_mutex_unlock(&ncs_lock);
     return made;
 }
 

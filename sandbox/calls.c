@@ -118,7 +118,7 @@ static int go_inside(NcsBox *b, Thread *t) {
     int was_inside = 0;
     t->box = b;
     t->code_selector = b->module->selector;
-    t->data_selector = b->selector;
+    t->data_selector = b->memory->selector;
     t->flags = FLAGS;
     t->serializes = b->module->live != NULL || texts != t->texts;
     if (b->module->live != NULL) {
@@ -256,7 +256,7 @@ static NcsEnd begin(NcsBox *b, Thread *t, uint32_t place, int nested, unsigned c
     if (how != NCS_RETURNED) {
         return refused(how);
     }
-    if (lay_frame(b, t, nested ? b->nest_at : b->module->image.data_begin, count, args)) {
+    if (lay_frame(b, t, nested ? b->nest_at : b->stack, count, args)) {
         end = call(b, t, place, nested);
     } else {
         t->place = 0;

@@ -24,7 +24,7 @@ typedef struct Chunk {
 
 /* ---- Acts */
 
-/* One store of one byte. The compiler neither merges, moves nor leaves out volatile ones, and all processors see them in their order [30]. */
+/* One store of one byte. The compiler leaves volatile ones as they are and in their order, in which all processors see them [30]. */
 static void put(uint8_t *text, uint32_t at, uint8_t byte) {
     __atomic_store_n((volatile uint8_t *)text + at, byte, __ATOMIC_RELEASE);
 }

@@ -239,17 +239,26 @@ struct NcsModule {
     uint32_t room; /* of live code: where it begins, behind the file's code */
 };
 
+/* What boxes have that share their memory. */
+typedef struct Memory {
+    uint32_t at, selector;
+    uint32_t heap;  /* where its free part begins; atomic */
+    NcsSpan area;   /* in which their code may change code */
+    NcsBox *boxes;  /* a list by `next`, under ncs_lock */
+} Memory;
+
 struct NcsBox {
     NcsModule *module;
     NcsLimits limits;
-    uint32_t data_at, selector;
+    Memory *memory;
+    NcsBox *next;
+    uint32_t data_at; /* the memory's */
+    uint32_t stack;   /* from where it grows down */
     Thread *owner; /* whose call is under way; atomic */
     int killed;    /* atomic */
     int denied, dead;
-    uint32_t heap;    /* where its free part begins */
     uint32_t nest_at; /* the stack pointer that the code left at its last call of the host: untrusted */
     NcsEnd end;       /* what left it dead */
-    NcsSpan area;     /* in which its code may change code */
     unsigned callback_count;
     struct {
         NcsCallback function;

@@ -47,13 +47,14 @@ long ncs_text(NcsBox *b, char *to, size_t room, NcsAt at) {
 }
 
 NcsAt ncs_take(NcsBox *b, uint32_t len) {
-    NcsAt at = {b->heap};
-    uint64_t end = ((uint64_t)b->heap + len + 15) & ~15ull;
-    if (!ncs_box_has(b, b->heap, len) || end > b->limits.memory) {
-        at.at = 0;
-    } else {
-        b->heap = (uint32_t)end;
-    }
+    NcsAt at = {__atomic_load_n(&b->memory->heap, __ATOMIC_SEQ_CST)};
+    uint64_t end;
+    do {
+        end = ((uint64_t)at.at + len + 15) & ~15ull;
+        if (!ncs_box_has(b, at.at, len) || end > b->limits.memory) {
+            at.at = 0;
+        }
+    } while (at.at != 0 && !__atomic_compare_exchange_n(&b->memory->heap, &at.at, (uint32_t)end, 0, __ATOMIC_SEQ_CST, __ATOMIC_SEQ_CST));
     return at;
 }
 

@@ -179,8 +179,18 @@ typedef struct NcsLimits {
    be null. */
 NcsBox *ncs_box_new(NcsModule *module, const NcsLimits *limits, NcsRefusal *why);
 
+/*
+ * Makes a box beside another one, whose memory both use, so that two threads can be in the same data: a compiler's own second thread, or
+ * workers. It has a call under way, limits, a kill and call-backs of its own. Its stack grows down from `stack`, a multiple of 16 in that
+ * memory, which the host takes by ncs_take. What threads do to each other in their memory is up to the code, which has locked instructions.
+ * The boxes have one heap and one area (ncs_code_calls). Any of them resets the memory for all. The memory is freed with the last of them,
+ * in any order. Returns null if it is refused.
+ */
+NcsBox *ncs_box_beside(NcsBox *box, NcsAt stack, uint32_t depth, uint32_t milliseconds, NcsRefusal *why);
+
 /* Gives a box its first memory again, deletes the code that it has made, and revives it. Its call-backs stay. Returns 1 if that is done.
-   While a call of the box is under way it returns 0, and does nothing. If the system refuses, it returns 0, and the box is dead. */
+   While a call of the box or of one beside it is under way it returns 0, and does nothing. If the system refuses, it returns 0, and the box
+   is dead. All this holds for the boxes beside it too. */
 int ncs_reset(NcsBox *box);
 
 /* Ends the call that is under way, with the calls that its call-backs have made, or else the next one, with NCS_KILLED. Any thread may ask
@@ -188,8 +198,8 @@ int ncs_reset(NcsBox *box);
    a kill that hasn't ended a call. */
 void ncs_kill(NcsBox *box);
 
-/* Frees a box, deletes the code that it has made, and returns 1. While a call of the box is under way it returns 0, and does nothing. If there
-   is no memory to delete code, it returns 0, and the box is dead. Null is allowed. */
+/* Frees a box, and returns 1. The last one on its memory deletes the code that it has made. While a call of the box is under way it returns
+   0, and does nothing. If there is no memory to delete code, it returns 0, and the box is dead. Null is allowed. */
 int ncs_free(NcsBox *box);
 
 /* ---- Signals */
@@ -274,19 +284,20 @@ NcsAt ncs_callback(NcsBox *box, NcsCallback function, void *user, unsigned args)
 /*
  * Lets the code of a box change code of its module, by the box's next four call-backs, and returns the address of the first. They change
  * nothing outside of `area`, a part of the module's room. The host keeps areas of different boxes apart, and makes no chunk there itself.
+ * Boxes on the same memory have the same area.
  *   hole(from, to)         finds the first hole of the area at or above `from`, and writes it to `to` as ncs_hole returns it
  *   create(at, from, len)  as ncs_create, from memory of the box
  *   patch(at, from, len)   as ncs_patch
  *   delete(at)             as ncs_delete
- * Each returns 0, or a negative number in EAX, and changes nothing then: -14 (EFAULT) for memory that isn't the box's, -22 (EINVAL) for a
- * place outside of the area, -12 (ENOMEM), or -(NCS_FAULT_CODE + fault) with the fault's address in EDX. The bytes are copied before they are
- * judged. A request takes as long as its bytes, and counts as time of the call.
+ * Each returns 0, or a negative number in EAX, and then changes nothing. That is -14 (EFAULT) for memory that isn't the box's, -22 (EINVAL)
+ * for a place outside of the area, -12 (ENOMEM), or -(NCS_FAULT_CODE + fault) with the fault's address in EDX. The bytes are copied before
+ * they are judged. A request takes as long as its bytes, and counts as time of the call.
  *
  * A reset and ncs_free delete each chunk of the area. Until then other boxes of the module can jump there, and read what its immediates
  * say. Where its boxes serve different tenants, each tenant has a module of his own: a box that stays inside holds the deleted code of all
  * boxes of the module back, and creations wait for each other.
  * An area without length, the only one in a module whose code never changes, has no room. So code finds out that it can't make any. Returns
- * 0 if the area isn't in the room or isn't bundles, if the box has an area, or if it has no four call-backs left.
+ * 0 if the area isn't in the room or isn't bundles, if the box has another one, or if it has no four call-backs left.
  */
 #define NCS_FAULT_CODE 256u
 NcsAt ncs_code_calls(NcsBox *box, NcsSpan area);

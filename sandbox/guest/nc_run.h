@@ -115,9 +115,9 @@ struct nc_hole {
    0. A hole is a hint. */
 int nc_hole(unsigned from, struct nc_hole *to);
 
-/* Makes a chunk of whole bundles at `at`, from `len` bytes that are copied first. The low half of the result is 0, or a negative number: -14
-   (EFAULT) for bytes that aren't in the memory, -22 (EINVAL) if it isn't in the area, -12 (ENOMEM), or -(256 + fault) with a fault of
-   nc_host.h, such as NC_OCCUPIED. The upper half is the address of a fault in the code, else 0. A refusal changes nothing. */
+/* Makes a chunk of whole bundles at `at`, from `len` bytes that are copied first. The low half of the result is 0 or a negative number. It is
+   -14 (EFAULT) for bytes that aren't in the memory, -22 (EINVAL) for a place that isn't in the area, -12 (ENOMEM), or -(256 + fault) with a
+   fault of nc_host.h, such as NC_OCCUPIED. The upper half is the address of a fault in the code, else 0. A refusal changes nothing. */
 long long nc_create(unsigned at, const void *from, unsigned len);
 
 /* Replaces whole instructions of a chunk, within a bundle, with others of the same lengths. The result is as that of nc_create. */
