@@ -81,6 +81,9 @@ NcsModule *codes_module(uint32_t bundles) {
     if (module == NULL) {
         give_up(&why);
     }
+    ncs_live_lock(module->live);
+    CHECK(ncs_live_fill(module, module->limit));
+    ncs_live_unlock(module->live);
     return module;
 }
 

@@ -36,7 +36,7 @@ void codes_jump(uint8_t code[BUNDLE], uint32_t to);
 #define JUMP 8u
 
 /* They end the process with SKIPPED if the system has no live code, and with 2 if anything else is refused. */
-NcsModule *codes_module(uint32_t bundles);
+NcsModule *codes_module(uint32_t bundles); /* all of its text has pages */
 NcsBox *codes_box(NcsModule *module, uint32_t milliseconds);
 void codes_end(NcsModule *module, NcsBox *box);
 

@@ -6,7 +6,12 @@
 #include <stdio.h>
 #include <stdlib.h>
 #include <string.h>
+#include <sys/mman.h>
 #include <sys/syscall.h>
+
+#ifndef MADV_POPULATE_WRITE
+#define MADV_POPULATE_WRITE 23
+#endif
 
 /* ---- Order. What each change does stands in docs/THEOREM.md; docs/EMBEDDING.md says when the count of changes is odd. */
 
@@ -313,11 +318,19 @@ static void refuse_module(int number, int error, uint32_t kind) {
 }
 
 static void try_system(void) {
+    NcsModule *m;
     refuse_module(SYS_membarrier, EINVAL, NCS_BAD_SYSTEM);
     refuse_module(SYS_memfd_create, ENOSYS, NCS_BAD_SYSTEM);
     refuse_module(SYS_memfd_create, EMFILE, NCS_NO_MEMORY);
     refuse_module(SYS_fallocate, ENOSPC, NCS_NO_MEMORY);
     refuse_module(SYS_madvise, EINVAL, NCS_NO_MEMORY);
+    watching_advice = MADV_POPULATE_WRITE; /* as before Linux 5.14: all pages are taken at once */
+    watching_refuse = SYS_madvise;
+    watching_times = 1;
+    m = ncs_module_live(BUNDLES, 4, NULL);
+    CHECK(m != NULL && watching_times == 0 && m->live->filled == m->limit && codes_create_number(m, HERE, 5));
+    ncs_module_free(m);
+    watching_advice = 0;
     refuse_module(SYS_modify_ldt, ENOMEM, NCS_NO_MEMORY);
     watching_refuse = SYS_memfd_create; /* as an older kernel does, which doesn't know all flags */
     watching_times = 1;

@@ -22,7 +22,7 @@
 int refusing_releases;
 static long blocks, mapped, timers, files;
 static __thread unsigned nth, made;
-static __thread int later, first = -1;
+static __thread int later, moved_nothing, first = -1;
 
 void refusing_begin(unsigned from, int all) {
     nth = from;
@@ -85,9 +85,21 @@ REAL(void, free, void *block) {
     __real_free(block);
 }
 
+/* Behind a move that was refused, what is there is only asked for once more. */
 REAL(void *, mmap, void *at, size_t len, int protection, int flags, int file, off_t offset) {
-    void *got = refuses(REFUSES_mmap) ? MAP_FAILED : __real_mmap(at, len, protection, flags, file, offset);
+    int asks = moved_nothing;
+    void *got;
+    moved_nothing = 0;
+    got = !asks && refuses(REFUSES_mmap) ? MAP_FAILED : __real_mmap(at, len, protection, flags, file, offset);
     count(&mapped, got != MAP_FAILED ? (long)len : 0);
+    return got;
+}
+
+/* What was at the place to which it moves is gone. */
+REAL(void *, mremap, void *at, size_t len, size_t to_len, int flags, void *to) {
+    void *got = refuses(REFUSES_mremap) ? MAP_FAILED : __real_mremap(at, len, to_len, flags, to);
+    count(&mapped, got != MAP_FAILED ? -(long)len : 0);
+    moved_nothing = got == MAP_FAILED;
     return got;
 }
 
@@ -129,6 +141,10 @@ REAL(int, memfd_create, const char *name, unsigned flags) {
 
 REAL(int, fallocate, int file, int mode, off_t from, off_t len) {
     return refuses(REFUSES_fallocate) ? -1 : __real_fallocate(file, mode, from, len);
+}
+
+REAL(int, ftruncate, int file, off_t len) {
+    return refuses(REFUSES_ftruncate) ? -1 : __real_ftruncate(file, len);
 }
 
 REAL(int, close, int file) {

@@ -13,7 +13,7 @@ NcsModule *watching_module;
 Step watching_steps[STEPS];
 unsigned watching_count, watching_fail_serializations;
 uint8_t *watching_lent;
-int watching_refuse, watching_times, watching_errno;
+int watching_refuse, watching_times, watching_errno, watching_advice;
 long watching_fail_after = -1;
 
 static int is_locked(Live *live) {
@@ -53,7 +53,7 @@ REAL(int, fallocate, int file, int mode, off_t from, off_t len) {
 }
 
 REAL(int, madvise, void *at, size_t len, int advice) {
-    return refuses(SYS_madvise) ? -1 : __real_madvise(at, len, advice);
+    return (watching_advice == 0 || watching_advice == advice) && refuses(SYS_madvise) ? -1 : __real_madvise(at, len, advice);
 }
 
 /* The library passes up to four words, and the kernel takes no more from it. */
