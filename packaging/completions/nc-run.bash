@@ -4,6 +4,7 @@ _nc_run() {
     case ${COMP_WORDS[COMP_CWORD - 1]} in
     --time) words="0 1000 10000" ;;
     --memory) words="256M 1G" ;;
+    --live-code) words="1M 16M" ;;
     --write) words="1M 1G" ;;
     --wall) words="try must" ;;
     --call) words= ;;
@@ -11,7 +12,7 @@ _nc_run() {
         mapfile -t COMPREPLY < <(compgen -d -- "$word")
         return
         ;;
-    *) [[ $word != -* ]] || words="--time --memory --call --dir --dir-rw --write --wall --no-wall --help --version -h -V" ;;
+    *) [[ $word != -* ]] || words="--time --memory --live-code --call --dir --dir-rw --write --wall --no-wall --help --version -h -V" ;;
     esac
     mapfile -t COMPREPLY < <(compgen -W "$words" -- "$word")
 }

@@ -89,6 +89,23 @@ static int make_live(unsigned nth, int later, int *which) {
     return outcome(made_module != NULL, *which, &why);
 }
 
+/* The first change of a module, whose text has no page for it yet. */
+static int make_growth(unsigned nth, int later, int *which) {
+    NcsRefusal why;
+    int made;
+    made_module = ncs_module_live(200, 2, NULL);
+    CHECK(made_module != NULL);
+    refusing_begin(nth, later);
+    made = ncs_create(made_module, (NcsAt){CODE_AT}, code, 32, &why);
+    *which = refusing_end();
+    made = outcome(made, *which, &why);
+    if (made == REFUSED) {
+        CHECK(ncs_create(made_module, (NcsAt){CODE_AT}, code, 32, NULL));
+        ncs_module_free(made_module);
+    }
+    return made;
+}
+
 /* Changes of a live module, which has a chunk of one bundle while none of them is under way. */
 static const NcsAt CHUNK = {CODE_AT}, NEXT = {CODE_AT + 32};
 
@@ -349,6 +366,7 @@ int main(void) {
                                        {"many calls", make_many_calls, undo_nothing},
                                        {"a reset", make_reset, undo_nothing},
                                        {"live code", make_live, undo_module},
+                                       {"a creation where no page is", make_growth, undo_module},
                                        {"a creation", make_creation, undo_creation},
                                        {"a patch", make_patch, undo_patch},
                                        {"a deletion", make_deletion, undo_deletion}};

@@ -200,7 +200,7 @@ static u32 any(u32 *state) {
 /* Any calls with any arguments. */
 static int random_calls(u32 state) {
     for (u32 k = 0; k < 200000; k++) {
-        u32 at = 0x100 + 32 * (next_random(&state) % 8), a = any(&state), b = any(&state), c = any(&state), d = any(&state);
+        u32 at = 0x100 + 32 * (next_random(&state) % 12), a = any(&state), b = any(&state), c = any(&state), d = any(&state);
         ((u32 (*)(u32, u32, u32, u32))at)(a, b, c, d);
     }
     return 9;
@@ -223,6 +223,32 @@ static int clocks(void) {
     line(1, "steady", nc_clock(NC_CLOCK_STEADY) - steady >= 20000000);
     line(1, "since 2020", nc_clock(NC_CLOCK_REAL) > 1577836800ll * 1000000000);
     return 0;
+}
+
+/* Makes code, runs it, patches and deletes it; and what that says without live code. */
+static int makes(void) {
+    /* mov eax, 42; pop ecx; and ecx, -32; jmp ecx */
+    static unsigned char code[32] = {0xB8, 42, 0, 0, 0, 0x59, 0x83, 0xE1, 0xE0, 0xFF, 0xE1}, wrong[32] = {0x90, 0xC3};
+    struct nc_hole hole;
+    for (u32 k = 11; k < sizeof code; k++) code[k] = 0x90;
+    line(1, "hole", nc_hole(0, &hole));
+    line(1, "K", hole.len >> 10);
+    line(1, "create", (int)nc_create(hole.at, code, sizeof code));
+    if (hole.len != 0) line(1, "result", ((int (*)(void))hole.at)());
+    code[1] = 43;
+    line(1, "patch", (int)nc_patch(hole.at, code, 5));
+    if (hole.len != 0) line(1, "result", ((int (*)(void))hole.at)());
+    line(1, "refused", (int)nc_create(hole.at + 32, wrong, sizeof wrong));
+    line(1, "at", (int)(nc_create(hole.at + 32, wrong, sizeof wrong) >> 32) - (int)hole.at);
+    line(1, "delete", (int)nc_delete(hole.at));
+    line(1, "start", (int)nc_delete(0x10000));
+    return 0;
+}
+/* Goes to a place of live code where there is none. */
+static int strays(int from) {
+    struct nc_hole hole;
+    nc_hole(0, &hole);
+    return ((int (*)(void))(hole.at + (u32)from))();
 }
 
 int start(int argc, char **argv) {
@@ -252,6 +278,8 @@ int start(int argc, char **argv) {
     if (same(what, "random")) return random_calls((u32)number_of(path));
     if (same(what, "memory")) return memory(argv);
     if (same(what, "clocks")) return clocks();
+    if (same(what, "makes")) return makes();
+    if (same(what, "strays")) return strays(how);
     return 99;
 }
 
