@@ -1,4 +1,4 @@
-# For the scripts `build` of this folder and of examples/jit: how to compile a host over the library of boxes, in the repository and where
+# For the script `build` of this folder: how to compile a host over the library of boxes, in the repository and where
 # Reedbodkin is installed. It reads `here`, the folder of the script, and sets `compile`, `libraries` and `nc_cc`.
 top=$here/../..
 if [ -d "$top/crates" ]; then

@@ -1,4 +1,4 @@
-"""What the scripts share that run the hosts that execute, examples/sandbox and examples/jit."""
+"""What the scripts share that run what executes code that changes: examples/sandbox, and boxes."""
 
 import os
 import re

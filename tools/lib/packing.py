@@ -27,7 +27,7 @@ CRATES = ["nc_sandbox", "nc_host"]
 # What stands where it is installed as it does in the repository.
 PAGES_AND_EXAMPLES = [
     "README.md", "SECURITY.md", "CHANGELOG.md", "CONTRIBUTING.md", "VERSION", "docs", "docs/charts",
-    "examples/check", "examples/host", "examples/sandbox", "examples/jit", "examples/run", "examples/boxes", "examples/boxes/calculator",
+    "examples/check", "examples/host", "examples/sandbox", "examples/forth", "examples/run", "examples/boxes", "examples/boxes/calculator",
     "examples/boxes/costs", "examples/boxes/document", "examples/boxes/picture", "examples/boxes/plugins",
     *["examples/boxes/hosts" + part for part in ("", "/java", "/node", "/perl", "/postgres", "/prefork", "/python")],
     "examples/compile/sample.c",
