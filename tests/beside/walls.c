@@ -284,7 +284,7 @@ static void try_ways(void) {
 
 /* A module, live code and their boxes, all made before the wall. */
 typedef struct Made {
-    NcsModule *module, *live;
+    NcsModule *module, *live, *sparse; /* the last has no page of code yet */
     NcsBox *box, *live_box;
 } Made;
 
@@ -294,6 +294,7 @@ static Made make(void) {
     Made m;
     m.module = testing_module(RETURNS);
     m.live = codes_module(BUNDLES);
+    m.sparse = ncs_module_live(0x10000, 1, NULL);
     m.box = testing_box(m.module);
     m.live_box = codes_box(m.live, SHORT);
     return m;
@@ -323,6 +324,14 @@ static void try_live(const Made *m) {
     CHECK(codes_run(m->live_box, HERE).how == NCS_KILLED);
 }
 
+/* Code where no page was, on the first one and in the midst. */
+static void try_pages(NcsModule *sparse) {
+    NcsBox *box = codes_box(sparse, SHORT);
+    CHECK(codes_create_number(sparse, HERE, 7) && codes_returns(box, HERE, 7));
+    CHECK(codes_create_number(sparse, HERE + 0x100000, 8) && codes_returns(box, HERE + 0x100000, 8));
+    codes_end(sparse, box);
+}
+
 static int use_boxes(const void *given) {
     Made m = make();
     NcsBox *later;
@@ -332,6 +341,7 @@ static int use_boxes(const void *given) {
     CHECK(enter(m.box).how == NCS_RETURNED && enter(later).how == NCS_RETURNED && ncs_reset(later));
     CHECK(pthread_create(&thread, NULL, enter_first, later) == 0 && pthread_join(thread, NULL) == 0);
     try_live(&m);
+    try_pages(m.sparse);
     CHECK(ncs_free(m.box) && ncs_free(later));
     codes_end(m.live, m.live_box);
     ncs_module_free(m.module);
