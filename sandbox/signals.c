@@ -86,10 +86,12 @@ int ncs_is_over(const Thread *t) {
     return t->used >= t->deadline || ncs_is_killed(t);
 }
 
-/* A stop is a general protection at F4. In live code it may be one of a change that is under way, and gone by now [25]. */
+/* A stop is a general protection at F4. In live code it may be one of a change that is under way, and gone by now [25]. Live code also stops
+   where it has no page. */
 static int meet(Thread *t, uint32_t place) {
     const NcsModule *m = t->box->module;
-    if (t->trap != GENERAL_PROTECTION || place >= m->limit) {
+    int has_no_page = t->trap == PAGE_FAULT && m->live != NULL && t->fault_at == m->text_at + place;
+    if ((t->trap != GENERAL_PROTECTION && !has_no_page) || place >= m->limit) {
         return MET_FAULT;
     }
     if (m->live != NULL) {
@@ -110,6 +112,10 @@ static void on_fault(Thread *t, siginfo_t *info, greg_t *reg) {
     }
     met = meet(t, (uint32_t)reg[REG_RIP]);
     t->at_stop = met == MET_STOP;
+    if (t->at_stop) { /* the same interrupt with and without a page */
+        t->trap = GENERAL_PROTECTION;
+        t->fault_at = 0;
+    }
     if (met != MET_NOTHING) {
         come_out(t, reg, OUT_TRAP);
     } else if (ncs_is_over(t)) {

@@ -44,7 +44,7 @@ static uint32_t name(const char *symbol) {
 }
 
 static NcsEnd call(NcsBox *box, const char *function, uint32_t a, uint32_t b, uint32_t c) {
-    return ncs_call(box, ncs_symbol(module, function), NCS_ARGS(3, a, b, c));
+    return ncs_call(box, ncs_symbol(module, function), NCS_ARGS(a, b, c));
 }
 
 static int gives(NcsBox *box, const char *function, uint32_t a, uint32_t result) {
@@ -354,7 +354,7 @@ static void try_hostile(void) {
     }
     CHECK(granted > REQUESTS / 20 && granted < REQUESTS / 2);
     check_text();
-    CHECK(ncs_free(box));
+    CHECK(ncs_free(box) && ncs_hole(module, room.from, at(room.from.at + room.len)).len == room.len);
     check_text();
 }
 

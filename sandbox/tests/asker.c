@@ -1,6 +1,8 @@
 /* A program for a box that makes code, compiled by nc-cc. tools/try/boxes gives it the addresses of the calls (-Wl,--defsym). */
 #include <nc_run.h>
 
+void rest(void); /* a call of the host that does nothing. A thread that makes none holds back what is deleted */
+
 unsigned char bytes[4096];
 struct nc_hole hole;
 unsigned words[4]; /* of code that waits */
@@ -55,7 +57,7 @@ unsigned compile(unsigned rounds) {
     wrong += nc_hole(0, &room) != 0;
     store(&first, room.at);
     for (unsigned round = 1; round <= rounds; round++) {
-        while (round - load(&swept) > SLOTS / 2) {}
+        while (round - load(&swept) > SLOTS / 2) rest();
         lay(code, 0);
         for (int made_it = 0; !made_it;) {
             long long answer = nc_create(slot(round), code, sizeof code);
@@ -76,8 +78,9 @@ unsigned compile(unsigned rounds) {
 /* Executes what was made last, until the last round. How often it gave another number, or an earlier one than before. */
 unsigned execute(unsigned who, unsigned rounds) {
     unsigned wrong = 0, before = 0;
-    while (load(&made) == 0) {}
+    while (load(&made) == 0) rest();
     while (before < rounds) {
+        rest();
         unsigned round = load(&made), got = run(slot(round));
         wrong += got != round || got < before;
         before = round;
@@ -94,7 +97,7 @@ unsigned sweep(unsigned rounds, unsigned threads) {
         unsigned last = load(&made), seen[8];
         for (unsigned k = 0; k < threads; k++) seen[k] = load(&counts[k]);
         for (unsigned k = 0; k < threads; k++) {
-            while (load(&counts[k]) - seen[k] < 2 && load(&counts[k]) < 0x80000000) {}
+            while (load(&counts[k]) - seen[k] < 2 && load(&counts[k]) < 0x80000000) rest();
         }
         for (; done + 1 < last; done++) wrong += (int)nc_delete(slot(done + 1)) != 0;
         store(&swept, done);

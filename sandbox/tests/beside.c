@@ -11,6 +11,7 @@
 #define STACK_LEN 0x8000u
 #define RUNNERS 2u
 #define ROUNDS 3000u
+#define RESTS NCS_CALLBACK(4)
 
 static NcsModule *module;
 
@@ -19,7 +20,7 @@ static NcsAt name(const char *symbol) {
 }
 
 static NcsEnd call(NcsBox *box, const char *function, uint32_t a, uint32_t b, uint32_t c) {
-    return ncs_call(box, name(function), NCS_ARGS(3, a, b, c));
+    return ncs_call(box, name(function), NCS_ARGS(a, b, c));
 }
 
 static NcsBox *new_box(uint32_t milliseconds) {
@@ -45,6 +46,13 @@ static void store(NcsBox *box, unsigned k, uint32_t word) {
 }
 
 /* ---- One at a time */
+
+static uint64_t rest(NcsBox *box, void *user, const uint32_t *args) {
+    (void)box;
+    (void)user;
+    (void)args;
+    return 0;
+}
 
 static uint64_t tell(NcsBox *box, void *user, const uint32_t *args) {
     (void)args;
@@ -141,8 +149,10 @@ static void try_generators(void) {
     Worker works[RUNNERS + 2];
     unsigned k;
     CHECK(ncs_code_calls(compiler, room).at == NCS_CALLBACK(0) && ncs_code_calls(deleter, room).at == NCS_CALLBACK(0));
+    CHECK(ncs_callback(compiler, rest, NULL, 0).at == RESTS && ncs_callback(deleter, rest, NULL, 0).at == RESTS);
     for (k = 0; k < RUNNERS; k++) {
         runners[k] = beside(compiler, UINT32_MAX);
+        CHECK(ncs_code_calls(runners[k], room).at == NCS_CALLBACK(0) && ncs_callback(runners[k], rest, NULL, 0).at == RESTS);
     }
     begin(&works[0], compiler, "compile", ROUNDS, 0, 0);
     begin(&works[1], deleter, "sweep", ROUNDS, RUNNERS, 0);
