@@ -106,28 +106,30 @@ static void fill_first(const NcsModule *m, uint32_t len) {
 }
 
 /* Under ncs_lock. What is executed can never be written, and what is written never executed. */
-static int map_executable(NcsModule *m, int file, uint32_t len) {
-    m->live->staged = map_high(file, m->limit, PROT_READ | PROT_EXEC);
-    m->text_at = m->live->staged != NULL ? ncs_low_new(m->limit, PROT_NONE, -1) : 0;
+static int map_executable(NcsModule *m, uint32_t len) {
+    m->text_at = ncs_low_new(m->limit, PROT_NONE, -1);
     m->selector = m->text_at != 0 && ncs_low_keep(m->text_at, m->limit) ? ncs_segment_code(m->text_at, m->limit) : 0;
     return m->selector != 0 && show(m, len);
 }
 
 /* Maps the text. Its first `len` bytes have pages; all of it, where the system can't take pages later. */
 static int map_text(NcsModule *m, int file, uint32_t len) {
-    int made = 0;
+    int made;
     m->live->writable = map_high(file, m->limit, PROT_READ | PROT_WRITE);
-    if (m->live->writable != NULL) {
-        if (!take_pages(m->live->writable, len)) {
-            len = m->limit;
-        }
-        if (fallocate(file, 0, 0, len) == 0) {
-            fill_first(m, len);
-            (void)pthread_mutex_lock(&ncs_lock);
-            made = map_executable(m, file, len);
-            (void)pthread_mutex_unlock(&ncs_lock);
-        }
+    m->live->staged = m->live->writable != NULL ? map_high(file, m->limit, PROT_READ | PROT_EXEC) : NULL;
+    if (m->live->staged == NULL) {
+        return 0;
     }
+    if (!take_pages(m->live->writable, len)) {
+        len = m->limit;
+    }
+    if (fallocate(file, 0, 0, len) != 0) {
+        return 0;
+    }
+    fill_first(m, len);
+    (void)pthread_mutex_lock(&ncs_lock);
+    made = map_executable(m, len);
+    (void)pthread_mutex_unlock(&ncs_lock);
     return made;
 }
 
