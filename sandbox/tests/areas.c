@@ -1,4 +1,5 @@
-/* Live code that begins as a file, and boxes whose code changes code within an area: pages, holes, borders, refusals and resets. */
+/* Live code that begins as a file, and boxes whose code changes code within an area: pages, holes, borders, refusals and resets:
+   areas FILE [REQUESTS], of a hostile generator. */
 #include "watching.h"
 
 #include <errno.h>
@@ -11,16 +12,16 @@
 #define ROOM_BUNDLES 0x4000u /* 512 KiB */
 #define AREA_LEN 0x2000u
 #define MEMORY_LEN 0x200000u
-#define REQUESTS 20000u
 
 static uint8_t *file;
 static size_t file_len;
 static NcsModule *module;
 static NcsSpan room;
+static uint32_t requests = 2000;
 
-static NcsModule *new_module(void) {
+static NcsModule *new_module(uint32_t bundles) {
     NcsRefusal why;
-    NcsModule *m = ncs_module_live_elf(file, file_len, ROOM_BUNDLES, 4, &why);
+    NcsModule *m = ncs_module_live_elf(file, file_len, bundles, 4, &why);
     if (m == NULL) {
         printf("%s: live code: %s\n", why.kind == NCS_BAD_SYSTEM ? "skipped" : "refused", why.sentence);
         exit(why.kind == NCS_BAD_SYSTEM ? SKIPPED : 2);
@@ -338,9 +339,13 @@ static void check_text(void) {
 
 static void try_hostile(void) {
     uint32_t from = room.from.at + 0x1000, end = from + AREA_LEN, k, granted = 0;
-    NcsBox *box = new_box();
+    NcsModule *large = module;
+    NcsBox *box;
+    module = new_module(2 * AREA_LEN / BUNDLE); /* so that its text is soon compared */
+    box = new_box();
     CHECK(ncs_code_calls(box, (NcsSpan){at(from), AREA_LEN}).at == NCS_CALLBACK(0));
-    for (k = 0; k < REQUESTS; k++) {
+    CHECK(codes_create_number(module, from, 1) && codes_delete(module, from) && module->live->filled == module->limit);
+    for (k = 0; k < requests; k++) {
         int made;
         remember();
         made = request_any(box, from);
@@ -352,10 +357,12 @@ static void try_hostile(void) {
             CHECK(k % 512 != 0 ? ncs_reclaim(module) < 1000 : ncs_reset(box));
         }
     }
-    CHECK(granted > REQUESTS / 20 && granted < REQUESTS / 2);
+    CHECK(granted > requests / 20 && granted < requests / 2);
     check_text();
-    CHECK(ncs_free(box) && ncs_hole(module, room.from, at(room.from.at + room.len)).len == room.len);
+    CHECK(ncs_free(box) && ncs_hole(module, at(from), at(end)).len == AREA_LEN);
     check_text();
+    ncs_module_free(module);
+    module = large;
 }
 
 /* ---- Boxes with areas */
@@ -418,10 +425,11 @@ static void step(const char *words, void (*what)(void)) {
 
 int main(int argc, char **argv) {
     (void)setvbuf(stdout, NULL, _IOLBF, 0);
-    if (argc != 2 || !read_file(argv[1])) {
+    if (argc < 2 || !read_file(argv[1])) {
         return 2;
     }
-    module = new_module();
+    requests = argc > 2 ? (uint32_t)strtoul(argv[2], NULL, 10) : requests;
+    module = new_module(ROOM_BUNDLES);
     room = ncs_room(module);
     before = malloc(module->limit);
     step("the first chunk", try_first_chunk);

@@ -10,7 +10,7 @@
 #define MEMORY_LEN 0x200000u
 #define STACK_LEN 0x8000u
 #define RUNNERS 2u
-#define ROUNDS 3000u
+#define ROUNDS 500u
 #define RESTS NCS_CALLBACK(4)
 
 static NcsModule *module;
