@@ -161,6 +161,13 @@ def compile_inner(musl, made, cc, name):
     return made_of
 
 
+def compile_code(musl, made, cc, path):
+    """The object of a source for generators of code, which sees the public headers. Its time counts more than its size."""
+    made_of = os.path.join(made, "code-%s-%s.o" % (os.path.splitext(os.path.basename(path))[0], cc))
+    nc_cc(["-c", "-O2", "-w", "-std=gnu11", "-fhosted", *including(musl, made, inner=False), path, "-o", made_of], cc)
+    return made_of
+
+
 def join(archive, objects):
     """An archive, which is there whole or not at all."""
     if os.path.exists(archive + ".new"):

@@ -1,4 +1,5 @@
-"""The C library that `tools/install --musl` installs for nc-cc: musl, with the start of programs for nc-run, its calls and a heap."""
+"""The C library that `tools/install --musl` installs for nc-cc: musl, with the start of programs for nc-run, its calls, a heap, and what
+generators of code need."""
 
 import concurrent.futures
 import glob
@@ -6,12 +7,13 @@ import os
 import tarfile
 import tempfile
 
-from making import HERE, Fault, build_objects, compile_inner, found, join, write_headers
+from making import HERE, Fault, build_objects, compile_code, compile_inner, found, join, write_headers
 
 PARTS = ("run/start.c", "run/calls.c", "run/heap.c", "run/templates.cc")
 # Of musl's own heap, what a heap of another kind needs too.
 KEPT = {"memalign.o", "posix_memalign.o", "reallocarray.o"}
 CONFIG = "templates/bits/c++config.h"
+CODE = os.path.join(HERE, "code")
 HEADERS = ("include", "arch/generic", "arch/i386")
 
 
@@ -27,10 +29,10 @@ def unpacked(path, folder):
 def headers(musl, made):
     """The public headers by their names, each from the last of the folders that has it."""
     texts = {}
-    for place in [*(os.path.join(musl, name) for name in HEADERS), os.path.join(made, "include"), os.path.join(HERE, "musl")]:
+    for place in [*(os.path.join(musl, name) for name in HEADERS), os.path.join(made, "include"), os.path.join(HERE, "musl"), CODE]:
         for path in glob.glob(os.path.join(place, "**", "*.h"), recursive=True):
             name = os.path.relpath(path, place)
-            if os.path.dirname(name) == "bits" or place == os.path.join(musl, "include"):
+            if os.path.dirname(name) == "bits" or place in (os.path.join(musl, "include"), CODE):
                 with open(path, "rb") as file:
                     texts["include/" + name] = file.read()
     return texts
@@ -48,6 +50,7 @@ def runtime(sources, cc="gcc"):
         del objects["malloc/mallocng"]
         objects["malloc"] = [path for path in objects["malloc"] if os.path.basename(path) in KEPT]
         objects["run"] = [compile_inner(musl, made, cc, name) for name in PARTS]
+        objects["code"] = [compile_code(musl, made, cc, path) for path in sorted(glob.glob(os.path.join(CODE, "*.c")))]
         files = headers(musl, made)
         for name, parts in (("libc.a", [path for paths in objects.values() for path in paths]), ("libm.a", [])):
             join(os.path.join(made, name), parts)

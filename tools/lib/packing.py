@@ -67,6 +67,7 @@ FILES = [
     ("examples/ports/trials", DOC + "examples/library/trials"),
     ("compiler/runtime/musl", DOC + "examples/library/musl"),
     ("compiler/runtime/run", DOC + "examples/library/run"),
+    ("compiler/runtime/code", DOC + "examples/library/code"),
     ("compiler/runtime/templates/bits", DOC + "examples/library/templates/bits"),
     ("compiler/runtime/musl/bits", DOC + "examples/library/musl/bits"),
 ]
