@@ -301,13 +301,14 @@ static inline uint32_t fitting(const NceCode *c, uint32_t raw, uint32_t room) {
     return room - back_to_border(c, raw + room);
 }
 
-/* Writes nops up to a place in the bundle or at its end. */
+/* Writes nops up to a place. */
 static void fill(uint8_t *to, uint32_t from, uint32_t end) {
     static const uint8_t nops[9][9] = {
         {0x90}, {0x66, 0x90}, {0x0F, 0x1F, 0x00}, {0x0F, 0x1F, 0x40, 0x00}, {0x0F, 0x1F, 0x44, 0x00, 0x00}, {0x66, 0x0F, 0x1F, 0x44, 0x00, 0x00},
         {0x0F, 0x1F, 0x80, 0, 0, 0, 0}, {0x0F, 0x1F, 0x84, 0x00, 0, 0, 0, 0}, {0x66, 0x0F, 0x1F, 0x84, 0x00, 0, 0, 0, 0}};
     while (from < end) {
-        uint32_t len = end - from < 9 ? end - from : 9;
+        uint32_t room = NCE_BUNDLE - (from & MASK), len = end - from < room ? end - from : room;
+        len = len < 9 ? len : 9;
         copy_few(to + from, nops[len - 1], len);
         from += len;
     }
