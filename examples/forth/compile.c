@@ -1,4 +1,5 @@
 /* The compiler: a word becomes a chunk, in which each token is a few instructions, and a call of another word a call of its chunk. */
+#define _GNU_SOURCE /* memmem */
 #include "forth.h"
 
 #include <nc_code.h>
@@ -164,7 +165,7 @@ int redirect(Word *word) {
     if (word->code == NULL) {
         return 1;
     }
-    return target != NULL && nc_code_patch(at, jump, nce_transfer(jump, NCE_ALWAYS, at, address_of(target)));
+    return target != NULL && nc_code_patch(at, jump, nce_transfer(jump, NCE_ALWAYS, at, address_of(target)), NULL);
 }
 
 void forget_code(Word *word) {
