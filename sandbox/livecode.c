@@ -26,12 +26,12 @@ static int nameless_file(void) {
     return file < 0 && errno == EINVAL ? memfd_create("nc_sandbox", MFD_CLOEXEC) : file;
 }
 
-/* A file for the text, or -1. Pages for its first `len` bytes are taken now, so no later store there finds no memory. */
+/* A file of this length for the text, or -1. It has no pages yet. */
 static int make_file(uint32_t len, NcsRefusal *why) {
     int file = nameless_file();
     if (file < 0 && errno != EMFILE && errno != ENFILE && errno != ENOMEM) {
         ncs_refuse(why, NCS_BAD_SYSTEM, "the system has no files in memory");
-    } else if (file < 0 || fallocate(file, 0, 0, len) != 0) {
+    } else if (file < 0 || ftruncate(file, len) != 0) {
         ncs_refuse(why, NCS_NO_MEMORY, "there is no memory for the code");
     } else {
         return file;
@@ -94,15 +94,40 @@ int ncs_live_fill(NcsModule *m, uint32_t end) {
     return show(m, to);
 }
 
-/* The zone, and a file's code, which the region has as its first chunk, with stops around it. Plain stores do, since nothing is executable
-   yet. */
-static void fill_first(const NcsModule *m, uint32_t len) {
-    uint8_t *text = m->live->writable;
-    ncs_zone_lay(text);
-    memset(text + NC_START, NC_STOP, len - NC_START);
-    if (m->image.code_len != 0) {
-        memcpy(text + m->image.code_at, m->image.bytes + m->image.code_offset, m->image.code_len);
+/* Where the file's code begins, or else the room. */
+static uint32_t first_code(const NcsModule *m) {
+    return m->image.code_len != 0 ? m->image.code_at : m->room;
+}
+
+/* Writes code to the file of the text, whose new pages get it without being cleared first. */
+static int write_code(int file, const uint8_t *code, uint32_t len, uint32_t at) {
+    while (len != 0) {
+        ssize_t wrote = pwrite(file, code, len, at);
+        if (wrote == 0 || (wrote < 0 && errno != EINTR)) {
+            return 0;
+        }
+        if (wrote > 0) {
+            code += wrote;
+            at += (uint32_t)wrote;
+            len -= (uint32_t)wrote;
+        }
     }
+    return 1;
+}
+
+/* The zone, and a file's code, which the region has as its first chunk, with stops around it. Plain stores do, since nothing is executable
+   yet. The pages below the code and those behind are there. Whether there was memory for the others. */
+static int fill_first(const NcsModule *m, int file, uint32_t len) {
+    const Image *image = &m->image;
+    uint32_t begin = first_code(m), end = begin + image->code_len;
+    uint8_t *text = m->live->writable;
+    if (!write_code(file, image->bytes + image->code_offset, image->code_len, begin)) {
+        return 0;
+    }
+    ncs_zone_lay(text);
+    memset(text + NC_START, NC_STOP, begin - NC_START);
+    memset(text + end, NC_STOP, len - end);
+    return 1;
 }
 
 /* Under ncs_lock. What is executed can never be written, and what is written never executed. */
@@ -112,21 +137,24 @@ static int map_executable(NcsModule *m, uint32_t len) {
     return m->selector != 0 && show(m, len);
 }
 
-/* Maps the text. Its first `len` bytes have pages; all of it, where the system can't take pages later. */
-static int map_text(NcsModule *m, int file, uint32_t len) {
+/* The pages up to the file's code; or all, where the system can't take some later. How much of the text has pages then, or 0. */
+static uint32_t take_first(const NcsModule *m, int file) {
+    if (take_pages(m->live->writable, (first_code(m) + PAGE - 1) / PAGE * PAGE)) {
+        return m->room;
+    }
+    return errno == EINVAL && fallocate(file, 0, 0, m->limit) == 0 ? m->limit : 0;
+}
+
+/* Maps the text. What is below the room has pages. */
+static int map_text(NcsModule *m, int file) {
+    uint32_t len;
     int made;
     m->live->writable = map_high(file, m->limit, PROT_READ | PROT_WRITE);
     m->live->staged = m->live->writable != NULL ? map_high(file, m->limit, PROT_READ | PROT_EXEC) : NULL;
-    if (m->live->staged == NULL) {
+    len = m->live->staged != NULL ? take_first(m, file) : 0;
+    if (len == 0 || !fill_first(m, file, len)) {
         return 0;
     }
-    if (!take_pages(m->live->writable, len)) {
-        len = m->limit;
-    }
-    if (fallocate(file, 0, 0, len) != 0) {
-        return 0;
-    }
-    fill_first(m, len);
     (void)pthread_mutex_lock(&ncs_lock);
     made = map_executable(m, len);
     (void)pthread_mutex_unlock(&ncs_lock);
@@ -144,11 +172,11 @@ static int make_text(NcsModule *m, NcsRefusal *why) {
         ncs_refuse(why, NCS_BAD_SYSTEM, "the system has no membarrier that makes processors serialize");
         return 0;
     }
-    file = make_file(m->room, why);
+    file = make_file(m->limit, why);
     if (file < 0) {
         return 0;
     }
-    made = ftruncate(file, m->limit) == 0 && map_text(m, file, m->room);
+    made = map_text(m, file);
     (void)close(file);
     if (!made) {
         ncs_refuse(why, NCS_NO_MEMORY, "there is no room for the code, below 4 GiB and above, or no segment left");
