@@ -322,7 +322,7 @@ static void try_system(void) {
     refuse_module(SYS_membarrier, EINVAL, NCS_BAD_SYSTEM);
     refuse_module(SYS_memfd_create, ENOSYS, NCS_BAD_SYSTEM);
     refuse_module(SYS_memfd_create, EMFILE, NCS_NO_MEMORY);
-    refuse_module(SYS_fallocate, ENOSPC, NCS_NO_MEMORY);
+    refuse_module(SYS_ftruncate, ENOSPC, NCS_NO_MEMORY);
     refuse_module(SYS_madvise, EINVAL, NCS_NO_MEMORY);
     watching_advice = MADV_POPULATE_WRITE; /* as before Linux 5.14: all pages are taken at once */
     watching_refuse = SYS_madvise;
@@ -330,6 +330,10 @@ static void try_system(void) {
     m = ncs_module_live(BUNDLES, 4, NULL);
     CHECK(m != NULL && watching_times == 0 && m->live->filled == m->limit && codes_create_number(m, HERE, 5));
     ncs_module_free(m);
+    watching_no_room = 1;
+    refuse_module(SYS_madvise, EINVAL, NCS_NO_MEMORY);
+    watching_no_room = 0;
+    refuse_module(SYS_madvise, ENOMEM, NCS_NO_MEMORY);
     watching_advice = 0;
     refuse_module(SYS_modify_ldt, ENOMEM, NCS_NO_MEMORY);
     watching_refuse = SYS_memfd_create; /* as an older kernel does, which doesn't know all flags */

@@ -89,6 +89,14 @@ static int make_live(unsigned nth, int later, int *which) {
     return outcome(made_module != NULL, *which, &why);
 }
 
+static int make_live_file(unsigned nth, int later, int *which) {
+    NcsRefusal why;
+    refusing_begin(nth, later);
+    made_module = ncs_module_live_elf(file, file_len, 2, 2, &why);
+    *which = refusing_end();
+    return outcome(made_module != NULL, *which, &why);
+}
+
 /* The first change of a module, whose text has no page for it yet. */
 static int make_growth(unsigned nth, int later, int *which) {
     NcsRefusal why;
@@ -366,6 +374,7 @@ int main(void) {
                                        {"many calls", make_many_calls, undo_nothing},
                                        {"a reset", make_reset, undo_nothing},
                                        {"live code", make_live, undo_module},
+                                       {"live code that begins as a file", make_live_file, undo_module},
                                        {"a creation where no page is", make_growth, undo_module},
                                        {"a creation", make_creation, undo_creation},
                                        {"a patch", make_patch, undo_patch},

@@ -147,6 +147,10 @@ REAL(int, ftruncate, int file, off_t len) {
     return refuses(REFUSES_ftruncate) ? -1 : __real_ftruncate(file, len);
 }
 
+REAL(ssize_t, pwrite, int file, const void *from, size_t len, off_t at) {
+    return refuses(REFUSES_pwrite) ? -1 : __real_pwrite(file, from, len, at);
+}
+
 REAL(int, close, int file) {
     int got = __real_close(file);
     count(&files, -(got == 0));

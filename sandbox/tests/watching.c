@@ -13,7 +13,7 @@ NcsModule *watching_module;
 Step watching_steps[STEPS];
 unsigned watching_count, watching_fail_serializations;
 uint8_t *watching_lent;
-int watching_refuse, watching_times, watching_errno, watching_advice;
+int watching_refuse, watching_times, watching_errno, watching_advice, watching_no_room;
 long watching_fail_after = -1;
 
 static int is_locked(Live *live) {
@@ -49,7 +49,11 @@ REAL(int, memfd_create, const char *name, unsigned flags) {
 }
 
 REAL(int, fallocate, int file, int mode, off_t from, off_t len) {
-    return refuses(SYS_fallocate) ? -1 : __real_fallocate(file, mode, from, len);
+    return watching_no_room || refuses(SYS_fallocate) ? (errno = ENOSPC, -1) : __real_fallocate(file, mode, from, len);
+}
+
+REAL(int, ftruncate, int file, off_t len) {
+    return refuses(SYS_ftruncate) ? -1 : __real_ftruncate(file, len);
 }
 
 REAL(int, madvise, void *at, size_t len, int advice) {

@@ -22,6 +22,7 @@ extern uint8_t *watching_lent; /* a byte of code that becomes a return once the 
 extern int watching_refuse; /* the number of a call of the system that is refused so many times, with this error; 0 for none */
 extern int watching_times, watching_errno;
 extern int watching_advice; /* of madvise only this one is refused, or 0 */
+extern int watching_no_room; /* whether files in memory get none */
 extern long watching_fail_after; /* so many allocations succeed, and one fails; below 0 none does */
 
 #endif
