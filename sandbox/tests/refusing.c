@@ -210,8 +210,10 @@ REAL(int, timer_delete, timer_t timer) {
     return got;
 }
 
+/* To stop a timer, which a tick may do at any moment, isn't refused. */
 REAL(int, timer_settime, timer_t timer, int flags, const struct itimerspec *to, struct itimerspec *was) {
-    return refuses(REFUSES_timer_settime) ? -1 : __real_timer_settime(timer, flags, to, was);
+    int stops = to->it_value.tv_sec == 0 && to->it_value.tv_nsec == 0;
+    return !stops && refuses(REFUSES_timer_settime) ? -1 : __real_timer_settime(timer, flags, to, was);
 }
 
 /* Of a modify_ldt that empties an entry. */
