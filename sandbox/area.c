@@ -120,8 +120,18 @@ static NcChunk chunk_at(Live *live, uint32_t at) {
     return found;
 }
 
+/* Another thread may be giving it. */
+static NcsSpan area_of(const Memory *memory) {
+    NcsSpan area;
+    (void)pthread_mutex_lock(&ncs_lock);
+    area = memory->area;
+    (void)pthread_mutex_unlock(&ncs_lock);
+    return area;
+}
+
 int ncs_area_clear(NcsBox *b) {
-    uint32_t at = b->memory->area.from.at, end = at + b->memory->area.len;
+    NcsSpan area = area_of(b->memory);
+    uint32_t at = area.from.at, end = at + area.len;
     while (at < end) {
         NcChunk found = chunk_at(b->module->live, at);
         if (found.fault != NC_OK || found.base >= end) {
@@ -144,7 +154,20 @@ static int is_room(const NcsModule *m, NcsSpan area) {
 }
 
 static int is_same(NcsSpan a, NcsSpan b) {
-    return a.from.at == b.from.at && a.len == b.len;
+    return a.len == b.len && (a.len == 0 || a.from.at == b.from.at);
+}
+
+/* Whether the memory has this area now. It has one for good, since threads that have it look at it without a lock. */
+static int give_area(Memory *memory, NcsSpan area) {
+    int given;
+    (void)pthread_mutex_lock(&ncs_lock);
+    if (!memory->has_area) {
+        memory->area = area;
+        memory->has_area = 1;
+    }
+    given = is_same(memory->area, area);
+    (void)pthread_mutex_unlock(&ncs_lock);
+    return given;
 }
 
 NcsAt ncs_code_calls(NcsBox *b, NcsSpan area) {
@@ -153,13 +176,11 @@ NcsAt ncs_code_calls(NcsBox *b, NcsSpan area) {
         unsigned args;
     } calls[] = {{call_hole, 2}, {call_create, 3}, {call_patch, 3}, {call_delete, 1}};
     const unsigned count = sizeof calls / sizeof *calls;
-    NcsSpan *had = &b->memory->area;
     NcsAt first = {0};
     unsigned k;
-    if (!is_room(b->module, area) || (had->len != 0 && !is_same(*had, area)) || b->callback_count + count > NCS_CALLBACKS) {
+    if (!is_room(b->module, area) || b->callback_count + count > NCS_CALLBACKS || !give_area(b->memory, area)) {
         return first;
     }
-    *had = area;
     for (k = 0; k < count; k++) {
         NcsAt at = ncs_callback(b, calls[k].function, NULL, calls[k].args);
         first = k == 0 ? at : first;

@@ -2,9 +2,13 @@
 #define _GNU_SOURCE
 #include "inner.h"
 
+#include <sched.h>
 #include <stdlib.h>
 #include <string.h>
 #include <sys/mman.h>
+
+/* No threads, but owners of boxes: of one that is being freed, and of all on a memory that is being reset. */
+static Thread nobody, resetter;
 
 int ncs_box_has(const NcsBox *b, uint64_t at, uint64_t len) {
     return at >= DATA_LEAST && at <= b->limits.memory && len <= b->limits.memory - at;
@@ -62,11 +66,13 @@ static int map_memory(NcsBox *b) {
     return mapped && mprotect(ncs_box_data(b, DATA_LEAST), len - DATA_LEAST, PROT_READ | PROT_WRITE) == 0;
 }
 
+/* A reset that is under way has this box too. */
 static void join(NcsBox *b, Memory *memory) {
     b->memory = memory;
     b->data_at = memory->at;
     (void)pthread_mutex_lock(&ncs_lock);
     b->module->users++;
+    b->owner = memory->boxes != NULL && __atomic_load_n(&memory->boxes->owner, __ATOMIC_SEQ_CST) == &resetter ? &resetter : NULL;
     b->next = memory->boxes;
     memory->boxes = b;
     (void)pthread_mutex_unlock(&ncs_lock);
@@ -125,9 +131,9 @@ NcsBox *ncs_box_beside(NcsBox *of, NcsAt stack, uint32_t depth, uint32_t millise
         free(b);
         return ncs_refuse(why, NCS_BAD_LIMITS, "the stack doesn't begin in the box's memory, at a multiple of 16");
     }
-    join(b, of->memory);
     b->stack = stack.at;
     revive(b);
+    join(b, of->memory);
     ncs_refuse(why, NCS_OK, "nothing is refused");
     return b;
 }
@@ -164,13 +170,24 @@ static int leave(NcsBox *b) {
     return made;
 }
 
-/* It is claimed for nobody, and never released. */
+/* Whether it is claimed for nobody. A reset by a box beside it is waited for. */
+static int claim_to_free(NcsBox *b) {
+    while (!ncs_box_claim(b, &nobody)) {
+        const Thread *owner = __atomic_load_n(&b->owner, __ATOMIC_SEQ_CST);
+        if (owner != NULL && owner != &resetter) {
+            return 0;
+        }
+        (void)sched_yield();
+    }
+    return 1;
+}
+
+/* It is never released. */
 int ncs_free(NcsBox *b) {
-    static Thread nobody;
     if (b == NULL) {
         return 1;
     }
-    if (!ncs_module_is_ours(b->module) || !ncs_box_claim(b, &nobody)) {
+    if (!ncs_module_is_ours(b->module) || !claim_to_free(b)) {
         return 0;
     }
     if (!leave(b)) {
@@ -184,9 +201,9 @@ int ncs_free(NcsBox *b) {
 }
 
 /* Under ncs_lock. Claims all boxes of the memory, or none. */
-static int claim_all(Memory *memory, Thread *t) {
+static int claim_all(Memory *memory) {
     NcsBox *b = memory->boxes, *back;
-    while (b != NULL && ncs_box_claim(b, t)) {
+    while (b != NULL && ncs_box_claim(b, &resetter)) {
         b = b->next;
     }
     for (back = memory->boxes; b != NULL && back != b; back = back->next) {
@@ -195,26 +212,23 @@ static int claim_all(Memory *memory, Thread *t) {
     return b == NULL;
 }
 
-/* Under ncs_lock. Gives back those that were claimed. */
-static void release_all(Memory *memory, const Thread *t, int dead) {
+/* Under ncs_lock. Gives them back. */
+static void release_all(Memory *memory, int dead) {
     NcsBox *b;
     for (b = memory->boxes; b != NULL; b = b->next) {
-        if (__atomic_load_n(&b->owner, __ATOMIC_RELAXED) == t) {
-            revive(b);
-            b->dead = dead;
-            ncs_box_release(b);
-        }
+        revive(b);
+        b->dead = dead;
+        ncs_box_release(b);
     }
 }
 
 int ncs_reset(NcsBox *b) {
-    static Thread somebody;
     int made;
     if (!ncs_module_is_ours(b->module)) {
         return 0;
     }
     (void)pthread_mutex_lock(&ncs_lock);
-    made = claim_all(b->memory, &somebody);
+    made = claim_all(b->memory);
     (void)pthread_mutex_unlock(&ncs_lock);
     if (!made) {
         return 0;
@@ -224,7 +238,7 @@ int ncs_reset(NcsBox *b) {
         fill(b);
     }
     (void)pthread_mutex_lock(&ncs_lock);
-    release_all(b->memory, &somebody, !made);
+    release_all(b->memory, !made);
     (void)pthread_mutex_unlock(&ncs_lock);
     return made;
 }

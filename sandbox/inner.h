@@ -243,7 +243,8 @@ struct NcsModule {
 typedef struct Memory {
     uint32_t at, selector;
     uint32_t heap;  /* where its free part begins; atomic */
-    NcsSpan area;   /* in which their code may change code */
+    NcsSpan area;   /* in which their code may change code; written once, under ncs_lock */
+    int has_area;   /* under ncs_lock */
     NcsBox *boxes;  /* a list by `next`, under ncs_lock */
 } Memory;
 

@@ -189,8 +189,8 @@ NcsBox *ncs_box_new(NcsModule *module, const NcsLimits *limits, NcsRefusal *why)
 NcsBox *ncs_box_beside(NcsBox *box, NcsAt stack, uint32_t depth, uint32_t milliseconds, NcsRefusal *why);
 
 /* Gives a box its first memory again, deletes the code that it has made, and revives it. Its call-backs stay. Returns 1 if that is done.
-   While a call of the box or of one beside it is under way it returns 0, and does nothing. If the system refuses, it returns 0, and the box
-   is dead. All this holds for the boxes beside it too. */
+   While a call or another reset of the box or of one beside it is under way it returns 0, and does nothing. If the system refuses, it
+   returns 0, and the box is dead. All this holds for the boxes beside it too. */
 int ncs_reset(NcsBox *box);
 
 /* Ends the call that is under way, with the calls that its call-backs have made, or else the next one, with NCS_KILLED. Any thread may ask
@@ -240,7 +240,8 @@ enum {
     NCS_DENIED,    /* * by ncs_deny */
     NCS_TOO_DEEP,  /* the thread has too many calls under way, and nothing was entered */
     NCS_DEAD,      /* an earlier call has left the box dead, and nothing was entered */
-    NCS_BUSY,      /* another thread is in a call of the box, or as many of its module as may be are under way; nothing was entered */
+    NCS_BUSY,      /* another thread is in a call of the box or resets it, or as many calls of its module as may be are under way; nothing
+                      was entered */
     NCS_HOST       /* too many arguments, a thread that can't be prepared or has lost its alternate stack, a signal of the library with
                       another handler, or a box of before a fork; * one of these is found while the call is under way, or a call-back
                       didn't return */

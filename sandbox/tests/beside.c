@@ -134,11 +134,61 @@ static void try_limits(void) {
     CHECK(!ncs_reset(box) && !ncs_reset(killed) && call(box, "seven", 0, 0, 0).result == 7 && call(killed, "seven", 0, 0, 0).how == NCS_BUSY);
     begin(&other, box, "run_often", name("seven").at, 7, 0);
     ncs_kill(killed);
-    CHECK(how_ends(&one) == NCS_KILLED && call(killed, "seven", 0, 0, 0).how == NCS_DEAD && !ncs_reset(late));
+    CHECK(how_ends(&one) == NCS_KILLED && call(killed, "seven", 0, 0, 0).how == NCS_DEAD);
+    store(box, 1, 0);
+    until_inside(box);
+    CHECK(!ncs_reset(late));
     store(box, 0, 1);
     CHECK(how_ends(&other) == NCS_RETURNED && other.end.result == 0 && ncs_reset(late) && call(killed, "seven", 0, 0, 0).result == 7);
     CHECK(ncs_free(killed) && ncs_free(late) && ncs_free(box));
     puts("limits and kills");
+}
+
+static int is_over;
+static uint32_t resets;
+
+static void *reset_often(void *box) {
+    while (!__atomic_load_n(&is_over, __ATOMIC_SEQ_CST)) {
+        __atomic_fetch_add(&resets, (uint32_t)ncs_reset(box), __ATOMIC_SEQ_CST);
+        (void)sched_yield();
+    }
+    return NULL;
+}
+
+/* Whether a box that was just made returns a number, or isn't entered, since its memory is being reset. */
+static int has_returned(NcsBox *box) {
+    NcsEnd end = call(box, "seven", 0, 0, 0);
+    CHECK(end.how == NCS_BUSY || (end.how == NCS_RETURNED && end.result == 7));
+    return end.how == NCS_RETURNED;
+}
+
+/* Boxes are made, called and freed beside one that another thread resets. */
+static void try_resets(void) {
+    NcsBox *box = new_box(LONG);
+    pthread_t thread;
+    uint32_t returned = 0, k;
+    if (pthread_create(&thread, NULL, reset_often, box) != 0) {
+        abort();
+    }
+    for (k = 0; k < ROUNDS || returned == 0 || __atomic_load_n(&resets, __ATOMIC_SEQ_CST) < ROUNDS; k++) {
+        NcsBox *other = ncs_box_beside(box, (NcsAt){MEMORY_LEN}, 2, LONG, NULL);
+        returned += (uint32_t)has_returned(other);
+        CHECK(ncs_free(other));
+    }
+    __atomic_store_n(&is_over, 1, __ATOMIC_SEQ_CST);
+    CHECK(pthread_join(thread, NULL) == 0 && ncs_reset(box) && ncs_free(box));
+    puts("resets");
+}
+
+/* A memory has its area for good. */
+static void try_areas(void) {
+    NcsSpan room = ncs_room(module), half = {room.from, room.len / 64 * 32}, none = {{0}, 0};
+    NcsBox *box = new_box(SHORT), *other = beside(box, SHORT), *poor = new_box(SHORT), *poorer = beside(poor, SHORT);
+    CHECK(ncs_code_calls(box, half).at == NCS_CALLBACK(0) && ncs_code_calls(other, room).at == 0 && ncs_code_calls(other, none).at == 0);
+    CHECK(ncs_code_calls(other, half).at == NCS_CALLBACK(0) && ncs_code_calls(poor, none).at == NCS_CALLBACK(0));
+    CHECK(ncs_code_calls(poorer, half).at == 0 && ncs_code_calls(poorer, (NcsSpan){room.from, 0}).at == NCS_CALLBACK(0));
+    CHECK(ncs_free(box) && ncs_free(other) && ncs_free(poor) && ncs_free(poorer));
+    puts("areas");
 }
 
 /* The compiler makes a chunk, and publishes it; the runners execute what was published last, and count; once each has counted twice, nobody
@@ -194,6 +244,8 @@ int main(int argc, char **argv) {
     try_memory();
     try_refusals();
     try_limits();
+    try_resets();
+    try_areas();
     try_generators();
     ncs_module_free(module);
     printf("%u wrong\n", testing_wrong);
