@@ -3,7 +3,7 @@
 use crate::ffi;
 use crate::shared::Shared;
 use crate::words::Words;
-use crate::{Args, At, End, Refusal, Returned};
+use crate::{Args, At, Common, End, Memory, Own, Refusal, Returned, Sandbox};
 use std::panic::resume_unwind;
 use std::slice;
 
@@ -34,7 +34,20 @@ pub(crate) mod sealed {
 ///     Some(range[0])
 /// }
 /// ```
+///
+/// Nobody looks at a range of common memory, in which other threads may be:
+///
+/// ```compile_fail,E0271
+/// # use nc_sandbox::{Access, At, Common, Sandbox};
+/// fn look(sandbox: &Sandbox<Common>, at: At) -> Option<u8> {
+///     let range = sandbox.bytes(at, 4).ok()?;
+///     Some(range[0])
+/// }
+/// ```
 pub trait Access: sealed::Inside {
+    /// Whose memory it is: [`Own`] or [`Common`].
+    type Memory: Memory;
+
     /// `ncs_call`: calls a function of the box with a tuple of arguments, such as `(at, 5u32)`, or with words. It returns a number as an
     /// [`Untrusted`](crate::Untrusted), an address as an [`At`], or nothing.
     ///
@@ -54,26 +67,37 @@ pub trait Access: sealed::Inside {
     }
 
     /// `ncs_at`: a range of the box's memory, to be read where it is. The bytes are whatever the code has written.
-    fn bytes(&self, at: At, len: usize) -> Result<&[u8], Refusal> {
+    fn bytes(&self, at: At, len: usize) -> Result<&[u8], Refusal>
+    where
+        Self: Access<Memory = Own>,
+    {
         let data = range(self.shared(), at, len)?;
         // SAFETY: "Outside", as long as `self` is borrowed. All of the range is memory that can be read, and stays until the box is freed.
         Ok(unsafe { slice::from_raw_parts(data, len) })
     }
 
     /// `ncs_at`: a range of the box's memory, to be changed where it is.
-    fn bytes_mut(&mut self, at: At, len: usize) -> Result<&mut [u8], Refusal> {
+    fn bytes_mut(&mut self, at: At, len: usize) -> Result<&mut [u8], Refusal>
+    where
+        Self: Access<Memory = Own>,
+    {
         let data = range(self.shared(), at, len)?;
         // SAFETY: as above, and the range can be written. Nobody has another range, since `self` is borrowed by `&mut`.
         Ok(unsafe { slice::from_raw_parts_mut(data, len) })
     }
 
-    /// Copies out of the box, until `to` is full, as `ncs_get` does. It makes the call `ncs_at`.
+    /// `ncs_get`: copies out of the box, until `to` is full.
     fn get(&self, to: &mut [u8], at: At) -> Result<(), Refusal> {
-        to.copy_from_slice(self.bytes(at, to.len())?);
+        let len = u32::try_from(to.len()).map_err(|_| Refusal::NotInBox { at })?;
+        // SAFETY: "Outside" or "Copied", and `to` has room for as many bytes as are named.
+        let copied = unsafe { ffi::ncs_get(self.shared().raw(), to.as_mut_ptr().cast(), at.raw(), len) };
+        if copied == 0 {
+            return Err(Refusal::NotInBox { at });
+        }
         Ok(())
     }
 
-    /// Reads an integer or an address of the box's memory, as `call` returns it. It makes the call `ncs_at`.
+    /// Reads an integer or an address of the box's memory, as `call` returns it. It makes the call `ncs_get`.
     fn read<R: Returned>(&self, at: At) -> Result<R, Refusal> {
         let mut word = [0; 8];
         self.get(&mut word[..size_of::<R>()], at)?;
@@ -81,16 +105,22 @@ pub trait Access: sealed::Inside {
         Ok(R::of(bits as u32, (bits >> 32) as u32))
     }
 
-    /// Copies all of `from` into the box, as `ncs_set` does. It makes the call `ncs_at`.
+    /// `ncs_set`: copies all of `from` into the box.
     fn set(&mut self, at: At, from: &[u8]) -> Result<(), Refusal> {
-        self.bytes_mut(at, from.len())?.copy_from_slice(from);
+        let len = u32::try_from(from.len()).map_err(|_| Refusal::NotInBox { at })?;
+        // SAFETY: "Outside" or "Copied", and nobody has a range of it, since `self` is borrowed by `&mut`. `from` has as many bytes as are
+        // named.
+        let copied = unsafe { ffi::ncs_set(self.shared().raw(), at.raw(), from.as_ptr().cast(), len) };
+        if copied == 0 {
+            return Err(Refusal::NotInBox { at });
+        }
         Ok(())
     }
 
     /// `ncs_text`: copies a text up to its 0, which isn't copied, and cuts it to `most` bytes.
     fn text(&self, at: At, most: usize) -> Result<Vec<u8>, Refusal> {
         let mut to = vec![0; most.min(ffi::NCS_MEMORY_MAX as usize) + 1];
-        // SAFETY: "Outside", and `to` has room for as many bytes as are named.
+        // SAFETY: "Outside" or "Copied", and `to` has room for as many bytes as are named.
         let len = unsafe { ffi::ncs_text(self.shared().raw(), to.as_mut_ptr().cast(), to.len(), at.raw()) };
         to.truncate(usize::try_from(len).map_err(|_| Refusal::NotInBox { at })?);
         Ok(to)
@@ -107,11 +137,37 @@ pub trait Access: sealed::Inside {
         }
     }
 
-    /// Takes room for these bytes, and copies them there, as `ncs_put` does. It makes the calls `ncs_take` and `ncs_at`.
+    /// Takes room for these bytes, and copies them there, as `ncs_put` does. It makes the calls `ncs_take` and `ncs_set`.
     fn put(&mut self, from: &[u8]) -> Result<At, Refusal> {
         let at = self.take(from.len())?;
         self.set(at, from)?;
         Ok(at)
+    }
+
+    /// `ncs_box_beside`: a box beside this one, whose memory both use. Another thread may be in it at the same time. Its stack grows down
+    /// from `stack`, a multiple of 16 in that memory. It may have `depth` calls under way, and a call gets so many milliseconds.
+    ///
+    /// ```
+    /// # use nc_sandbox::{Access, At, Common, End, Refusal, Sandbox};
+    /// # use std::thread;
+    /// fn both(sandbox: &mut Sandbox<Common>, function: At) -> Result<[Result<(), End>; 2], Refusal> {
+    ///     const STACK: u32 = 0x10000;
+    ///     let top = sandbox.take(STACK as usize)?.offset(STACK);
+    ///     let mut other = sandbox.beside(top, 4, 1000)?;
+    ///     Ok(thread::scope(|scope| {
+    ///         let works = scope.spawn(move || other.call(function, (1,)));
+    ///         [sandbox.call(function, (0,)), works.join().expect("it doesn't panic")]
+    ///     }))
+    /// }
+    /// ```
+    fn beside(&self, stack: At, depth: u32, milliseconds: u32) -> Result<Sandbox<Common>, Refusal>
+    where
+        Self: Access<Memory = Common>,
+    {
+        let of = self.shared().raw();
+        // SAFETY: "Freed once". The pointer leads to a refusal. The library keeps the memory as long as the last box on it.
+        let made = Refusal::or(|why| unsafe { ffi::ncs_box_beside(of, stack.raw(), depth, milliseconds, why) })?;
+        Ok(Sandbox::of(made))
     }
 }
 

@@ -62,7 +62,8 @@ pub enum End {
     TooDeep,
     /// An earlier call has left the box dead, and nothing was entered.
     Dead,
-    /// 255 calls of boxes of a live module are under way, and nothing was entered.
+    /// As many calls of boxes of a live module as may be are under way, or a box beside this one is resetting their memory. Nothing was
+    /// entered.
     Busy,
     /// Too many arguments, a thread that can't be prepared, has lost its alternate stack or is about to end, a signal of the library's with
     /// another handler, or a box of before a fork. Nothing was entered, unless one of these was found while the call was under way. A

@@ -41,6 +41,7 @@ pub const NCS_ARGS_MAX: u32 = 16;
 pub const NCS_CALLBACKS: u32 = 64;
 pub const NCS_CALLBACK_ARGS: u32 = 12;
 pub const NCS_EXIT: u32 = 0x40;
+pub const NCS_FAULT_CODE: u32 = 256;
 
 pub const NCS_WALL_CALLS: u32 = 256;
 pub const NCS_NO_WALL: u32 = 0;
@@ -75,6 +76,21 @@ pub struct NcsRefusal {
     pub fault: u32,
     pub at: u32,
     pub sentence: *const c_char,
+}
+
+#[repr(C)]
+#[derive(Clone, Copy, Debug)]
+pub struct NcsSpan {
+    pub from: NcsAt,
+    pub len: u32,
+}
+
+#[repr(C)]
+#[derive(Clone, Copy, Debug)]
+pub struct NcsHole {
+    pub at: NcsAt,
+    pub len: u32,
+    pub held: u32,
 }
 
 #[repr(C)]
@@ -124,7 +140,15 @@ extern "C" {
     pub fn ncs_function_at(module: *const NcsModule, at: NcsAt, offset: *mut u32) -> *const c_char;
     pub fn ncs_function_in(file: *const c_void, len: usize, at: NcsAt, offset: *mut u32) -> *const c_char;
     pub fn ncs_module_free(module: *mut NcsModule);
-    pub fn ncs_module_live(bundles: u32, why: *mut NcsRefusal) -> *mut NcsModule;
+    pub fn ncs_module_live(bundles: u32, calls: u32, why: *mut NcsRefusal) -> *mut NcsModule;
+    pub fn ncs_module_live_elf(
+        file: *const c_void,
+        len: usize,
+        bundles: u32,
+        calls: u32,
+        why: *mut NcsRefusal,
+    ) -> *mut NcsModule;
+    pub fn ncs_room(module: *const NcsModule) -> NcsSpan;
     pub fn ncs_create(
         module: *mut NcsModule,
         base: NcsAt,
@@ -136,7 +160,15 @@ extern "C" {
         -> c_int;
     pub fn ncs_delete(module: *mut NcsModule, base: NcsAt, why: *mut NcsRefusal) -> c_int;
     pub fn ncs_reclaim(module: *mut NcsModule) -> u32;
+    pub fn ncs_hole(module: *mut NcsModule, from: NcsAt, to: NcsAt) -> NcsHole;
     pub fn ncs_box_new(module: *mut NcsModule, limits: *const NcsLimits, why: *mut NcsRefusal) -> *mut NcsBox;
+    pub fn ncs_box_beside(
+        box_: *mut NcsBox,
+        stack: NcsAt,
+        depth: u32,
+        milliseconds: u32,
+        why: *mut NcsRefusal,
+    ) -> *mut NcsBox;
     pub fn ncs_reset(box_: *mut NcsBox) -> c_int;
     pub fn ncs_kill(box_: *mut NcsBox);
     pub fn ncs_free(box_: *mut NcsBox) -> c_int;
@@ -144,6 +176,7 @@ extern "C" {
     pub fn ncs_how(how: u32) -> *const c_char;
     pub fn ncs_call(box_: *mut NcsBox, function: NcsAt, count: c_uint, args: *const u32) -> NcsEnd;
     pub fn ncs_callback(box_: *mut NcsBox, function: NcsCallback, user: *mut c_void, args: c_uint) -> NcsAt;
+    pub fn ncs_code_calls(box_: *mut NcsBox, area: NcsSpan) -> NcsAt;
     pub fn ncs_deny(box_: *mut NcsBox);
     pub fn ncs_at(box_: *mut NcsBox, at: NcsAt, len: u32) -> *mut c_void;
     pub fn ncs_set(box_: *mut NcsBox, at: NcsAt, from: *const c_void, len: u32) -> c_int;

@@ -5,7 +5,7 @@
 //!
 //! A [`Module`] is code that was accepted, with its data. A [`Sandbox`] is a box, an instance of a module. By [`Access`] its owner calls
 //! it, and reads and writes its memory. Call-backs are closures, which get a [`Caller`] that can do the same. A [`Killer`] ends calls from
-//! other threads.
+//! other threads. Boxes beside one another, by [`Access::beside`], have [`Common`] memory, in which several threads can be at once.
 //!
 //! What comes out of a box may be anything. A number is an [`Untrusted`], and gives its value only to a check. An address is an [`At`],
 //! which only calls of a box can follow. A range of bytes stays a slice of `u8`, since bytes mean nothing yet. What is made of them is
@@ -44,6 +44,7 @@ mod end;
 #[allow(missing_docs)]
 pub mod ffi;
 mod live;
+mod memory;
 mod module;
 mod refusal;
 mod sandbox;
@@ -57,6 +58,8 @@ mod words;
 pub use access::Access;
 pub use callback::Caller;
 pub use end::End;
+pub use live::{CodeSpan, Hole};
+pub use memory::{Common, Memory, Own};
 pub use module::Module;
 pub use refusal::Refusal;
 pub use sandbox::{Killer, Limits, Sandbox};

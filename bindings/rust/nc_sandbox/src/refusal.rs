@@ -35,7 +35,8 @@ pub enum Refusal {
     NoMemory(&'static str),
     /// The system refuses what boxes need, or the module or process has forked. The sentence says what.
     BadSystem(&'static str),
-    /// The module isn't one of [`Module::live`](crate::Module::live), so its code never changes.
+    /// The module isn't one of [`Module::live`](crate::Module::live) or [`Module::live_elf`](crate::Module::live_elf), so its code never
+    /// changes.
     NotLive,
     /// `nc_host` refuses a change of live code.
     BadChange {
@@ -58,7 +59,10 @@ pub enum Refusal {
     NoRoom,
     /// The box has 64 call-backs, or the one that was to be given has more than 12 arguments.
     NoCallback,
-    /// The system has refused to reset the box, which is now dead. Or this is a forked child, and nothing was done.
+    /// The area isn't bundles of the module's room. Or the box has another one, or no four call-backs left.
+    NoArea,
+    /// The system has refused to reset the box, which is now dead. Or nothing was done, since this is a forked child, or since a call or
+    /// another reset of a box beside this one is under way.
     NotReset,
     /// A kind that this crate doesn't know, from a newer library.
     Other(&'static str),
@@ -116,7 +120,8 @@ impl fmt::Display for Refusal {
             Refusal::NotInBox { at } => write!(f, "what begins at {at} isn't all the box's"),
             Refusal::NoRoom => f.write_str("the heap of the box has no room for this"),
             Refusal::NoCallback => f.write_str("the box has 64 call-backs, or this one has more than 12 arguments"),
-            Refusal::NotReset => f.write_str("the system has refused to reset the box"),
+            Refusal::NoArea => f.write_str("the area isn't in the room, or the box can't have this one"),
+            Refusal::NotReset => f.write_str("the system has refused to reset the box, or one beside it is in use"),
             Refusal::BadFile(sentence)
             | Refusal::BadLimits(sentence)
             | Refusal::NoMemory(sentence)

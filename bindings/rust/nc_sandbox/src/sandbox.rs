@@ -2,12 +2,13 @@
 
 use crate::access::sealed::Inside;
 use crate::callback::{serve, Slot};
-use crate::ffi::{self, NcsLimits};
+use crate::ffi::{self, NcsBox, NcsLimits};
 use crate::shared::Shared;
-use crate::{stack, Access, At, Caller, Module, Refusal, Untrusted, Word};
+use crate::{stack, Access, At, Caller, CodeSpan, Common, Memory, Module, Own, Refusal, Untrusted, Word};
 use std::cell::Cell;
 use std::fmt;
 use std::marker::PhantomData;
+use std::ptr::NonNull;
 use std::sync::{Arc, Weak};
 
 /// What a box may use.
@@ -22,7 +23,8 @@ pub struct Limits {
 }
 
 /// A box: an instance of a module, with data, heap and stack of its own. By [`Access`] its functions are called, and its memory is read and
-/// written. Dropping it is `ncs_free`.
+/// written. Dropping it is `ncs_free`. Boxes that have [`Common`] memory have everything but call-backs, limits and stack in common with
+/// those [beside](Access::beside) them.
 ///
 /// It may go to another thread, but no two threads may use it at once, not even to look. It can't be copied, and a range of its memory
 /// can't outlive it:
@@ -46,21 +48,40 @@ pub struct Limits {
 ///     Some(range[0])
 /// }
 /// ```
-pub struct Sandbox {
+pub struct Sandbox<M = Own> {
     /// What the library has the addresses of, until the box is freed or can't be called any more.
-    slots: Vec<Arc<Slot>>,
+    slots: Vec<Arc<Slot<M>>>,
     shared: Arc<Shared>,
-    one_thread: PhantomData<Cell<()>>,
+    one_thread: PhantomData<Cell<M>>,
 }
 
-impl Sandbox {
+impl Sandbox<Own> {
     /// `ncs_box_new`: a box with its data as the file has it, and all other memory 0.
-    pub fn new(module: &Module, limits: Limits) -> Result<Sandbox, Refusal> {
-        let Limits { memory, depth, milliseconds } = limits;
-        let limits = NcsLimits { memory, depth, milliseconds };
-        // SAFETY: the module is there, and the pointers lead to limits and a refusal. The library keeps the module as long as the box.
-        let made = Refusal::or(|why| unsafe { ffi::ncs_box_new(module.handle.as_ptr(), &limits, why) })?;
-        Ok(Sandbox { slots: Vec::new(), shared: Arc::new(Shared::of(made)), one_thread: PhantomData })
+    pub fn new(module: &Module, limits: Limits) -> Result<Sandbox<Own>, Refusal> {
+        made(module, limits)
+    }
+}
+
+impl Sandbox<Common> {
+    /// `ncs_box_new`: a box as [`Sandbox::new`] makes it, with memory in which other boxes can be too, by [`Access::beside`].
+    pub fn common(module: &Module, limits: Limits) -> Result<Sandbox<Common>, Refusal> {
+        made(module, limits)
+    }
+}
+
+/// A new box, on memory in which nobody else is so far.
+fn made<M: Memory>(module: &Module, limits: Limits) -> Result<Sandbox<M>, Refusal> {
+    let Limits { memory, depth, milliseconds } = limits;
+    let limits = NcsLimits { memory, depth, milliseconds };
+    // SAFETY: the module is there, and the pointers lead to limits and a refusal. The library keeps the module as long as the box.
+    let made = Refusal::or(|why| unsafe { ffi::ncs_box_new(module.handle.as_ptr(), &limits, why) })?;
+    Ok(Sandbox::of(made))
+}
+
+impl<M: Memory> Sandbox<M> {
+    /// A value that owns the box.
+    pub(crate) fn of(made: NonNull<NcsBox>) -> Sandbox<M> {
+        Sandbox { slots: Vec::new(), shared: Arc::new(Shared::of(made)), one_thread: PhantomData }
     }
 
     /// `ncs_callback`: gives the box a call-back with so many 32-bit arguments, at most 12, and returns its address. The box keeps it until
@@ -91,17 +112,18 @@ impl Sandbox {
     /// ```
     pub fn callback<F, R>(&mut self, args: usize, mut function: F) -> Result<At, Refusal>
     where
-        F: FnMut(&mut Caller<'_>, &[Untrusted<u32>]) -> R + Send + 'static,
+        F: FnMut(&mut Caller<'_, M>, &[Untrusted<u32>]) -> R + Send + 'static,
         R: Word,
     {
         let count = u32::try_from(args).map_err(|_| Refusal::NoCallback)?;
-        let function = Box::new(move |caller: &mut Caller<'_>, args: &[Untrusted<u32>]| function(caller, args).bits());
+        let function =
+            Box::new(move |caller: &mut Caller<'_, M>, args: &[Untrusted<u32>]| function(caller, args).bits());
         let slot = Slot::new(Arc::clone(&self.shared), args, function);
         let user = Arc::as_ptr(&slot).cast_mut().cast();
         self.slots.push(slot);
         // SAFETY: "One thread". What `serve` asks for is kept: the slot stays in `slots` as long as the box can be called, which needs this
         // value or a call of it, and the library gives each call-back as many arguments as are named here.
-        let given = unsafe { ffi::ncs_callback(self.shared.raw(), serve, user, count) };
+        let given = unsafe { ffi::ncs_callback(self.shared.raw(), serve::<M>, user, count) };
         if given.at == 0 {
             self.slots.pop();
             return Err(Refusal::NoCallback);
@@ -109,10 +131,22 @@ impl Sandbox {
         Ok(At::new(given.at))
     }
 
-    /// `ncs_reset`: gives the box its first memory again, and revives it. Its call-backs stay. The reset takes back a kill that hasn't
-    /// ended a call.
+    /// `ncs_code_calls`: lets the code of the box change code of its module within an area of the module's [room](Module::room), by the
+    /// box's next four call-backs: hole, create, patch and delete. Returns the address of the first. Areas of different boxes are apart, and
+    /// the host makes no chunk there. Boxes beside one another have one area.
+    pub fn code_calls(&mut self, area: CodeSpan) -> Result<At, Refusal> {
+        // SAFETY: "One thread". The call-backs are the library's own, and copy the bytes that they get.
+        let given = unsafe { ffi::ncs_code_calls(self.shared.raw(), area.raw()) };
+        match given.at {
+            0 => Err(Refusal::NoArea),
+            at => Ok(At::new(at)),
+        }
+    }
+
+    /// `ncs_reset`: gives the box its first memory again, deletes the code that it has made, and revives it. Its call-backs stay. The reset
+    /// takes back a kill that hasn't ended a call. Boxes beside it are reset too, unless one of them is in a call.
     pub fn reset(&mut self) -> Result<(), Refusal> {
-        // SAFETY: "One thread" and "Outside": nobody has a range of its memory.
+        // SAFETY: "One thread". Nobody has a range of its memory, by "Outside" or "Copied".
         let made = unsafe { ffi::ncs_reset(self.shared.raw()) };
         if made == 0 {
             return Err(Refusal::NotReset);
@@ -126,7 +160,7 @@ impl Sandbox {
     }
 }
 
-impl Inside for Sandbox {
+impl<M: Memory> Inside for Sandbox<M> {
     fn shared(&self) -> &Shared {
         &self.shared
     }
@@ -136,9 +170,11 @@ impl Inside for Sandbox {
     }
 }
 
-impl Access for Sandbox {}
+impl<M: Memory> Access for Sandbox<M> {
+    type Memory = M;
+}
 
-impl fmt::Debug for Sandbox {
+impl<M> fmt::Debug for Sandbox<M> {
     fn fmt(&self, f: &mut fmt::Formatter<'_>) -> fmt::Result {
         f.debug_struct("Sandbox").field("callbacks", &self.slots.len()).finish_non_exhaustive()
     }

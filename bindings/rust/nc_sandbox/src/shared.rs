@@ -15,8 +15,11 @@ pub(crate) type Payload = Box<dyn Any + Send>;
 ///   to it, and neither is `Sync`. A `Caller` isn't `Send`, so it stays with the thread whose call is under way, and the `Sandbox` is
 ///   borrowed by that call.
 /// - "Freed once": a box is freed once, and isn't used after that. Whoever uses it holds an `Arc` of this type or borrows from one.
-/// - "Outside": nobody is in the box, so that its memory stays as it is, while somebody has a `&mut` of its `Sandbox` and makes no call, or
-///   a `&mut` of a `Caller`, whose thread is in a call-back. The same holds of `&`. Nobody else writes there, since no boxes share memory.
+/// - "Outside": nobody is in a box that has [`Own`](crate::Own) memory, so that its memory stays as it is, while somebody has a `&mut` of its
+///   `Sandbox` and makes no call, or a `&mut` of a `Caller`, whose thread is in a call-back. The same holds of `&`. Nobody else writes
+///   there, since a box is only made beside one that has [`Common`](crate::Common) memory, and has such memory too.
+/// - "Copied": nobody has a reference to a byte of common memory, which changes at any moment. The library copies such bytes, and this crate
+///   looks only at the copies.
 pub struct Shared {
     raw: NonNull<NcsBox>,
     panic: Mutex<Option<Payload>>,

@@ -79,6 +79,12 @@ fn memory() -> Outcome {
             assert_eq!(sandbox.bytes(at, len), Err(Refusal::NotInBox { at }));
             assert_eq!(sandbox.bytes_mut(at, len).map(|range| range.len()), Err(Refusal::NotInBox { at }));
         }
+        for (at, copy) in [(last, &mut [1; 2][..]), (end, &mut [1]), (At::new(0xFFFF), &mut [1]), (At::new(0), &mut [])]
+        {
+            assert_eq!(sandbox.get(copy, at), Err(Refusal::NotInBox { at }));
+            assert_eq!(sandbox.set(at, copy), Err(Refusal::NotInBox { at }));
+        }
+        assert_eq!(sandbox.bytes(last, 1)?, b"x");
         assert_eq!((sandbox.bytes(end, 0)?.len(), sandbox.bytes_mut(last, 1)?.len()), (0, 1));
         let given = sandbox.put(&[3; 256])?;
         assert_eq!(call(&mut sandbox, "sum", (given, 256)), Ok(768));

@@ -28,7 +28,7 @@ fn returns(n: u8) -> [u8; 32] {
 
 /// A module with room for 8 bundles, or `None` where the system has no boxes, which is told.
 fn live() -> Option<Module> {
-    match Module::live(8) {
+    match Module::live(8, 255) {
         Err(Refusal::BadSystem(why)) => {
             println!("skipped: live code in Rust: {why}");
             None
@@ -84,7 +84,7 @@ fn changes_that_are_refused() -> Outcome {
     let fixed = Module::code(&returns(5))?;
     assert_eq!((fixed.create(START, &returns(5)), fixed.delete(START)), (Err(Refusal::NotLive), Err(Refusal::NotLive)));
     assert_eq!((fixed.patch(START, &load(1)), fixed.reclaim()), (Err(Refusal::NotLive), 0));
-    assert!(matches!(Module::live(0), Err(Refusal::BadLimits(_))));
+    assert!(matches!(Module::live(0, 255), Err(Refusal::BadLimits(_))));
     Ok(())
 }
 
