@@ -12,7 +12,9 @@
  *               that is done.
  *   Call-backs  A box keeps its call-backs, with what they capture, until it is destroyed. A call-back that throws ends its call with
  *               NCS_DENIED. The exception is thrown on from Access::call, once no untrusted code is left between.
- *   Threads     One thread at a time uses a Box. Any thread may use a Killer, and any number of them a Module that isn't assigned to.
+ *   Threads     One thread at a time uses a Box. Any thread may use a Killer, and any number of them a Module that isn't assigned to. Boxes
+ *               beside one another are used by several threads at once. Then their memory changes at any moment, so that it is copied by
+ *               get, and nothing is looked at twice where it lies.
  *   Lives       A box is neither destroyed nor assigned to while a call of it is under way. If a call-back does that to its own box, the
  *               box and its call-backs are left behind, and never freed.
  *   Numbers     A type that has another size in a box than here can't be an argument or a result. Such types are pointers and long, and so
@@ -145,6 +147,19 @@ struct Place {
     std::uint32_t offset = 0;
 };
 
+/* Bytes of the address space of code, in whole bundles. */
+struct CodeSpan {
+    At from;
+    std::uint32_t len = 0;
+};
+
+/* What Module::hole finds. */
+struct Hole {
+    At at;                  /* where the hole begins; if `len` is 0, where to ask on, or else the end */
+    std::uint32_t len = 0;  /* bytes in which no chunk is */
+    std::uint32_t held = 0; /* bytes of deleted chunks below it, from the address that was asked for, which threads still hold back */
+};
+
 class Module {
   public:
     Module() noexcept = default;
@@ -176,9 +191,27 @@ class Module {
     }
 
     /* ncs_module_live. The changes may be made by any threads at once. */
-    static Result<Module> live(std::uint32_t bundles) noexcept {
+    static Result<Module> live(std::uint32_t bundles, std::uint32_t calls) noexcept {
         NcsRefusal why{};
-        return told(ncs_module_live(bundles, &why), why);
+        return told(ncs_module_live(bundles, calls, &why), why);
+    }
+
+    /* ncs_module_live_elf. */
+    static Result<Module> live_elf(Bytes file, std::uint32_t bundles, std::uint32_t calls) noexcept {
+        NcsRefusal why{};
+        return told(ncs_module_live_elf(file.data(), file.size(), bundles, calls, &why), why);
+    }
+
+    /* ncs_room. */
+    CodeSpan room() const noexcept {
+        const NcsSpan room = handle_ != nullptr ? ncs_room(handle()) : NcsSpan{};
+        return {room.from, room.len};
+    }
+
+    /* ncs_hole. A hole is a hint, since another thread may take it. */
+    Hole hole(At from, At to) noexcept {
+        const NcsHole hole = handle_ != nullptr ? ncs_hole(handle(), from, to) : NcsHole{};
+        return {hole.at, hole.len, hole.held};
     }
 
     /* ncs_create. */
@@ -262,6 +295,8 @@ struct State {
 
 } // namespace detail
 
+class Box;
+
 /* The calls and the memory that a Box and a Caller give access to. Functions that work on either take an Access &. */
 class Access {
   public:
@@ -279,7 +314,8 @@ class Access {
         return run(function, count, words);
     }
 
-    /* ncs_at. The range is empty unless all of it is the box's. It is valid until the box is destroyed, and a call changes its bytes. */
+    /* ncs_at. The range is empty unless all of it is the box's. It is valid until the box is destroyed. A call changes its bytes, also one of
+       a box beside this one, on another thread. */
     Span<std::uint8_t> bytes(At at, std::size_t len) noexcept {
         void *data = box() != nullptr && len <= NCS_MEMORY_MAX ? ncs_at(box(), at, static_cast<std::uint32_t>(len)) : nullptr;
         return data != nullptr ? Span<std::uint8_t>(static_cast<std::uint8_t *>(data), len) : Span<std::uint8_t>();
@@ -322,6 +358,10 @@ class Access {
     }
     At put(Bytes from) noexcept { return put(from.data(), from.size()); }
     At put(std::string_view from) noexcept { return put(from.data(), from.size()); }
+
+    /* ncs_box_beside. The box has the memory of this one, and another thread may use it at the same time. Its stack grows down from `stack`,
+       as in box.beside(box.take(len) + len, 4, 1000). It is used and destroyed as any other box, in any order. */
+    Result<Box> beside(At stack, std::uint32_t depth, std::uint32_t milliseconds);
 
   protected:
     Access() noexcept = default;
@@ -454,14 +494,7 @@ class Box : public Access {
     /* ncs_box_new. */
     static Result<Box> make(const Module &module, const Limits &limits) {
         NcsRefusal why{NCS_BAD_FILE, 0, 0, "the module is empty"};
-        Box box;
-        box.state_ = new detail::State;
-        NcsBox *made = module.handle() != nullptr ? ncs_box_new(module.handle(), &limits, &why) : nullptr;
-        box.state_->handle->box = made;
-        if (made == nullptr) {
-            return Refusal(why);
-        }
-        return Result<Box>(std::move(box));
+        return told(module.handle() != nullptr, why, [&] { return ncs_box_new(module.handle(), &limits, &why); });
     }
 
     /* ncs_callback, with anything that can be called in one way, such as a function, a lambda or a std::function. Its first parameter may
@@ -486,6 +519,9 @@ class Box : public Access {
         return at;
     }
 
+    /* ncs_code_calls. Returns the address of the first of the four call-backs, or 0 if they aren't given. */
+    At code_calls(CodeSpan area) noexcept { return box() != nullptr ? At(ncs_code_calls(box(), {area.from, area.len})) : At(); }
+
     /* ncs_reset. Returns whether it was done. */
     [[nodiscard]] bool reset() noexcept { return box() != nullptr && ncs_reset(box()) != 0; }
 
@@ -495,6 +531,21 @@ class Box : public Access {
     NcsBox *handle() const noexcept { return box(); }
 
   private:
+    friend class Access;
+
+    /* The box that is made if it can be, by a call that writes its refusal to `why`. Nothing is thrown once it is there. */
+    template <class Make>
+    static Result<Box> told(bool can_be, const NcsRefusal &why, Make make) {
+        Box box;
+        box.state_ = new detail::State;
+        NcsBox *made = can_be ? make() : nullptr;
+        box.state_->handle->box = made;
+        if (made == nullptr) {
+            return Refusal(why);
+        }
+        return Result<Box>(std::move(box));
+    }
+
     /* Call-backs that are under way are still needed. */
     void give_back() noexcept {
         if (state_ != nullptr && state_->serving == 0) {
@@ -503,6 +554,11 @@ class Box : public Access {
         state_ = nullptr;
     }
 };
+
+inline Result<Box> Access::beside(At stack, std::uint32_t depth, std::uint32_t milliseconds) {
+    NcsRefusal why{NCS_BAD_LIMITS, 0, 0, "the box is empty"};
+    return Box::told(box() != nullptr, why, [&] { return ncs_box_beside(box(), stack, depth, milliseconds, &why); });
+}
 
 /* ---- A second wall */
 

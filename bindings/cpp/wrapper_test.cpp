@@ -1,35 +1,20 @@
 // Tests of nc_sandbox.hpp: wrapper_test GUEST, on a module of sandbox/tests/guest.c. What failed is printed with its line.
 // tools/try/box-bindings compiles and runs them.
-#include "nc_sandbox.hpp"
+#include "checks.hpp"
 
 #include <csignal>
-#include <cstdio>
-#include <cstdlib>
 #include <cstring>
-#include <fstream>
 #include <functional>
-#include <iterator>
 #include <stdexcept>
 #include <sys/wait.h>
 #include <thread>
 #include <unistd.h>
 
-#define CHECK(condition) check((condition) ? true : false, #condition, __LINE__)
-
 namespace {
 
 constexpr ncs::Limits LIMITS = {0x120000, 8, 10000}, BRIEF = {0x120000, 8, 30};
-constexpr int SKIPPED = 77;
 
-int failures;
 ncs::Module guest;
-
-void check(bool holds, const char *condition, int line) {
-    if (!holds) {
-        std::printf("line %d: FAILED: %s\n", line, condition);
-        failures++;
-    }
-}
 
 static_assert(std::is_nothrow_move_constructible_v<ncs::Module> && std::is_nothrow_move_assignable_v<ncs::Module>);
 static_assert(std::is_nothrow_move_constructible_v<ncs::Box> && std::is_nothrow_move_assignable_v<ncs::Box>);
@@ -57,10 +42,6 @@ static_assert(MINUS.in(-1, 5u) == -1 && !MINUS.in(0, 5) && !MINUS.in(0u, 0xFFFFF
 static_assert(Untrusted<signed char>(-128).in(-128ll, 0) == -128 && !Untrusted<signed char>(-128).in(-127, 0));
 static_assert(FIVE.is(5) && !FIVE.is(4) && !FIVE.is(6) && MINUS.is(-1) && !MINUS.is(0xFFFFFFFF) && !LAST.is(-1));
 static_assert(FIVE.unchecked() == 5 && Untrusted<bool>(true).unchecked() && ncs::At(FIVE) == ncs::At(5) && ncs::At(5).number().is(5));
-
-ncs::Bytes bytes_of(const char *text, std::size_t len) {
-    return {reinterpret_cast<const std::uint8_t *>(text), len};
-}
 
 ncs::Box new_box(const ncs::Limits &limits = LIMITS) {
     auto made = ncs::Box::make(guest, limits);
@@ -289,7 +270,7 @@ void left_behind() {
 }
 
 void names_of_places(const std::vector<char> &file) {
-    const ncs::Place place = guest.function_at(at("sum") + 3), same = ncs::Module::function_in(bytes_of(file.data(), file.size()), at("sum"));
+    const ncs::Place place = guest.function_at(at("sum") + 3), same = ncs::Module::function_in(checks::bytes_of(file), at("sum"));
     CHECK(place.name != nullptr && std::strcmp(place.name, "sum") == 0 && place.offset == 3);
     CHECK(same.name != nullptr && std::strcmp(same.name, "sum") == 0 && same.offset == 0);
     CHECK(guest.function_at(ncs::At()).name == nullptr && ncs::Module().function_at(at("sum")).name == nullptr);
@@ -297,7 +278,7 @@ void names_of_places(const std::vector<char> &file) {
 }
 
 void live_code() {
-    auto made = ncs::Module::live(8);
+    auto made = ncs::Module::live(8, 4);
     if (made.fault().number() == NCS_BAD_SYSTEM) {
         return; // the system has boxes, and no live code
     }
@@ -323,7 +304,7 @@ void live_code() {
 }
 
 void refusals() {
-    const auto bad = ncs::Module::elf(bytes_of("\x7F" "ELF", 4));
+    const auto bad = ncs::Module::elf(checks::bytes_of("\x7F" "ELF", 4));
     CHECK(!bad && bad.fault().number() == NCS_BAD_FILE && bad.fault().sentence() != nullptr);
     std::uint8_t code[32];
     std::memset(code, 0x90, sizeof code);
@@ -426,21 +407,12 @@ void walls() {
 } // namespace
 
 int main(int argc, char **argv) {
-    std::ifstream in(argc == 2 ? argv[1] : "", std::ios::binary);
-    const std::vector<char> file{std::istreambuf_iterator<char>(in), {}};
-    auto made = ncs::Module::elf(bytes_of(file.data(), file.size()));
-    if (!made) {
-        std::printf("%s: boxes: %s\n", made.fault().number() == NCS_BAD_SYSTEM ? "skipped" : "refused", made.fault().sentence());
-        return made.fault().number() == NCS_BAD_SYSTEM ? SKIPPED : 2;
-    }
-    guest = std::move(made).value();
+    const std::vector<char> file = checks::read_file(argc == 2 ? argv[1] : "");
+    guest = checks::must(ncs::Module::elf(checks::bytes_of(file)));
     names_of_places(file);
     for (auto test : {calls, memory, words_of_memory, callbacks, results_of_callbacks, within_itself, exceptions, exceptions_of_others,
                       lives, left_behind, live_code, refusals, threads, held_signals, promises, children, walls}) {
         test();
     }
-    if (failures == 0) {
-        std::printf("nc_sandbox.hpp: all as it should be\n");
-    }
-    return failures != 0;
+    return checks::end();
 }
