@@ -1,6 +1,7 @@
 """The libraries that tools/try/ports compiles: where their sources come from, and how they are compiled. Each has a program here that uses it.
 
-`build` compiles others with the programs of trials/, and runs these by a host for Linux (load.c, host.s).
+`generators` compiles programs that generate code. `build` compiles others with the programs of trials/, and runs these by a host for Linux
+(load.c, host.s).
 """
 
 from typing import NamedTuple
@@ -80,3 +81,10 @@ PORTS = {
         "lua5.4_5.4.4.orig.tar.gz", "164c7849653b80ae67bec4b7473b884bf5cc8d2dca05653475ec2ed27b9ebf61", "src/l*.c", "lua.c luac.c", "src"),
 }
 SLICE = ("cjson", "giflib")  # those of the gate, which take seconds
+
+# Programs that generate code. tools/try/generators compiles them with edits (editing.py).
+GENERATORS = {
+    "pcre2-jit": PORTS["pcre2"],
+    "tcc": Port(
+        "tcc_0.9.27+git20200814.62c30a4a.orig.tar.bz2", "d63c113bcdd657f51c8ee197a0b0a24203603313e19a52b5f678d40ab7f5df35", "tcc.c"),
+}
