@@ -1,0 +1,45 @@
+"""What the parts of tools/try/generators share."""
+
+import os
+import sys
+from typing import NamedTuple
+
+from examples import TOP
+from installing import SOURCES, ended
+from porting import done
+
+sys.path.append(os.path.join(TOP, "examples", "ports"))
+from generating import GENERATORS, OWN, Compiler, edits_of, unpacked
+
+LIVE = ["--live-code", "16M", "--memory", "512M"]
+
+
+class Place(NamedTuple):
+    """The folder in which everything is installed, and the one in which things are made."""
+
+    prefix: str
+    folder: str
+
+    def tool(self, name):
+        return os.path.join(self.prefix, "bin", name)
+
+    def below(self, name):
+        path = os.path.join(self.folder, name)
+        os.makedirs(path, exist_ok=True)
+        return path
+
+    def sources(self, name, edits, to):
+        """A program's sources, with these edits, below a folder of this name."""
+        return unpacked(name, SOURCES, self.below(to), edits)
+
+    def runs(self, *more):
+        return [self.tool("nc-run"), *LIVE, *more]
+
+    def accepts(self, path):
+        done([self.tool("nc_check"), path], self.folder)
+
+
+def tell(what, is_right, said):
+    """Prints a line, and returns whether it is right."""
+    print("%s: %s%s" % (what, "" if is_right else "DIFFERS: ", said), flush=True)
+    return is_right

@@ -1,0 +1,109 @@
+"""Times of PCRE2's JIT in a box and natively: a part of tools/try/generators."""
+
+import glob
+import math
+import os
+import shutil
+
+from generators import OWN, Compiler, done, edits_of
+from generating import SLJIT_FLAGS, pcre2_flags, pcre2_library
+
+NAME = "pcre2-jit"
+ROUNDS, INTERPRETED = 11, 3  # by turns; in how many of them the interpreter takes part
+DNA = 2000000
+PROSE = 25  # patterns for the first text; the others are for the second
+PATTERNS = os.path.join(OWN[NAME], "patterns.txt")
+HEAD = ("found", "interp", "JIT", "i386-", "i386", "x86-64", "JIT/", "interp/", "code/", "make/")
+NATIVE = {"i386-": ["gcc", "-m32", "-O2"], "i386": ["gcc", "-m32", "-O2"], "x86-64": ["gcc", "-O2"]}
+
+
+def dna():
+    """As many letters, by the rule of the Computer Language Benchmarks Game, the same each time."""
+    state, letters = 42, bytearray()
+    for _ in range(DNA):
+        state = (state * 3877 + 29573) % 139968
+        letters.append(b"acgt"[(state >= 42396) + (state >= 70110) + (state >= 97761)])
+    return bytes(letters)
+
+
+def write_texts(top, folder):
+    """The texts: PCRE2's pages, and letters."""
+    pages = b""
+    for pattern in ("doc/html/*.html", "doc/*.txt", "ChangeLog"):
+        for path in sorted(glob.glob(os.path.join(top, pattern))):
+            with open(path, "rb") as file:
+                pages += file.read()
+    for name, text in (("prose", pages), ("dna", dna())):
+        with open(os.path.join(folder, name), "wb") as file:
+            file.write(text)
+
+
+def build(compiler, top, folder):
+    source = os.path.join(OWN[NAME], "times.c")
+    main = compiler.objects(pcre2_flags(top, [8], 8), [source], folder)
+    return compiler.program([*main, *pcre2_library(compiler, top, folder, [8])], os.path.join(folder, "times"))
+
+
+def lines_of(place):
+    """The command of each program, once all are built and the texts are there."""
+    edits = edits_of(NAME)
+    tops = {"box": place.sources(NAME, edits.EDITS.values(), "box"), "i386-": place.sources(NAME, edits.PLAIN, "plain"),
+            "i386": place.sources(NAME, [], "native")}
+    tops["x86-64"] = tops["i386"]
+    write_texts(tops["box"], place.folder)
+    box = build(Compiler([place.tool("nc-cc"), *SLJIT_FLAGS]), tops["box"], place.below("times-box"))
+    lines = {"box": [*place.runs("--dir", "."), box, "patterns.txt"]}
+    for name, words in NATIVE.items():
+        lines[name] = [build(Compiler(words), tops[name], place.below("times-" + name)), "patterns.txt"]
+    return lines
+
+
+def rows_of(line, folder, runs, interpreted):
+    """What a program tells of each pattern."""
+    rows = [row.split(" ", 6) for row in done([*line, str(runs), str(interpreted)], folder).splitlines()]
+    return [(row[6], row[:2], [float(number) or math.inf for number in row[2:6]]) for row in rows]
+
+
+def least(rows, others):
+    return [(name, found, [min(pair) for pair in zip(numbers, more)]) for (name, found, numbers), (_, _, more) in zip(rows, others)]
+
+
+def mean(ratios):
+    """The geometric mean."""
+    return math.exp(sum(map(math.log, ratios)) / len(ratios))
+
+
+def print_row(name, cells):
+    print("    %-42.42s" % name + "".join("%9s" % (cell if isinstance(cell, str) else "%.2f" % cell) for cell in cells))
+
+
+def print_table(best):
+    """The table of milliseconds, and the ratios: JIT in the box to i386-, interpreter to JIT, bytes of code, time to make it."""
+    all_ratios = []
+    print_row("", HEAD)
+    print_row("", ("", "in box", "in box", "JIT", "JIT", "JIT", "i386-", "JIT", "i386-", "i386-"))
+    for k, (name, found, (interpreter, jit, took, size)) in enumerate(best["box"]):
+        plain, wide, native = (best[kind][k][2] for kind in NATIVE)
+        ratios = [jit / plain[1], interpreter / jit, size / plain[3], took / plain[2],
+                  jit / wide[1], jit / native[1], interpreter / plain[0]]
+        all_ratios.append(ratios)
+        print_row(name, [found[0], interpreter, jit, plain[1], wide[1], native[1], *ratios[:4]])
+    for part, what in ((all_ratios[:PROSE], "prose"), (all_ratios[PROSE:], "dna")):
+        means = [mean([ratios[k] for ratios in part]) for k in range(7)]
+        print("    %s, geometric means: JIT in the box to i386- %.2f, i386 %.2f, x86-64 %.2f; interpreter to JIT in the box %.1f; "
+              "interpreter in the box to native %.2f; bytes %.2f; making code %.2f" % (what, *(means[k] for k in (0, 4, 5, 1, 6, 2, 3))))
+
+
+def measure(place):
+    """Prints the table. All programs have to find the same."""
+    lines = lines_of(place)
+    shutil.copy(PATTERNS, place.folder)
+    best = {name: rows_of(line, place.folder, 1, 1) for name, line in lines.items()}
+    for turn in range(1, ROUNDS):
+        for name, line in lines.items():
+            best[name] = least(best[name], rows_of(line, place.folder, 1, int(turn < INTERPRETED)))
+    same = all([row[:2] for row in rows] == [row[:2] for row in best["box"]] for rows in best.values())
+    print_table(best)
+    if not same:
+        print("DIFFERS: the programs don't find the same")
+    return same
