@@ -8,7 +8,7 @@ use crate::text::{Text, push, push_number};
 fn push_displacement(text: &mut Text, displacement: Option<i32>) {
     if let Some(value) = displacement {
         if value < 0 {
-            push(text, *b"-       ");
+            push(text, *b"-      1");
         }
         push_number(text, value.unsigned_abs());
     }
@@ -19,12 +19,12 @@ fn push_scaled(text: &mut Text, parts: &Parts<'_>) {
     let sib = byte_at(parts.rest, 1);
     let is_baseless = parts.modrm() < 0x40 && sib % 8 == 5;
     push_displacement(text, parts.displacement(2, is_baseless));
-    push(text, if is_baseless { *b"(       " } else { base(sib) });
+    push(text, if is_baseless { *b"(      1" } else { base(sib) });
     if sib != 0x24 {
         push(text, index(sib / 8));
         push(text, scale(sib / 64));
     }
-    push(text, *b")       ");
+    push(text, *b")      1");
 }
 
 /// Adds the memory that ModRM names.
@@ -40,6 +40,6 @@ pub(crate) fn push_memory(text: &mut Text, parts: &Parts<'_>) {
     } else {
         push_displacement(text, parts.displacement(1, false));
         push(text, base(modrm));
-        push(text, *b")       ");
+        push(text, *b")      1");
     }
 }

@@ -16,27 +16,27 @@ pub(crate) enum Size {
 /// The registers of each `Size`, in the same order.
 #[rattlefmt::skip]
 static REGISTERS: [[Piece; 8]; 3] = [
-    [*b"%al     ", *b"%cl     ", *b"%dl     ", *b"%bl     ", *b"%ah     ", *b"%ch     ", *b"%dh     ", *b"%bh     "],
-    [*b"%ax     ", *b"%cx     ", *b"%dx     ", *b"%bx     ", *b"%sp     ", *b"%bp     ", *b"%si     ", *b"%di     "],
-    [*b"%eax    ", *b"%ecx    ", *b"%edx    ", *b"%ebx    ", *b"%esp    ", *b"%ebp    ", *b"%esi    ", *b"%edi    "],
+    [*b"%al    3", *b"%cl    3", *b"%dl    3", *b"%bl    3", *b"%ah    3", *b"%ch    3", *b"%dh    3", *b"%bh    3"],
+    [*b"%ax    3", *b"%cx    3", *b"%dx    3", *b"%bx    3", *b"%sp    3", *b"%bp    3", *b"%si    3", *b"%di    3"],
+    [*b"%eax   4", *b"%ecx   4", *b"%edx   4", *b"%ebx   4", *b"%esp   4", *b"%ebp   4", *b"%esi   4", *b"%edi   4"],
 ];
 
 /// The registers as an index, after a comma. None has the name that objdump gives it.
 #[rattlefmt::skip]
 static INDEXES: [Piece; 8] = [
-    *b",%eax   ", *b",%ecx   ", *b",%edx   ", *b",%ebx   ",
-    *b",%eiz   ", *b",%ebp   ", *b",%esi   ", *b",%edi   ",
+    *b",%eax  5", *b",%ecx  5", *b",%edx  5", *b",%ebx  5",
+    *b",%eiz  5", *b",%ebp  5", *b",%esi  5", *b",%edi  5",
 ];
 
 /// The registers as a base, after a parenthesis.
 #[rattlefmt::skip]
 static BASES: [Piece; 8] = [
-    *b"(%eax   ", *b"(%ecx   ", *b"(%edx   ", *b"(%ebx   ",
-    *b"(%esp   ", *b"(%ebp   ", *b"(%esi   ", *b"(%edi   ",
+    *b"(%eax  5", *b"(%ecx  5", *b"(%edx  5", *b"(%ebx  5",
+    *b"(%esp  5", *b"(%ebp  5", *b"(%esi  5", *b"(%edi  5",
 ];
 
 /// The scales of an index, after a comma.
-static SCALES: [Piece; 4] = [*b",1      ", *b",2      ", *b",4      ", *b",8      "];
+static SCALES: [Piece; 4] = [*b",1     2", *b",2     2", *b",4     2", *b",8     2"];
 
 /// A register, by the low three bits of a number.
 pub(crate) fn register(size: Size, number: u8) -> Piece {

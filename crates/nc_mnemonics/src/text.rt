@@ -6,11 +6,8 @@ const ROOM: usize = 64;
 /// The number of bytes of a piece.
 const PIECE: usize = 8;
 
-/// Some letters, and spaces after them. A piece of any length is copied as eight bytes.
+/// At most seven letters, spaces after them, and the number of letters as a digit. A piece of any length is copied as eight bytes.
 pub(crate) type Piece = [u8; PIECE];
-
-/// Spaces alone, as a number.
-const SPACES: u64 = 0x2020_2020_2020_2020;
 
 /// The text of an instruction.
 #[derive(Clone, Copy)]
@@ -41,11 +38,11 @@ fn push_front(text: &mut Text, piece: Piece, count: u32) {
     }
 }
 
-/// Adds a piece without the spaces after it.
+/// Adds the letters of a piece.
 #[inline(always)]
 pub(crate) fn push(text: &mut Text, piece: Piece) {
-    let spaces = (u64::from_le_bytes(piece) ^ SPACES).leading_zeros() / 8;
-    push_front(text, piece, (PIECE as u32).saturating_sub(spaces));
+    let [.., digit] = piece;
+    push_front(text, piece, u32::from(digit % 8));
 }
 
 /// Adds a space.
@@ -73,13 +70,13 @@ fn push_digits(text: &mut Text, number: u32) {
 
 /// Adds a number.
 pub(crate) fn push_number(text: &mut Text, number: u32) {
-    push(text, *b"0x      ");
+    push(text, *b"0x     2");
     push_digits(text, number);
 }
 
 /// Adds an immediate.
 pub(crate) fn push_immediate(text: &mut Text, value: u32) {
-    push(text, *b"$0x     ");
+    push(text, *b"$0x    3");
     push_digits(text, value);
 }
 

@@ -18,16 +18,16 @@ pub(crate) enum Word {
 /// The letters of each `Word`, in the same order.
 #[rattlefmt::skip]
 static LETTERS: [Piece; 49] = [
-    *b"bsf     ", *b"bsr     ", *b"bswap   ", *b"call    ", *b"cbtw    ",
-    *b"clc     ", *b"cld     ", *b"cltd    ", *b"cmc     ", *b"cmov    ",
-    *b"cmps    ", *b"cmpsb   ", *b"cmpxchg ", *b"cpuid   ", *b"cwtd    ",
-    *b"cwtl    ", *b"dec     ", *b"hlt     ", *b"imul    ", *b"inc     ",
-    *b"j       ", *b"jecxz   ", *b"jmp     ", *b"lea     ", *b"leave   ",
-    *b"lods    ", *b"loop    ", *b"loope   ", *b"loopne  ", *b"mov     ",
-    *b"movs    ", *b"movsb   ", *b"movsw   ", *b"movzb   ", *b"movzw   ",
-    *b"nop     ", *b"pop     ", *b"push    ", *b"scas    ", *b"set     ",
-    *b"shld    ", *b"shrd    ", *b"stc     ", *b"std     ", *b"stos    ",
-    *b"test    ", *b"ud2     ", *b"xadd    ", *b"xchg    ",
+    *b"bsf    3", *b"bsr    3", *b"bswap  5", *b"call   4", *b"cbtw   4",
+    *b"clc    3", *b"cld    3", *b"cltd   4", *b"cmc    3", *b"cmov   4",
+    *b"cmps   4", *b"cmpsb  5", *b"cmpxchg7", *b"cpuid  5", *b"cwtd   4",
+    *b"cwtl   4", *b"dec    3", *b"hlt    3", *b"imul   4", *b"inc    3",
+    *b"j      1", *b"jecxz  5", *b"jmp    3", *b"lea    3", *b"leave  5",
+    *b"lods   4", *b"loop   4", *b"loope  5", *b"loopne 6", *b"mov    3",
+    *b"movs   4", *b"movsb  5", *b"movsw  5", *b"movzb  5", *b"movzw  5",
+    *b"nop    3", *b"pop    3", *b"push   4", *b"scas   4", *b"set    3",
+    *b"shld   4", *b"shrd   4", *b"stc    3", *b"std    3", *b"stos   4",
+    *b"test   4", *b"ud2    3", *b"xadd   4", *b"xchg   4",
 ];
 
 /// Eight names, of which three bits choose one.
@@ -46,19 +46,19 @@ pub(crate) enum Group {
 /// The names of each `Group`, in the same order.
 #[rattlefmt::skip]
 static GROUPS: [[Piece; 8]; 4] = [
-    [*b"add     ", *b"or      ", *b"adc     ", *b"sbb     ", *b"and     ", *b"sub     ", *b"xor     ", *b"cmp     "],
-    [*b"rol     ", *b"ror     ", *b"rcl     ", *b"rcr     ", *b"shl     ", *b"shr     ", *b"        ", *b"sar     "],
-    [*b"        ", *b"        ", *b"not     ", *b"neg     ", *b"mul     ", *b"imul    ", *b"div     ", *b"idiv    "],
-    [*b"        ", *b"        ", *b"        ", *b"        ", *b"bt      ", *b"bts     ", *b"btr     ", *b"btc     "],
+    [*b"add    3", *b"or     2", *b"adc    3", *b"sbb    3", *b"and    3", *b"sub    3", *b"xor    3", *b"cmp    3"],
+    [*b"rol    3", *b"ror    3", *b"rcl    3", *b"rcr    3", *b"shl    3", *b"shr    3", *b"        ", *b"sar    3"],
+    [*b"        ", *b"        ", *b"not    3", *b"neg    3", *b"mul    3", *b"imul   4", *b"div    3", *b"idiv   4"],
+    [*b"        ", *b"        ", *b"        ", *b"        ", *b"bt     2", *b"bts    3", *b"btr    3", *b"btc    3"],
 ];
 
 /// The conditions.
 #[rattlefmt::skip]
 static CONDITIONS: [Piece; 16] = [
-    *b"o       ", *b"no      ", *b"b       ", *b"ae      ",
-    *b"e       ", *b"ne      ", *b"be      ", *b"a       ",
-    *b"s       ", *b"ns      ", *b"p       ", *b"np      ",
-    *b"l       ", *b"ge      ", *b"le      ", *b"g       ",
+    *b"o      1", *b"no     2", *b"b      1", *b"ae     2",
+    *b"e      1", *b"ne     2", *b"be     2", *b"a      1",
+    *b"s      1", *b"ns     2", *b"p      1", *b"np     2",
+    *b"l      1", *b"ge     2", *b"le     2", *b"g      1",
 ];
 
 /// The letters of a word.

@@ -20,10 +20,10 @@ fn row_for(parts: &Parts<'_>) -> Option<&'static Row> {
 /// The prefix that is written before the name, if there is one. F3 is `repz` before an instruction that compares.
 fn prefix(parts: &Parts<'_>) -> Option<Piece> {
     match parts.prefix {
-        Some(0xF0) => Some(*b"lock    "),
-        Some(0xF2) => Some(*b"repnz   "),
-        Some(0xF3) if matches!(parts.opcode, 0xA6 | 0xA7 | 0xAE | 0xAF) => Some(*b"repz    "),
-        Some(0xF3) => Some(*b"rep     "),
+        Some(0xF0) => Some(*b"lock   4"),
+        Some(0xF2) => Some(*b"repnz  5"),
+        Some(0xF3) if matches!(parts.opcode, 0xA6 | 0xA7 | 0xAE | 0xAF) => Some(*b"repz   4"),
+        Some(0xF3) => Some(*b"rep    3"),
         _ => None,
     }
 }
@@ -39,16 +39,16 @@ fn push_prefix(text: &mut Text, parts: &Parts<'_>) {
 /// What follows the name, if anything does.
 fn suffix(parts: &Parts<'_>, suffix: Suffix) -> Option<Piece> {
     let letter = if parts.is_word() {
-        *b"w       "
+        *b"w      1"
     } else {
-        *b"l       "
+        *b"l      1"
     };
     match suffix {
-        Suffix::Byte if parts.is_in_memory() => Some(*b"b       "),
+        Suffix::Byte if parts.is_in_memory() => Some(*b"b      1"),
         Suffix::Sized if parts.is_in_memory() => Some(letter),
         Suffix::Always => Some(letter),
         Suffix::Word if parts.is_word() => Some(letter),
-        Suffix::Eight => Some(*b"8b      "),
+        Suffix::Eight => Some(*b"8b     2"),
         _ => None,
     }
 }
@@ -108,7 +108,7 @@ fn push_either(text: &mut Text, parts: &Parts<'_>, size: Size) {
 
 /// Adds the register that holds a target.
 fn push_target_register(text: &mut Text, number: u8) {
-    push(text, *b"*       ");
+    push(text, *b"*      1");
     push(text, register(Size::Long, number));
 }
 
@@ -130,8 +130,8 @@ fn push_operand(text: &mut Text, parts: &Parts<'_>, operand: Operand) {
         Operand::O => push_number(text, parts.last(4)),
         Operand::J => push_target(text, parts.target),
         Operand::Rt => push_target_register(text, parts.modrm()),
-        Operand::X => push_in_segment(text, *b"%ds:    ", *b"(%esi)  "),
-        Operand::Y => push_in_segment(text, *b"%es:    ", *b"(%edi)  "),
+        Operand::X => push_in_segment(text, *b"%ds:   4", *b"(%esi) 6"),
+        Operand::Y => push_in_segment(text, *b"%es:   4", *b"(%edi) 6"),
         Operand::Gb
         | Operand::Gv
         | Operand::Zb
@@ -144,7 +144,7 @@ fn push_operand(text: &mut Text, parts: &Parts<'_>, operand: Operand) {
 
 /// Adds a comma and an operand.
 fn push_next(text: &mut Text, parts: &Parts<'_>, operand: Operand) {
-    push(text, *b",       ");
+    push(text, *b",      1");
     push_operand(text, parts, operand);
 }
 
