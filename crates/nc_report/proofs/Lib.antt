@@ -17,3 +17,4 @@ mod CountedFaults
 mod TotalWords
 mod QuietPlaces
 mod ShownFronts
+mod FrontTransfers

@@ -6,3 +6,4 @@ pub mod Runs
 pub mod CountedFault
 pub mod Texts
 pub mod Members
+pub mod Transfers

@@ -5,8 +5,9 @@ ghost use Rattle.nc_decode.specs.Front.{first_instruction};
 ghost use Rattle.nc_reading.specs.Quiet.{AreCandidates};
 ghost use Rattle.nc_report.specs.Further.{is_open, is_begun, may_go, has_bad_target, fault_by, fault_at};
 
+use crate::front::front_instruction;
 use crate::judged::Judged;
-use nc_decode::{decode, is_bundle_start};
+use nc_decode::is_bundle_start;
 use nc_reading::{Class, Seen, next_candidate};
 use nc_vet::VetFault;
 
@@ -57,7 +58,7 @@ fn has_bad_target(judged: &Judged<'_>, classes: &[Class], k: usize) -> bool
     ensures { result ≡ has_bad_target judged.now.base judged.now.limit classes.now (judged.now.base + k)
         (first_instruction (drop k judged.now.code.now)) }
 {
-    let Ok(instr) = decode(&judged.code[k..]) else {
+    let Some(instr) = front_instruction(&judged.code[k..]) else {
         return false;
     };
     instr.flow.is_direct() && !may_go(judged, classes, instr.target(judged.base + k as u32))

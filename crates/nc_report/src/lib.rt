@@ -12,8 +12,8 @@
 //! byte in it.
 //!
 //! All faults of a refused chunk are found by one reading of it: `nc_reading` gives a class for each byte, and passes over places
-//! that have no fault. `further` finds the faults by the classes, `others` writes the lines about each fault, and `totals` those
-//! about their numbers.
+//! that have no fault. `further` finds the faults by the classes, with transfers from `front`, `others` writes the lines about each
+//! fault, and `totals` those about their numbers.
 //!
 //! A source may have [`Labels`], names for addresses of its code: `labels` finds the nearest one at or below an address.
 #![tactic(auto)]
@@ -24,6 +24,7 @@ mod explaining;
 mod fault;
 mod finding;
 mod forms;
+mod front;
 mod further;
 mod hexadecimal;
 mod json;
