@@ -8,6 +8,7 @@ ghost use Rattle.nc_report.specs.machinery.Members.{label_line, offset_text, tar
 
 use crate::finding::Finding;
 use crate::labels::Labels;
+use crate::lines::push_words;
 use crate::listing::push_listing;
 use crate::numbers::address_digits;
 use crate::targets::Target;
@@ -74,5 +75,5 @@ pub(crate) fn push_finding(
     push_label(out, labels, finding.at)?;
     push_listing(out, finding)?;
     push_target(out, finding.target)?;
-    push_detail(out, &[finding.meaning])
+    push_words(out, finding.meaning)
 }

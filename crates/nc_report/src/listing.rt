@@ -20,11 +20,11 @@ const SIZE: usize = BUNDLE as usize;
 /// The most bytes in a line.
 const ROW: usize = 8;
 
-/// The length of the mark, the address and the colon before the bytes.
-const HEAD: usize = 11;
+/// The length of what stands before the bytes: two spaces, the mark, the address and the colon.
+const HEAD: usize = 13;
 
 /// Where what follows the bytes begins, unless they take more.
-const COLUMN: usize = 36;
+const COLUMN: usize = 38;
 
 /// The address of a place of the bundle.
 pub(crate) fn address_of(finding: &Finding<'_>, k: usize) -> u32
@@ -89,8 +89,8 @@ fn put_bytes(text: &mut [u8], bytes: &[u8], bar: u32) -> usize
     len
 }
 
-/// Puts a line into some text: an address, with a mark if it is that of the fault, the bytes there, with a bar at the end of the
-/// bundle, and their name. Returns the length of the line.
+/// Puts a line into some text, after its two spaces: an address, with a mark if it is that of the fault, the bytes there, with a bar at
+/// the end of the bundle, and their name. Returns the length of the text so far.
 fn put_row(
     text: &mut [u8],
     finding: &Finding<'_>,
@@ -101,15 +101,16 @@ fn put_row(
     requires few { length bytes.now ≤ 8 }
     requires room { length text.old ≡ 128 }
     requires named { IfSome name (λ n. IsName n.now) }
-    ensures within { result ≤ 128 }
+    ensures some { 2 ≤ result }
+    ensures within { result < 128 }
     ensures long { length text.new ≡ 128 }
 {
     let end = (finding.at - finding.at % BUNDLE).wrapping_add(BUNDLE);
     if at == finding.at {
-        text[0] = b'>';
+        text[2] = b'>';
     }
-    put_address(&mut text[2..10], at);
-    text[10] = b':';
+    put_address(&mut text[4..12], at);
+    text[12] = b':';
     let len = HEAD + put_bytes(&mut text[HEAD..HEAD + 44], bytes, end.wrapping_sub(at));
     match name {
         Some(name) => {
@@ -152,10 +153,10 @@ fn push_row(
     let mut text = [b' '; 128];
     let len = put_row(&mut text, finding, at, bytes, name);
     if times <= 1 {
-        push_line(out, &text, len)
+        push_line(out, &mut text, len)
     } else {
         let gap = choose(name.is_some(), b"  # ", b" # ");
-        push_times(out, &text[..len.max(COLUMN)], gap, times)
+        push_times(out, &text[2..len.max(COLUMN)], gap, times)
     }
 }
 
@@ -213,11 +214,13 @@ fn is_again(finding: &Finding<'_>, first: usize, end: usize, at: usize) -> bool
     ensures { result ≡ true → at + (end - first) ≤ 32 }
 {
     let len = end - first;
-    if SIZE - len < at || !is_start(finding, first) {
+    // Most instructions differ from the one before in their first bytes.
+    if SIZE - len < at || finding.bundle[first] != finding.bundle[at] {
         return false;
     }
     let fault = finding.at as usize % SIZE;
-    is_start(finding, at)
+    is_start(finding, first)
+        && is_start(finding, at)
         && end_of(finding.starts, at) == at + len
         && fault != first
         && fault != at
@@ -250,7 +253,11 @@ fn push_run(
     requires within { end ≤ 32 }
     ensures { OnOk result (Adds out.old.items out.new.items AreDetails) }
 {
-    let times = last.saturating_sub(first) / (end - first);
+    let times = if last == end {
+        1
+    } else {
+        last.saturating_sub(first) / (end - first)
+    };
     let at = address_of(finding, first);
     match named_at(finding, first) {
         Some((name, bytes)) => push_bytes(out, finding, at, bytes, Some(&name), times),

@@ -7,4 +7,4 @@ returns c =
     let old = c.args.out.now.items in
     let two = details_both old _ _ c.in_ok-push_label.ensures.details c.in_ok-push_listing.ensures in
     let three = details_both old _ _ two c.in_ok-push_target.ensures.details in
-    on_ok_weaker c.push_detail.result (details_both old _ c.push_detail.new.out.items three) c.push_detail.ensures.details
+    on_ok_weaker c.push_words.result (details_both old _ c.push_words.new.out.items three) c.push_words.ensures
