@@ -31,7 +31,8 @@ void nc_code_free(void *code); /* which may be null */
 /* Whole instructions, for others of the same lengths in one bundle. nce_transfer makes a jump or call. `copy` is their copy, or null. */
 int nc_code_patch(uint32_t at, const void *bytes, uint32_t len, void *copy);
 
-/* The steps of nc_code_new: an address with so much room, and the creation of code for it. */
+/* The steps of nc_code_new: an address with so much room, and the creation of code for it. Room isn't taken before that. So chunks that lead to
+   each other get one span together. */
 uint32_t nc_code_span(uint32_t len);
 void *nc_code_put(uint32_t span, const void *bytes, uint32_t len);
 

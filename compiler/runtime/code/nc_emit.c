@@ -342,7 +342,7 @@ static inline uint32_t jump_length(const NceCode *c, const NceItem *one, uint32_
     const NceLabel *label = c->labels + one->label;
     uint32_t to = label->item, is_long;
     if (to < (uint32_t)(one - c->items)) {
-        is_long = is_beyond(at + ((at & MASK) == MASK), label->place);
+        is_long = is_beyond(at, label->place);
     } else {
         is_long = c->passes == 0 && c->items[to].raw - (one->raw + one->raw_len) > NEAR;
     }
