@@ -42,8 +42,8 @@ long long nc_delete(unsigned at) {
 static int wrong(const char *what, uint32_t seed) {
     say("WRONG: ");
     say(what);
-    say(", program %: kind %, fault %, error %, at %\n", seed, (uint32_t)nc_code_why.kind, (uint32_t)nc_code_why.fault, (uint32_t)nc_code_why.error,
-        nc_code_why.at);
+    say(", program %: kind %, fault %, error %, at %\n", seed, (uint32_t)nc_code_why.kind, (uint32_t)nc_code_why.fault,
+        (uint32_t)nc_code_why.error, nc_code_why.at);
     return 0;
 }
 
@@ -91,10 +91,12 @@ static int agrees(uint32_t base) {
 static int patch(uint32_t base) {
     uint32_t k;
     for (k = 0; k < program.patches; k++) {
-        uint32_t label = program.labels[0] + draw(program.labels[1] - program.labels[0]), at = base + nce_place(&made[0].code, made[0].patched[k]);
+        uint32_t label = program.labels[0] + draw(program.labels[1] - program.labels[0]), len;
+        uint32_t at = base + nce_place(&made[0].code, made[0].patched[k]);
         uint8_t bytes[6];
         program.to[k] = label;
-        if (!nc_code_patch(at, bytes, nce_transfer(bytes, NCE_ALWAYS, at, base + nce_label_place(&made[0].code, made[0].labels[label])), NULL)) return 0;
+        len = nce_transfer(bytes, NCE_ALWAYS, at, base + nce_label_place(&made[0].code, made[0].labels[label]));
+        if (!nc_code_patch(at, bytes, len, NULL)) return 0;
         patches++;
     }
     return 1;

@@ -6,7 +6,8 @@
 #include <stdlib.h>
 #include <string.h>
 
-enum { BEGIN = 0x20000, BUNDLES = 256, CHUNKS = 64, FREE = 0, LIVE = 1, HELD = 2, REFUSED_AT = 0x20004, FAULT = 7, OCCUPIED = 40, INVALID = 22 };
+enum { BEGIN = 0x20000, BUNDLES = 256, CHUNKS = 64, REFUSED_AT = 0x20004, FAULT = 7, OCCUPIED = 40, INVALID = 22 };
+enum { FREE, LIVE, HELD };
 
 static uint8_t area[BUNDLES], begins[BUNDLES];
 static uint32_t bundles, asked, refusing, stolen;

@@ -5,8 +5,8 @@
 #include <string.h>
 
 enum {
-    SET, ADD, SUB, XOR, AND, OR, ADD_BYTE, ADD_NUMBER, ADD_HALF, LOAD, STORE, STORE_NUMBER, ADD_CELL, LEA, TIMES, SHIFT, SET_IF, MOVE_IF, STACK, NOTHING,
-    OPS
+    SET, ADD, SUB, XOR, AND, OR, ADD_BYTE, ADD_NUMBER, ADD_HALF, LOAD, STORE, STORE_NUMBER, ADD_CELL, LEA, TIMES, SHIFT, SET_IF, MOVE_IF,
+    STACK, NOTHING, OPS
 };
 static const uint8_t numbers[REGISTERS] = {NCE_EAX, NCE_EDX, NCE_EBX, NCE_ESI, NCE_EBP};
 
@@ -25,7 +25,8 @@ static uint32_t number(void) { return draw(2) ? draw(256) - 128 : draw(65536) <<
 
 /* A step in a chunk with these labels. */
 static Step step(Program *p, uint32_t chunk, uint32_t first, uint32_t labels) {
-    static const uint8_t kinds[] = {GO, GO, GO_IF, GO_IF, GO_IF, GO_IF, GO_BY, GO_TABLE, CALL, CALL, CALL_BY, RETURN, GO_OVER, CALL_OVER, GO_PATCHED, ALIGN};
+    static const uint8_t kinds[] = {GO, GO, GO_IF, GO_IF, GO_IF, GO_IF, GO_BY, GO_TABLE, CALL, CALL, CALL_BY, RETURN, GO_OVER, CALL_OVER,
+                                    GO_PATCHED, ALIGN};
     Step made = {PLAIN, (uint8_t)draw(OPS), (uint8_t)draw(REGISTERS), (uint8_t)draw(REGISTERS), number()};
     if (draw(3) != 0) return made;
     made.kind = kinds[draw(sizeof kinds)];
@@ -192,7 +193,8 @@ static void give_group(Made *m, const Step *x, uint32_t a, uint32_t b) {
         give(&m->code, bytes, (const uint8_t[]){2, 12}, 2);
         break;
     case SET_IF:
-        memcpy(bytes, (const uint8_t[]){0x39, (uint8_t)(0xC0 | b << 3 | a), 0x0F, (uint8_t)(0x90 | cc), 0xC1, 0x0F, 0xB6, (uint8_t)(0xC1 | a << 3)}, 8);
+        memcpy(bytes, (const uint8_t[]){0x39, (uint8_t)(0xC0 | b << 3 | a), 0x0F, (uint8_t)(0x90 | cc), 0xC1}, 5);
+        memcpy(bytes + 5, (const uint8_t[]){0x0F, 0xB6, (uint8_t)(0xC1 | a << 3)}, 3);
         give(&m->code, bytes, (const uint8_t[]){2, 3, 3}, 3);
         break;
     case MOVE_IF:

@@ -14,7 +14,8 @@ typedef struct State {
     uint32_t table[MOST_LABELS]; /* the addresses of labels that are entries */
 } State;
 
-/* The steps. END is the last one of a chunk. GO_OVER and CALL_OVER lead to the beginning of the other chunk, the others to labels of their own. */
+/* The steps. END is the last one of a chunk. GO_OVER and CALL_OVER lead to the beginning of the other chunk, the others to labels of their
+   own. */
 enum { PLAIN, BIND, ALIGN, END, GO, GO_IF, GO_BY, GO_TABLE, CALL, CALL_BY, RETURN, GO_OVER, CALL_OVER, GO_PATCHED };
 typedef struct Step {
     uint8_t kind, op, a, b; /* registers, or a condition */

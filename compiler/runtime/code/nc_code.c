@@ -18,7 +18,8 @@ static int why(int kind) {
 /* Notes the result of a call of the host. */
 static int told(long long result) {
     int number = -(int)(uint32_t)result;
-    nc_code_why = (NcCodeWhy){0, number < FAULTS ? 0 : number - FAULTS, number < FAULTS ? number : 0, (uint32_t)((uint64_t)result >> 32), 0};
+    int fault = number < FAULTS ? 0 : number - FAULTS;
+    nc_code_why = (NcCodeWhy){0, fault, number < FAULTS ? number : 0, (uint32_t)((uint64_t)result >> 32), 0};
     return why(number == 0 ? NC_CODE_MADE : NC_CODE_REFUSED);
 }
 

@@ -304,8 +304,8 @@ static inline uint32_t fitting(const NceCode *c, uint32_t raw, uint32_t room) {
 /* Writes nops up to a place. */
 static void fill(uint8_t *to, uint32_t from, uint32_t end) {
     static const uint8_t nops[9][9] = {
-        {0x90}, {0x66, 0x90}, {0x0F, 0x1F, 0x00}, {0x0F, 0x1F, 0x40, 0x00}, {0x0F, 0x1F, 0x44, 0x00, 0x00}, {0x66, 0x0F, 0x1F, 0x44, 0x00, 0x00},
-        {0x0F, 0x1F, 0x80, 0, 0, 0, 0}, {0x0F, 0x1F, 0x84, 0x00, 0, 0, 0, 0}, {0x66, 0x0F, 0x1F, 0x84, 0x00, 0, 0, 0, 0}};
+        {0x90}, {0x66, 0x90}, {0x0F, 0x1F, 0}, {0x0F, 0x1F, 0x40, 0}, {0x0F, 0x1F, 0x44, 0, 0}, {0x66, 0x0F, 0x1F, 0x44, 0, 0},
+        {0x0F, 0x1F, 0x80, 0, 0, 0, 0}, {0x0F, 0x1F, 0x84, 0, 0, 0, 0, 0}, {0x66, 0x0F, 0x1F, 0x84, 0, 0, 0, 0, 0}};
     while (from < end) {
         uint32_t room = NCE_BUNDLE - (from & MASK), len = end - from < room ? end - from : room;
         len = len < 9 ? len : 9;
@@ -314,7 +314,7 @@ static void fill(uint8_t *to, uint32_t from, uint32_t end) {
     }
 }
 
-/* Where instructions end that begin at the place `at`. If `to` isn't null, it also writes them, those together between which are no nops. */
+/* Where instructions end that begin at the place `at`. Writes them if `to` isn't null, those together between which there are no nops. */
 static inline __attribute__((always_inline)) uint32_t run(const NceCode *c, uint32_t raw, uint32_t end, uint32_t at, uint8_t *to) {
     uint32_t written = raw, place = at, room = NCE_BUNDLE - (at & MASK);
     for (; end - raw > room; room = NCE_BUNDLE) {
@@ -393,8 +393,8 @@ static uint32_t lay(NceCode *c, NceItem *one) {
     }
 }
 
-/* Makes the jumps long that don't reach. Returns the first of those, or the end. If there have been many passes, what reaches just so is made
-   long too, and in the end everything forward. */
+/* Makes the jumps long that don't reach. Returns the first of those, or the end. After many passes what just reaches is made long too, and
+   in the end everything ahead. */
 static NceItem *lengthen(NceCode *c) {
     NceItem *one = c->items, *end = one + c->count, *first = end;
     for (; one < end; one++) {

@@ -1,9 +1,9 @@
 /*
  * nc_emit.h: writes code in bundles, for generators of code in the sandbox. nc_code.h makes a chunk of it.
  *
- * A generator gives it ordinary i386 instructions, labels and transfers in order. It places them by the rules for chunks. No instruction
- * crosses the end of a bundle, a call ends where its bundle ends, an indirect transfer directly follows its mask, an entry is a bundle start,
- * and nops fill the gaps. A jump to a label is short if that reaches. It judges nothing, since the host does.
+ * A generator gives it ordinary i386 instructions, labels and transfers in order. It places them by the rules for chunks: no instruction
+ * crosses the end of a bundle, a call ends where its bundle ends, an indirect transfer directly follows its mask, an entry is a bundle
+ * start, and nops fill the gaps. A jump to a near label is short. It judges nothing, since the host does.
  *
  *     NceCode code;
  *     nce_begin(&code);
@@ -23,8 +23,8 @@
 extern "C" {
 #endif
 
-/* Faults: there is no memory, or more than NCE_MOST bytes; bytes that can't be raw, or something in the midst of an instruction; a label that
-   isn't there, is bound twice, or is used and isn't bound. */
+/* Faults: there is no memory, or more than NCE_MOST bytes; bytes that can't be raw, or something in the midst of an instruction; a label
+   that isn't there, is bound twice, or is used and isn't bound. */
 enum { NCE_OK, NCE_NO_MEMORY, NCE_BAD_BYTES, NCE_BAD_LABEL };
 enum { NCE_EAX, NCE_ECX, NCE_EDX, NCE_EBX, NCE_ESP, NCE_EBP, NCE_ESI, NCE_EDI };
 #define NCE_ALWAYS 16u /* the condition of a jump; 0 to 15 are those of Jcc, 70 + cc */
@@ -59,8 +59,8 @@ typedef struct NceCode {
 void nce_begin(NceCode *code);
 void nce_end(NceCode *code); /* frees its memory */
 
-/* One whole instruction that is no transfer; and any number of them, whose borders are found by decoding. An instruction may then come in
-   parts, if nothing else comes between. nce_length tells that of the first one, 0 if these aren't all of its bytes, or -1 if it can't be raw. */
+/* One whole instruction that is no transfer; and any number of them, whose borders are found by decoding. One may then come in parts, if
+   nothing else comes between. nce_length tells how long the first one is; 0 if these aren't all of its bytes, -1 if it can't be raw. */
 void nce_instruction(NceCode *code, const void *bytes, uint32_t len);
 void nce_raw(NceCode *code, const void *bytes, uint32_t len);
 int nce_length(const uint8_t *bytes, uint32_t len);
@@ -87,8 +87,8 @@ uint32_t nce_layout(NceCode *code);
 /* Writes the code for a base, a bundle start, into `size` bytes. 0 if it isn't laid out as it is now. */
 int nce_write(const NceCode *code, uint32_t base, void *to);
 
-/* Which one the last instruction or transfer is. After the layout nce_place tells how far it is from the base, and nce_label_place the same of
-   a label; NCE_NOWHERE if there is no layout. */
+/* Which one the last instruction or transfer is. After the layout nce_place tells how far it is from the base, and nce_label_place the same
+   of a label; NCE_NOWHERE if there is no layout. */
 uint32_t nce_last(NceCode *code);
 uint32_t nce_place(const NceCode *code, uint32_t last);
 uint32_t nce_label_place(const NceCode *code, uint32_t label);

@@ -1,9 +1,9 @@
 /*
  * nc_flat.h: gives finished i386 code with relocations to nc_emit, as a compiler that knows nothing of bundles writes it.
  *
- * All bytes are instructions. Direct transfers have a relocation, or stay within the code. Returns, and calls and jumps through memory, go by
- * ECX, so ECX is lost there, and the flags at these and at transfers by a register. Nobody misses them by C's conventions for calls. Code with
- * private ones, such as a result in a flag, is accepted and wrong.
+ * All bytes are instructions. Direct transfers have a relocation, or stay within the code. Returns, and calls and jumps through memory, go
+ * by ECX, so ECX is lost there, and the flags at these and at transfers by a register. Nobody misses them by C's conventions for calls.
+ * Code with private ones, such as a result in a flag, is accepted and wrong.
  */
 #ifndef NC_FLAT_H
 #define NC_FLAT_H
