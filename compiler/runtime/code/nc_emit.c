@@ -39,7 +39,7 @@ enum { SIB = 8 };
 static const uint8_t displacements[32] = {0, 0, 0, 0, SIB, 4, 0, 0, 1, 1, 1, 1, SIB | 1, 1, 1, 1, 4, 4, 4, 4, SIB | 4, 4, 4, 4};
 
 /* As nce_length; SLACK bytes more can be read. */
-static inline int length_at(const uint8_t *p, uint32_t len) {
+static inline __attribute__((always_inline)) int length_at(const uint8_t *p, uint32_t len) {
     uint32_t at = 0, word = 4, op, what, modrm = 0, form;
     for (; at < len && lengths[p[at]] == P; at++) word = p[at] == 0x66 ? 2 : word;
     op = p[at++];
@@ -154,9 +154,9 @@ void nce_raw(NceCode *c, const void *bytes, uint32_t len) {
         if (got <= 0 || got > (int)NCE_LONGEST) break;
         set_border(c, at);
     }
-    fail(c, at < end && (got != 0 || end - at >= NCE_LONGEST) ? NCE_BAD_BYTES : NCE_OK);
     c->len = end;
     c->partial = end - at;
+    if (at < end && (got != 0 || end - at >= NCE_LONGEST)) fail(c, NCE_BAD_BYTES);
 }
 
 /* A new item, with `len` bytes of its own, at most 6. NULL if there is a fault. */
