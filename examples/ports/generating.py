@@ -10,8 +10,8 @@ import sys
 
 HERE = os.path.dirname(os.path.abspath(__file__))
 sys.path.append(os.path.join(HERE, "..", "..", "compiler", "runtime"))
-from making import Fault, run, unpack
-from editing import Edit, edit_all
+from making import run, unpack
+from editing import edit_all
 from table import GENERATORS
 
 WIDTHS = (8, 16, 32)

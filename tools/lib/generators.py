@@ -5,11 +5,11 @@ import sys
 from typing import NamedTuple
 
 from examples import TOP
-from installing import SOURCES, ended
+from installing import SOURCES
 from porting import done
 
 sys.path.append(os.path.join(TOP, "examples", "ports"))
-from generating import GENERATORS, OWN, Compiler, edits_of, unpacked
+from generating import unpacked
 
 LIVE = ["--live-code", "16M", "--memory", "512M"]
 

@@ -5,9 +5,10 @@ import os
 import re
 import shutil
 
-from generators import OWN, Compiler, edits_of, ended, tell
-from generating import SLJIT_FLAGS, WIDTHS, Edit, edit_all, pcre2_flags, pcre2_jit_test, pcre2_library, pcre2_test
-from installing import run
+from generators import tell
+from editing import Edit, edit_all
+from generating import OWN, SLJIT_FLAGS, WIDTHS, Compiler, edits_of, pcre2_flags, pcre2_jit_test, pcre2_library, pcre2_test
+from installing import ended, run
 from porting import Fault
 
 NAME = "pcre2-jit"

@@ -5,8 +5,8 @@ import math
 import os
 import shutil
 
-from generators import OWN, Compiler, done, edits_of
-from generating import SLJIT_FLAGS, pcre2_flags, pcre2_library
+from generating import OWN, SLJIT_FLAGS, Compiler, edits_of, pcre2_flags, pcre2_library
+from porting import done
 
 NAME = "pcre2-jit"
 ROUNDS, INTERPRETED = 11, 3  # by turns; in how many of them the interpreter takes part

@@ -6,8 +6,10 @@ import re
 import shutil
 import subprocess
 
-from generators import OWN, done, edits_of, tell
-from generating import Edit, build_tcc, edit_all
+from generators import tell
+from editing import Edit, edit_all
+from generating import OWN, build_tcc, edits_of
+from porting import done
 
 NAME = "tcc"
 SECONDS = 60
