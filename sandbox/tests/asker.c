@@ -104,3 +104,38 @@ unsigned sweep(unsigned rounds, unsigned threads) {
     }
     return wrong;
 }
+
+/* ---- Tenants of one module, which make code as fast as they can */
+
+/* Makes code, runs it, patches it, runs it, and deletes it. How often something was wrong. */
+unsigned work(unsigned rounds) {
+    unsigned char code[32];
+    unsigned wrong = 0;
+    for (unsigned round = 1; round <= rounds; round++) {
+        struct nc_hole room;
+        wrong += nc_hole(0, &room) != 0;
+        if (room.len == 0) continue; /* all of it is held back */
+        lay(code, round);
+        wrong += (int)nc_create(room.at, code, sizeof code) != 0 || run(room.at) != round;
+        lay(code, ~round);
+        wrong += (int)nc_patch(room.at, code, 5) != 0 || run(room.at) != ~round;
+        wrong += (int)nc_delete(room.at) != 0;
+    }
+    return wrong;
+}
+
+/* Any requests, and any jumps, until one of them ends it. */
+unsigned rage(unsigned state) {
+    for (;;) {
+        unsigned at, what;
+        state = state * 1664525 + 1013904223;
+        at = 0x10000 + (state >> 8) % 0x20000 * (state >> 30 != 0 ? 32 : 1);
+        what = state >> 28 & 7;
+        lay(bytes, state);
+        bytes[state >> 20 & 31] ^= (unsigned char)(state >> 12);
+        if (what < 4) (void)nc_create(at & ~31u, bytes, 32 * (1 + (state >> 5 & 3)));
+        else if (what < 6) (void)nc_patch(at, bytes, state >> 5 & 15);
+        else if (what < 7) (void)nc_delete(at & ~31u);
+        else if (state % 32 == 0) run(at);
+    }
+}
