@@ -19,7 +19,7 @@
 	xorl	%esp, %esp
 	pushl	%eax
 	AT(no_call) /* 000100e0 */
-	jmp	0x200
+	jmp	0x280
 	AT(zone) /* 00010100 */
 	jmp	0x1000
 	AT(leap) /* 00010120 */
@@ -27,7 +27,7 @@
 	andl	$-32, %eax
 	jmp	*%eax
 	AT(return_to_zone) /* 00010140 */
-	pushl	$0x20
+	pushl	$0x60
 	jmp	nc_memory
 	AT(call_without_stack) /* 00010160 */
 	movl	$4, %esp
