@@ -1,29 +1,36 @@
-/* Compares compiler/runtime/floating.c, compiled for this system, with the processor's own floating point: the argument is the number of rounds.
-   Written for a 64-bit system, whose compiler doesn't call these functions by itself. */
-#include <math.h>
+/* Compares compiler/runtime/floating.c with the processor's instructions, bit by bit: all pairs of boundary values, then random pairs, as
+   many as the first argument says, from the seed that the second one gives. It prints where each function first differs. A third argument
+   names a function at whose first difference it ends. `all` instead tries each float, with the functions of one float.
+
+   It is for x86-64, and for i386 with SSE2. Numbers are passed as their bits, so none goes through an x87 register. */
 #include <stdint.h>
 #include <stdio.h>
 #include <stdlib.h>
 #include <string.h>
 
-typedef long long i64;
-typedef unsigned long long u64;
+typedef uint32_t u32;
+typedef uint64_t u64;
+typedef int32_t i32;
+typedef int64_t i64;
 
-#define DECLARE(type, mode) \
-    type __add##mode##3(type, type), __sub##mode##3(type, type), __mul##mode##3(type, type), __div##mode##3(type, type), __neg##mode##2(type); \
-    int __eq##mode##2(type, type), __ne##mode##2(type, type), __lt##mode##2(type, type), __le##mode##2(type, type), __gt##mode##2(type, type); \
-    int __ge##mode##2(type, type), __unord##mode##2(type, type), __fix##mode##si(type); \
-    i64 __fix##mode##di(type); \
-    unsigned __fixuns##mode##si(type); \
-    u64 __fixuns##mode##di(type); \
-    type __floatsi##mode(int), __floatdi##mode(i64), __floatunsi##mode(unsigned), __floatundi##mode(u64);
-DECLARE(double, df)
-DECLARE(float, sf)
-double __extendsfdf2(float);
-float __truncdfsf2(double);
+#define DECLARE(bits, mode) \
+    bits __add##mode##3(bits, bits), __sub##mode##3(bits, bits), __mul##mode##3(bits, bits), __div##mode##3(bits, bits); \
+    bits __neg##mode##2(bits); \
+    int __eq##mode##2(bits, bits), __ne##mode##2(bits, bits), __lt##mode##2(bits, bits), __le##mode##2(bits, bits); \
+    int __gt##mode##2(bits, bits), __ge##mode##2(bits, bits), __unord##mode##2(bits, bits); \
+    i32 __fix##mode##si(bits); \
+    i64 __fix##mode##di(bits); \
+    u32 __fixuns##mode##si(bits); \
+    u64 __fixuns##mode##di(bits); \
+    bits __floatsi##mode(i32), __floatdi##mode(i64), __floatunsi##mode(u32), __floatundi##mode(u64);
+DECLARE(u64, df)
+DECLARE(u32, sf)
+u64 __extendsfdf2(u32);
+u32 __truncdfsf2(u64);
 
-static u64 state = 88172645463325252ull;
+static u64 state;
 static unsigned long wrong;
+static const char *ending = "";
 
 static u64 chance(void) {
     state ^= state << 13;
@@ -31,71 +38,240 @@ static u64 chance(void) {
     return state ^= state << 17;
 }
 
-/* Bits of a number of `wide` bits with `digits` in its fraction: any, near 1, small, with few bits set, near the ends, or whole. */
-static u64 number(int wide, int digits) {
+static void report(const char *name, u64 a, u64 b, u64 made, u64 right) {
+    static const char *told[64];
+    int k = 0;
+    wrong++;
+    while (told[k] && strcmp(told[k], name)) k++;
+    if (told[k]) return;
+    told[k] = name;
+    printf("%s of %016llx and %016llx: %016llx, and not %016llx\n", name, (unsigned long long)a, (unsigned long long)b,
+           (unsigned long long)made, (unsigned long long)right);
+    if (strcmp(name, ending) == 0) exit(1);
+}
+
+#define SAME(name, a, b, made, right) do { \
+    u64 made_ = (u64)(made), right_ = (u64)(right); \
+    if (__builtin_expect(made_ != right_, 0)) report(name, a, b, made_, right_); \
+} while (0)
+
+static double number(u64 bits) {
+    double made;
+    memcpy(&made, &bits, 8);
+    return made;
+}
+
+static float number_s(u32 bits) {
+    float made;
+    memcpy(&made, &bits, 4);
+    return made;
+}
+
+static u64 bits_of(double made) {
+    u64 bits;
+    memcpy(&bits, &made, 8);
+    return bits;
+}
+
+static u32 bits_of_s(float made) {
+    u32 bits;
+    memcpy(&bits, &made, 4);
+    return bits;
+}
+
+/* The first operand is the destination, as in the order of a compiler that doesn't exchange them. */
+#define INSTRUCTION(name, instruction, type, bits, of, to) \
+    static bits name(bits a, bits b) { \
+        type made = of(a), other = of(b); \
+        __asm__(instruction " %1, %0" : "+x"(made) : "x"(other)); \
+        return to(made); \
+    }
+INSTRUCTION(add_df, "addsd", double, u64, number, bits_of)
+INSTRUCTION(sub_df, "subsd", double, u64, number, bits_of)
+INSTRUCTION(mul_df, "mulsd", double, u64, number, bits_of)
+INSTRUCTION(div_df, "divsd", double, u64, number, bits_of)
+INSTRUCTION(add_sf, "addss", float, u32, number_s, bits_of_s)
+INSTRUCTION(sub_sf, "subss", float, u32, number_s, bits_of_s)
+INSTRUCTION(mul_sf, "mulss", float, u32, number_s, bits_of_s)
+INSTRUCTION(div_sf, "divss", float, u32, number_s, bits_of_s)
+
+static u64 extended(u32 a) {
+    double made;
+    float other = number_s(a);
+    __asm__("cvtss2sd %1, %0" : "=x"(made) : "x"(other));
+    return bits_of(made);
+}
+
+static u32 truncated(u64 a) {
+    float made;
+    double other = number(a);
+    __asm__("cvtsd2ss %1, %0" : "=x"(made) : "x"(other));
+    return bits_of_s(made);
+}
+
+/* Within the range of the whole number these are the processor's conversions, and beyond it what floating.c promises. */
+static i32 to_i32(double a) { return a != a || a >= 0x1p31 ? INT32_MAX : a <= -0x1p31 ? INT32_MIN : (i32)a; }
+static i64 to_i64(double a) { return a != a || a >= 0x1p63 ? INT64_MAX : a <= -0x1p63 ? INT64_MIN : (i64)a; }
+
+static u32 to_u32(double a) {
+    if (a != a || a >= 0x1p32) return UINT32_MAX;
+    return a <= 0 ? 0 : a < 0x1p31 ? (u32)(i32)a : (u32)(i32)(a - 0x1p31) + (1u << 31);
+}
+
+static u64 to_u64(double a) {
+    if (a != a || a >= 0x1p64) return UINT64_MAX;
+    return a <= 0 ? 0 : a < 0x1p63 ? (u64)(i64)a : (u64)(i64)(a - 0x1p63) + (1ull << 63);
+}
+
+static int sign_of(int answer) { return (answer > 0) - (answer < 0); }
+
+/* What floating.c gives for one number and for two, by their bits `a` and `b`, beside the numbers `x` and `y`. */
+#define ONE(mode, a, x, sign) do { \
+    SAME("__neg" #mode "2", a, 0, __neg##mode##2(a), (a) ^ (sign)); \
+    SAME("__fix" #mode "si", a, 0, (u32)__fix##mode##si(a), (u32)to_i32(x)); \
+    SAME("__fix" #mode "di", a, 0, __fix##mode##di(a), to_i64(x)); \
+    SAME("__fixuns" #mode "si", a, 0, __fixuns##mode##si(a), to_u32(x)); \
+    SAME("__fixuns" #mode "di", a, 0, __fixuns##mode##di(a), to_u64(x)); \
+} while (0)
+
+#define TWO(mode, a, b, x, y) do { \
+    int none = x != x || y != y, order = x < y ? -1 : x > y; \
+    SAME("__add" #mode "3", a, b, __add##mode##3(a, b), add_##mode(a, b)); \
+    SAME("__sub" #mode "3", a, b, __sub##mode##3(a, b), sub_##mode(a, b)); \
+    SAME("__mul" #mode "3", a, b, __mul##mode##3(a, b), mul_##mode(a, b)); \
+    SAME("__div" #mode "3", a, b, __div##mode##3(a, b), div_##mode(a, b)); \
+    SAME("__eq" #mode "2", a, b, __eq##mode##2(a, b) == 0, x == y); \
+    SAME("__ne" #mode "2", a, b, __ne##mode##2(a, b) != 0, x != y); \
+    SAME("__lt" #mode "2", a, b, sign_of(__lt##mode##2(a, b)), none ? 1 : order); \
+    SAME("__le" #mode "2", a, b, sign_of(__le##mode##2(a, b)), none ? 1 : order); \
+    SAME("__gt" #mode "2", a, b, sign_of(__gt##mode##2(a, b)), none ? -1 : order); \
+    SAME("__ge" #mode "2", a, b, sign_of(__ge##mode##2(a, b)), none ? -1 : order); \
+    SAME("__unord" #mode "2", a, b, __unord##mode##2(a, b) != 0, none); \
+} while (0)
+
+#define OF_WHOLE(mode, whole, type, to) do { \
+    SAME("__floatsi" #mode, whole, 0, __floatsi##mode((i32)(whole)), to((type)(i32)(whole))); \
+    SAME("__floatunsi" #mode, whole, 0, __floatunsi##mode((u32)(whole)), to((type)(u32)(whole))); \
+    SAME("__floatdi" #mode, whole, 0, __floatdi##mode((i64)(whole)), to((type)(i64)(whole))); \
+    SAME("__floatundi" #mode, whole, 0, __floatundi##mode(whole), to((type)(whole))); \
+} while (0)
+
+static void try_one(u64 a) {
+    ONE(df, a, number(a), 1ull << 63);
+    SAME("__truncdfsf2", a, 0, __truncdfsf2(a), truncated(a));
+}
+
+static void try_one_s(u32 a) {
+    ONE(sf, a, number_s(a), 1u << 31);
+    SAME("__extendsfdf2", a, 0, __extendsfdf2(a), extended(a));
+}
+
+static void try_two(u64 a, u64 b) {
+    double x = number(a), y = number(b);
+    TWO(df, a, b, x, y);
+}
+
+static void try_two_s(u32 a, u32 b) {
+    float x = number_s(a), y = number_s(b);
+    TWO(sf, a, b, x, y);
+}
+
+static void try_whole(u64 whole) {
+    OF_WHOLE(df, whole, double, bits_of);
+    OF_WHOLE(sf, whole, float, bits_of_s);
+}
+
+enum { MOST = 2000 };
+
+/* Numbers of a format with `digits` in its fraction and `top` as the largest field. Fields are near the ends, the sizes of whole numbers,
+   those of floats, and the distances at which a sum's smaller operand goes out. Fractions are near the ends and the middle, a tie of
+   floats, and any. */
+static int boundaries(u64 *made, int digits, int top) {
+    static const int from_middle[] = {-151, -150, -149, -148, -127, -126, -125, -2, -1, 0,  1,  2,  22, 23,  24,  25,  26, 29,
+                                      30,   31,   32,   33,   51,   52,   53,   54, 55, 56, 61, 62, 63, 64, 65, 126, 127, 128};
+    static const int from_ends[] = {0, 1, 2, 3, 22, 23, 24, 25, 26, 51, 52, 53, 54, 55, 56};
+    const u64 one = 1ull << digits, half = one / 2, tie = digits > 23 ? 3ull << (digits - 24) : 3;
+    const u64 fractions[] = {0, 1, 2, half - 1, half, half + 1, one - 2, one - 1, half / 2, tie, chance() % one};
+    int fields[100], count = 0, found = 0;
+    for (unsigned k = 0; k < sizeof from_middle / sizeof *from_middle; k++) fields[count++] = top / 2 + from_middle[k];
+    for (unsigned k = 0; k < sizeof from_ends / sizeof *from_ends; k++) {
+        fields[count++] = from_ends[k];
+        fields[count++] = top - from_ends[k];
+    }
+    for (int k = 0; k < count; k++)
+        for (unsigned f = 0; f < sizeof fractions / sizeof *fractions; f++)
+            for (u64 sign = 0; sign < 2 && fields[k] >= 0 && fields[k] <= top; sign++)
+                made[found++] = (sign * (top + 1ull) + (u64)fields[k]) * one + fractions[f];
+    return found;
+}
+
+static void try_boundaries(void) {
+    static u64 made[MOST], made_s[MOST];
+    int count = boundaries(made, 52, 2047), count_s = boundaries(made_s, 23, 255);
+    for (int k = 0; k < count; k++) {
+        try_one(made[k]);
+        for (int m = 0; m < count; m++) try_two(made[k], made[m]);
+    }
+    for (int k = 0; k < count_s; k++) {
+        try_one_s((u32)made_s[k]);
+        for (int m = 0; m < count_s; m++) try_two_s((u32)made_s[k], (u32)made_s[m]);
+    }
+    for (int first = 0; first < 64; first++)
+        for (int half = 0; half < 64; half++)
+            for (u64 more = 0; more < 12; more++) {
+                u64 whole = (1ull << first) + (more < 6 ? 1ull << half : 0) + (more % 3 ? 1ull << (half + more % 3) % 64 : 0) - (more & 1);
+                try_whole(whole);
+                try_whole(-whole);
+            }
+}
+
+/* Bits of a number of `wide` bits with `digits` in its fraction: any, near 1, subnormal, with few bits set, near the ends, or whole. */
+static u64 random_number(int wide, int digits) {
     u64 bits = chance() >> (64 - wide), fraction = (1ull << digits) - 1, top = (1ull << (wide - 1 - digits)) - 1, sign = 1ull << (wide - 1);
-    switch (chance() % 7) {
+    switch (chance() % 8) {
     case 0: return bits;
     case 1: return (bits & (sign | fraction)) | (top / 2 - 3 + chance() % 7) << digits;
-    case 2: return bits & (sign | fraction);
+    case 2: return (bits & sign) | (bits & fraction) >> chance() % (u64)digits;
     case 3: return bits & ~fraction;
-    case 4: return (bits & (sign | fraction)) | (chance() % 2 ? top - 1 : chance() % (digits + 8)) << digits;
+    case 4: return (bits & (sign | fraction)) | (chance() % 2 ? top - chance() % 3 : chance() % ((u64)digits + 8)) << digits;
     case 5: return bits & chance() & chance();
+    case 6: return bits | (fraction & chance() & chance());
     default: return (bits & sign) | (top / 2 + chance() % 70 % (top / 2)) << digits | (chance() & chance() & fraction);
     }
 }
 
-static void report(const char *name, u64 a, u64 b, u64 made, u64 right) {
-    if (wrong++ < 20) printf("%s of %016llx and %016llx: %016llx, and not %016llx\n", name, a, b, made, right);
+/* Another number: any, or with an exponent that is less by as much as a fraction has digits, or the same number but for a bit or two. */
+static u64 random_other(u64 first, int wide, int digits) {
+    const u64 sign = 1ull << (wide - 1), one = 1ull << digits, other = random_number(wide, digits);
+    u64 field = first & (sign - one), distance = chance() % ((u64)digits + 6) * one, few = chance() % 3;
+    switch (chance() % 8) {
+    case 0: return first ^ few ^ chance() % 2 * sign;
+    case 1:
+    case 2:
+    case 3: return (other & (sign | (one - 1))) | (field > distance && few ? field - distance : field);
+    case 4: return (other & sign) | (field > distance ? field - distance : field) | (chance() % 2 ? few : one - 1 - few);
+    default: return other;
+    }
 }
-
-static void same(const char *name, u64 a, u64 b, double made, double right) {
-    u64 made_bits, right_bits;
-    memcpy(&made_bits, &made, 8);
-    memcpy(&right_bits, &right, 8);
-    if (made_bits != right_bits && !(isnan(made) && isnan(right))) report(name, a, b, made_bits, right_bits);
-}
-
-static void same_whole(const char *name, u64 a, u64 b, i64 made, i64 right) {
-    if (made != right) report(name, a, b, (u64)made, (u64)right);
-}
-
-#define ROUND(type, mode, x, y, a, b, whole) do { \
-    same("add", x, y, __add##mode##3(a, b), (type)(a + b)); \
-    same("sub", x, y, __sub##mode##3(a, b), (type)(a - b)); \
-    same("mul", x, y, __mul##mode##3(a, b), (type)(a * b)); \
-    same("div", x, y, __div##mode##3(a, b), (type)(a / b)); \
-    same("neg", x, y, __neg##mode##2(a), -a); \
-    same_whole("eq", x, y, __eq##mode##2(a, b) == 0, a == b); \
-    same_whole("ne", x, y, __ne##mode##2(a, b) != 0, a != b); \
-    same_whole("lt", x, y, __lt##mode##2(a, b) < 0, a < b); \
-    same_whole("le", x, y, __le##mode##2(a, b) <= 0, a <= b); \
-    same_whole("gt", x, y, __gt##mode##2(a, b) > 0, a > b); \
-    same_whole("ge", x, y, __ge##mode##2(a, b) >= 0, a >= b); \
-    same_whole("unord", x, y, __unord##mode##2(a, b) != 0, isnan(a) || isnan(b)); \
-    if (fabs((double)a) < 0x1p31) same_whole("fixsi", x, y, __fix##mode##si(a), (int)a); \
-    if (fabs((double)a) < 0x1p63) same_whole("fixdi", x, y, __fix##mode##di(a), (i64)a); \
-    if (a >= 0 && a < 0x1p32) same_whole("fixunssi", x, y, __fixuns##mode##si(a), (unsigned)a); \
-    if (a >= 0 && a < 0x1p64) same_whole("fixunsdi", x, y, (i64)__fixuns##mode##di(a), (i64)(u64)a); \
-    same("floatsi", whole, 0, __floatsi##mode((int)whole), (type)(int)whole); \
-    same("floatdi", whole, 0, __floatdi##mode((i64)whole), (type)(i64)whole); \
-    same("floatunsi", whole, 0, __floatunsi##mode((unsigned)whole), (type)(unsigned)whole); \
-    same("floatundi", whole, 0, __floatundi##mode(whole), (type)whole); \
-} while (0)
 
 int main(int count, char **words) {
-    long rounds = count == 2 ? atol(words[1]) : 0;
-    for (long round = 0; round < rounds; round++) {
-        u64 x = number(64, 52), y = chance() % 16 ? number(64, 52) : x ^ (chance() & 3), whole = chance() >> chance() % 64;
-        uint32_t p = (uint32_t)number(32, 23), q = chance() % 16 ? (uint32_t)number(32, 23) : p ^ (chance() & 3);
-        volatile double a, b;
-        volatile float c, d;
-        memcpy((void *)&a, &x, 8), memcpy((void *)&b, &y, 8), memcpy((void *)&c, &p, 4), memcpy((void *)&d, &q, 4);
-        ROUND(double, df, x, y, a, b, whole);
-        ROUND(float, sf, p, q, c, d, whole);
-        same("extend", p, 0, __extendsfdf2(c), c);
-        same("trunc", x, 0, __truncdfsf2(a), (float)a);
+    u64 rounds = count > 2 ? strtoull(words[1], 0, 10) : 0, tried = 0;
+    state = 88172645463325252ull + (count > 2 ? strtoull(words[2], 0, 10) * 0x9E3779B97F4A7C15ull : 0);
+    if (count > 3) ending = words[3];
+    if (count == 2 && strcmp(words[1], "all") == 0) {
+        for (tried = 1ull << 32; tried-- > 0;) try_one_s((u32)tried);
+        printf("each float, %lu wrong\n", wrong);
+        return wrong != 0;
     }
-    printf("%ld rounds, %lu wrong\n", rounds, wrong);
+    try_boundaries();
+    for (; tried < rounds; tried++) {
+        u64 x = random_number(64, 52), p = random_number(32, 23);
+        try_one(x);
+        try_two(x, random_other(x, 64, 52));
+        try_one_s((u32)p);
+        try_two_s((u32)p, (u32)random_other(p, 32, 23));
+        try_whole(chance() >> chance() % 64);
+    }
+    printf("%llu random pairs, %lu wrong\n", (unsigned long long)tried, wrong);
     return wrong || rounds == 0;
 }
