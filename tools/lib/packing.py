@@ -58,6 +58,7 @@ FILES = [
     ("compiler/runtime/floating.c", DOC + "examples/library/floating.c"),
     ("compiler/runtime/heap.h", DOC + "examples/library/heap.h"),
     ("compiler/runtime/making.py", DOC + "examples/library/making.py"),
+    ("compiler/runtime/math.c", DOC + "examples/library/math.c"),
     ("compiler/runtime/runtime.py", DOC + "examples/library/runtime.py"),
     ("compiler/runtime/setup.h", DOC + "examples/library/setup.h"),
     ("compiler/runtime/start.c", DOC + "examples/library/start.c"),
