@@ -310,7 +310,7 @@ void ncs_deny(NcsBox *box);
 /* ---- Memory */
 
 /* The calls judge each range. The box's bytes lie at or above 00010000 and below the limit `memory`. While another thread is in a call of
-   the box, its memory changes at any moment. */
+   the box, or of one beside it, its memory changes at any moment. */
 
 /* Returns a pointer to `len` bytes of the box, valid until the box is freed. Returns null unless all of them are the box's. */
 void *ncs_at(NcsBox *box, NcsAt at, uint32_t len);
