@@ -62,40 +62,6 @@ static sljit_s32 nc_pop(struct sljit_compiler *compiler, sljit_s32 dst, sljit_sw
 
 /* ---- Second pass */
 
-static uint32_t nc_condition(const struct sljit_jump *jump)
-{
-	sljit_uw type = jump->flags >> TYPE_SHIFT;
-
-	if (type >= SLJIT_FAST_CALL)
-		return NCE_CALL;
-	return type >= SLJIT_JUMP ? NCE_ALWAYS : (uint32_t)(get_jump_code(type) & 0xf);
-}
-
-static void nc_give_jump(NceCode *code, const struct sljit_jump *jump)
-{
-	uint32_t cc = nc_condition(jump);
-
-	if (cc == NCE_CALL && (jump->flags & JUMP_LABEL))
-		nce_call(code, jump->u.label->size);
-	else if (cc == NCE_CALL)
-		nce_call_to(code, jump->u.target);
-	else if (jump->flags & JUMP_LABEL)
-		nce_jump(code, cc, jump->u.label->size);
-	else
-		nce_jump_to(code, cc, jump->u.target);
-	if (jump->flags & SLJIT_REWRITABLE_JUMP)
-		nce_far(code);
-}
-
-/* What of sljit's lists comes next in its records, and the last record with instructions. */
-struct nc_next {
-	struct sljit_label *label;
-	struct sljit_jump *jump;
-	struct sljit_const *const_;
-	struct sljit_put_label *put_label;
-	const sljit_u8 *last;
-};
-
 /* Where the bundler has what can be patched, and above that number what its opcode tells: a condition, that it is a call, or a register. */
 #define NC_KIND_SHIFT 26
 #define NC_NO_PATCH (~(sljit_uw)0)
@@ -109,6 +75,43 @@ static sljit_uw nc_spot_place(sljit_uw addr)
 {
 	return addr & (((sljit_uw)1 << NC_KIND_SHIFT) - 1);
 }
+
+static uint32_t nc_condition(const struct sljit_jump *jump)
+{
+	sljit_uw type = jump->flags >> TYPE_SHIFT;
+
+	if (type >= SLJIT_FAST_CALL)
+		return NCE_CALL;
+	return type >= SLJIT_JUMP ? NCE_ALWAYS : (uint32_t)(get_jump_code(type) & 0xf);
+}
+
+static void nc_give_jump(NceCode *code, struct sljit_jump *jump)
+{
+	uint32_t cc = nc_condition(jump);
+
+	if (cc == NCE_CALL && (jump->flags & JUMP_LABEL))
+		nce_call(code, jump->u.label->size);
+	else if (cc == NCE_CALL)
+		nce_call_to(code, jump->u.target);
+	else if (jump->flags & JUMP_LABEL)
+		nce_jump(code, cc, jump->u.label->size);
+	else
+		nce_jump_to(code, cc, jump->u.target);
+	jump->addr = NC_NO_PATCH;
+	if (jump->flags & SLJIT_REWRITABLE_JUMP) {
+		nce_far(code);
+		jump->addr = nc_spot(nce_last(code), cc);
+	}
+}
+
+/* What of sljit's lists comes next in its records, and the last record with instructions. */
+struct nc_next {
+	struct sljit_label *label;
+	struct sljit_jump *jump;
+	struct sljit_const *const_;
+	struct sljit_put_label *put_label;
+	const sljit_u8 *last;
+};
 
 /* A constant can be patched where it is moved to a register. That of a virtual register, which is in memory, can't be. */
 static sljit_uw nc_constant(NceCode *code, const struct nc_next *next)
@@ -128,7 +131,6 @@ static sljit_uw nc_give_other(NceCode *code, struct nc_next *next, const sljit_u
 		return 1;
 	case 1:
 		nc_give_jump(code, next->jump);
-		next->jump->addr = nc_spot(nce_last(code), nc_condition(next->jump));
 		next->jump = next->jump->next;
 		return 1;
 	case 2:
@@ -147,6 +149,22 @@ static sljit_uw nc_give_other(NceCode *code, struct nc_next *next, const sljit_u
 			nce_jump_by(code, record[1] & NC_REGISTER);
 		return 2;
 	}
+}
+
+/* How long a record with this first byte is at most, if it is one whole instruction. Longer ones are several pushes, pops or exchanges. 0 are
+   prefixes, and `imul` with a number, which comes in a second record. */
+static const sljit_u8 nc_longest[256] = {
+	[0x00 ... 0x0e] = 15, [0x10 ... 0x4f] = 15, [0x50 ... 0x5f] = 1, [0x80 ... 0x86] = 15, [0x87] = 7, [0x88 ... 0x8f] = 15,
+	[0x90 ... 0x97] = 1, [0x98 ... 0xef] = 15, [0xf4 ... 0xff] = 15,
+};
+
+/* With two bytes of opcode, `movzx` and `movsx` are whole instructions, which `setcc` and `shld` aren't. */
+static void nc_give_instructions(NceCode *code, const sljit_u8 *bytes, sljit_uw len)
+{
+	if (code->partial == 0 && (len <= nc_longest[bytes[0]] || (bytes[0] == GROUP_0F && (bytes[1] & 0xf6) == MOVZX_r_rm8)))
+		nce_instruction(code, bytes, len);
+	else
+		nce_raw(code, bytes, len);
 }
 
 /* Gives all records to the bundler. From now on a label's `size` is its number there. */
@@ -169,7 +187,7 @@ static void nc_give_records(struct sljit_compiler *compiler, NceCode *code)
 				continue;
 			}
 			next.last = record;
-			nce_raw(code, record + 1, *record);
+			nc_give_instructions(code, record + 1, *record);
 			record += 1 + *record;
 		}
 	}
@@ -191,8 +209,10 @@ static void nc_tell_places(struct sljit_compiler *compiler, const NceCode *code,
 
 	for (label = compiler->labels; label; label = label->next)
 		label->addr = made + nce_label_place(code, label->size);
-	for (jump = compiler->jumps; jump; jump = jump->next)
-		jump->addr = nc_moved(code, jump->addr, made);
+	for (jump = compiler->jumps; jump; jump = jump->next) {
+		if (jump->flags & SLJIT_REWRITABLE_JUMP)
+			jump->addr = nc_moved(code, jump->addr, made);
+	}
 	for (const_ = compiler->consts; const_; const_ = const_->next)
 		const_->addr = nc_moved(code, const_->addr, made);
 }
