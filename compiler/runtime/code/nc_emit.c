@@ -12,6 +12,7 @@ enum { LABEL, ALIGN, PLAIN, JUMP, CALL, ADDRESS, JUMP_TO, CALL_TO, JUMP_BY, CALL
 #define SLACK 16u /* bytes after the given ones, so that decoding may read on */
 #define SPARE 4u  /* bytes of `borders` before the first bit and after the last one, so that a window can be read as a word */
 #define BORDERS(room) ((room) == 0 ? 0 : (room) / 8 + 2 * SPARE)
+#define INLINE static inline __attribute__((always_inline))
 
 /* ---- Lengths */
 
@@ -39,7 +40,7 @@ enum { SIB = 8 };
 static const uint8_t displacements[32] = {0, 0, 0, 0, SIB, 4, 0, 0, 1, 1, 1, 1, SIB | 1, 1, 1, 1, 4, 4, 4, 4, SIB | 4, 4, 4, 4};
 
 /* As nce_length; SLACK bytes more can be read. */
-static inline __attribute__((always_inline)) int length_at(const uint8_t *p, uint32_t len) {
+INLINE int length_at(const uint8_t *p, uint32_t len) {
     uint32_t at = 0, word = 4, op, what, modrm = 0, form;
     for (; at < len && lengths[p[at]] == P; at++) word = p[at] == 0x66 ? 2 : word;
     op = p[at++];
@@ -79,14 +80,12 @@ void nce_end(NceCode *c) {
 
 static void fail(NceCode *c, uint32_t fault) { c->fault = c->fault == NCE_OK ? fault : c->fault; }
 
-/* An array with room for one more element, or NULL and a fault. */
-static inline void *with_room(NceCode *c, void *array, uint32_t count, uint32_t *room, size_t size) {
-    if (count == *room) {
-        uint32_t wanted = count == 0 ? 64 : 2 * count;
-        array = realloc(array, wanted * size);
-        *room = array != NULL ? wanted : count;
-        fail(c, array != NULL ? NCE_OK : NCE_NO_MEMORY);
-    }
+/* Makes an array of so many elements twice as long. NULL and a fault if there is no memory. */
+static __attribute__((noinline)) void *grow_array(NceCode *c, void *array, uint32_t *count, size_t size) {
+    uint32_t wanted = *count == 0 ? 64 : 2 * *count;
+    array = realloc(array, wanted * size);
+    *count = array != NULL ? wanted : *count;
+    fail(c, array != NULL ? NCE_OK : NCE_NO_MEMORY);
     return array;
 }
 
@@ -122,21 +121,24 @@ static inline void copy_few(uint8_t *to, const uint8_t *from, uint32_t len) {
     }
 }
 
-static inline void set_border(NceCode *c, uint32_t at) { c->borders[at / 32 + 1] |= 1u << at % 32; }
-
-/* One more instruction, for which there is room. */
-static inline void append(NceCode *c, const uint8_t *bytes, uint32_t len) {
-    uint32_t at = c->len;
-    copy_few(c->bytes + at, bytes, len);
-    set_border(c, at);
-    c->len = at + len;
+/* Copies any number of bytes, which mostly are few. */
+static inline void copy(uint8_t *to, const uint8_t *from, uint32_t len) {
+    if (len - 1 < NCE_LONGEST) {
+        copy_few(to, from, len);
+    } else {
+        memcpy(to, from, len);
+    }
 }
+
+static inline void set_border(NceCode *c, uint32_t at) { c->borders[at / 32 + 1] |= 1u << at % 32; }
 
 void nce_instruction(NceCode *c, const void *bytes, uint32_t len) {
     if ((c->fault | c->partial) != 0 || len - 1 >= NCE_LONGEST) {
         fail(c, NCE_BAD_BYTES);
     } else if (len <= c->room - c->len || grow_bytes(c, len)) {
-        append(c, bytes, len);
+        copy_few(c->bytes + c->len, bytes, len);
+        set_border(c, c->len);
+        c->len += len;
     }
 }
 
@@ -144,11 +146,7 @@ void nce_raw(NceCode *c, const void *bytes, uint32_t len) {
     uint32_t at = c->len - c->partial, end = c->len + len;
     int got = 0;
     if (c->fault != NCE_OK || len == 0 || (len > c->room - c->len && !grow_bytes(c, len))) return;
-    if (len <= NCE_LONGEST) {
-        copy_few(c->bytes + c->len, bytes, len);
-    } else {
-        memcpy(c->bytes + c->len, bytes, len);
-    }
+    copy(c->bytes + c->len, bytes, len);
     for (; at < end; at += (uint32_t)got) {
         got = length_at(c->bytes + at, end - at);
         if (got <= 0 || got > (int)NCE_LONGEST) break;
@@ -159,34 +157,43 @@ void nce_raw(NceCode *c, const void *bytes, uint32_t len) {
     if (at < end && (got != 0 || end - at >= NCE_LONGEST)) fail(c, NCE_BAD_BYTES);
 }
 
-/* A new item, with `len` bytes of its own, at most 6. NULL if there is a fault. */
-static NceItem *item(NceCode *c, unsigned kind, uint32_t label, const uint8_t *bytes, uint32_t len) {
+static int grow_items(NceCode *c) {
+    NceItem *more = grow_array(c, c->items, &c->items_room, sizeof *more);
+    c->items = more != NULL ? more : c->items;
+    return more != NULL;
+}
+
+static int grow_labels(NceCode *c) {
+    NceLabel *more = grow_array(c, c->labels, &c->labels_room, sizeof *more);
+    c->labels = more != NULL ? more : c->labels;
+    return more != NULL;
+}
+
+/* A new item, with room for `len` bytes of its own. NULL if there is a fault. */
+INLINE NceItem *item(NceCode *c, unsigned kind, uint32_t label, uint32_t len) {
     NceItem *one;
-    if ((c->fault | c->partial) != 0 || (len > c->room - c->len && !grow_bytes(c, len)) ||
-        (one = with_room(c, c->items, c->count, &c->items_room, sizeof *one)) == NULL) {
+    if ((c->fault | c->partial) != 0 || (len > c->room - c->len && !grow_bytes(c, len)) || (c->count == c->items_room && !grow_items(c))) {
         fail(c, NCE_BAD_BYTES);
         return NULL;
     }
-    c->items = one;
-    one += c->count++;
+    one = c->items + c->count++;
     *one = (NceItem){.raw = c->len, .label = label, .kind = (uint8_t)kind, .raw_len = (uint8_t)len, .len = (uint8_t)len};
     c->laid = NCE_NOWHERE;
-    if (len != 0) append(c, bytes, len);
+    if (len != 0) set_border(c, c->len);
+    c->len += len;
     return one;
 }
 
 uint32_t nce_label(NceCode *c) {
-    NceLabel *more = with_room(c, c->labels, c->label_count, &c->labels_room, sizeof *more);
-    c->labels = more != NULL ? more : c->labels;
-    if (more != NULL) {
-        more[c->label_count] = (NceLabel){.item = NCE_NOWHERE};
-    }
-    return more != NULL ? c->label_count++ : 0;
+    if (c->label_count == c->labels_room && !grow_labels(c)) return 0;
+    c->labels[c->label_count] = (NceLabel){.item = NCE_NOWHERE};
+    return c->label_count++;
 }
 
 static NceLabel *label_of(NceCode *c, uint32_t label) {
-    fail(c, label < c->label_count ? NCE_OK : NCE_BAD_LABEL);
-    return label < c->label_count ? c->labels + label : NULL;
+    if (label < c->label_count) return c->labels + label;
+    fail(c, NCE_BAD_LABEL);
+    return NULL;
 }
 
 /* A label that has to be bound in the end. */
@@ -203,7 +210,7 @@ void nce_bind(NceCode *c, uint32_t label) {
     NceLabel *one = label_of(c, label);
     if (one != NULL && one->item < WANTED) {
         fail(c, NCE_BAD_LABEL);
-    } else if (one != NULL && item(c, LABEL, label, NULL, 0) != NULL) {
+    } else if (one != NULL && item(c, LABEL, label, 0) != NULL) {
         c->open -= one->item == WANTED;
         one->item = c->count - 1;
     }
@@ -229,7 +236,7 @@ uint32_t nce_last(NceCode *c) {
     NceItem *one = c->count != 0 ? c->items + c->count - 1 : NULL;
     if (len == 0 || (one != NULL && one->raw > raw)) {
         fail(c, NCE_BAD_BYTES);
-    } else if ((one == NULL || one->raw < raw || one->raw_len == 0) && (one = item(c, PLAIN, 0, NULL, 0)) != NULL) {
+    } else if ((one == NULL || one->raw < raw || one->raw_len == 0) && (one = item(c, PLAIN, 0, 0)) != NULL) {
         one->raw = raw;
         one->raw_len = one->len = (uint8_t)len;
     }
@@ -256,17 +263,16 @@ uint32_t nce_transfer(uint8_t to[6], uint32_t cc, uint32_t at, uint32_t target) 
 }
 
 /* A transfer, whose displacement is the label or address as yet. */
-static void direct(NceCode *c, unsigned kind, uint32_t cc, uint32_t word) {
-    uint8_t bytes[6];
-    uint32_t len = nce_transfer(bytes, cc, 0, word + (cc >= NCE_ALWAYS ? 5 : 6));
-    if (kind == JUMP_TO || kind == CALL_TO || used(c, word) != NULL) (void)item(c, kind, word, bytes, len);
+INLINE void direct(NceCode *c, unsigned kind, uint32_t cc, uint32_t word) {
+    NceItem *one = kind == JUMP_TO || kind == CALL_TO || used(c, word) != NULL ? item(c, kind, word, cc >= NCE_ALWAYS ? 5 : 6) : NULL;
+    if (one != NULL) (void)nce_transfer(c->bytes + one->raw, cc, 0, word + one->len);
 }
 
 void nce_jump(NceCode *c, uint32_t cc, uint32_t label) { direct(c, JUMP, cc, label); }
 void nce_jump_to(NceCode *c, uint32_t cc, uint32_t address) { direct(c, JUMP_TO, cc, address); }
 void nce_call(NceCode *c, uint32_t label) { direct(c, CALL, NCE_CALL, label); }
 void nce_call_to(NceCode *c, uint32_t address) { direct(c, CALL_TO, NCE_CALL, address); }
-void nce_align(NceCode *c) { (void)item(c, ALIGN, 0, NULL, 0); }
+void nce_align(NceCode *c) { (void)item(c, ALIGN, 0, 0); }
 
 void nce_far(NceCode *c) {
     NceItem *one = c->count != 0 ? c->items + c->count - 1 : NULL;
@@ -281,8 +287,12 @@ void nce_far(NceCode *c) {
 /* The mask of a register, and the transfer by it. */
 static void indirect(NceCode *c, unsigned kind, unsigned reg) {
     const uint8_t bytes[5] = {0x83, (uint8_t)(0xE0 + reg), 0xE0, 0xFF, (uint8_t)((kind == CALL_BY ? 0xD0 : 0xE0) + reg)};
-    if (reg > NCE_EDI || reg == NCE_ESP) fail(c, NCE_BAD_BYTES);
-    (void)item(c, kind, 0, bytes, sizeof bytes);
+    NceItem *one = reg > NCE_EDI || reg == NCE_ESP ? NULL : item(c, kind, 0, sizeof bytes);
+    if (one != NULL) {
+        copy_few(c->bytes + one->raw, bytes, sizeof bytes);
+    } else {
+        fail(c, NCE_BAD_BYTES);
+    }
 }
 
 void nce_jump_by(NceCode *c, unsigned reg) { indirect(c, JUMP_BY, reg); }
@@ -315,7 +325,7 @@ static void fill(uint8_t *to, uint32_t from, uint32_t end) {
 }
 
 /* Where instructions end that begin at the place `at`. Writes them if `to` isn't null, those together between which there are no nops. */
-static inline __attribute__((always_inline)) uint32_t run(const NceCode *c, uint32_t raw, uint32_t end, uint32_t at, uint8_t *to) {
+INLINE uint32_t run(const NceCode *c, uint32_t raw, uint32_t end, uint32_t at, uint8_t *to) {
     uint32_t written = raw, place = at, room = NCE_BUNDLE - (at & MASK);
     for (; end - raw > room; room = NCE_BUNDLE) {
         uint32_t got = fitting(c, raw, room);
@@ -328,7 +338,7 @@ static inline __attribute__((always_inline)) uint32_t run(const NceCode *c, uint
             place = at;
         }
     }
-    if (to != NULL && end != written) memcpy(to + place, c->bytes + written, end - written);
+    if (to != NULL && end != written) copy(to + place, c->bytes + written, end - written);
     return at + (end - raw);
 }
 
