@@ -38,10 +38,11 @@ def write_texts(top, folder):
             file.write(text)
 
 
-def build(compiler, top, folder):
+def build(compiler, top, folder, more=()):
+    """The program of times.c. `more` are sources for it."""
     source = os.path.join(OWN[NAME], "times.c")
     main = compiler.objects(pcre2_flags(top, [8], 8), [source], folder)
-    return compiler.program([*main, *pcre2_library(compiler, top, folder, [8])], os.path.join(folder, "times"))
+    return compiler.program([*main, *more, *pcre2_library(compiler, top, folder, [8])], os.path.join(folder, "times"))
 
 
 def lines_of(place):
