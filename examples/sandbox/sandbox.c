@@ -162,7 +162,7 @@ int main(int argc, char **argv) {
     must(argc == 2 || argc == 3, "usage: sandbox PROGRAM [SECONDS]");
     refused = run_program(argv[1]);
     if (refused == 0) {
-        live = ncs_module_live(MOST * 3, 1, NULL);
+        live = ncs_module_live(MOST * 3, THREADS, NULL);
         must(live != NULL, "no live code");
         refused = run_threads(argc == 3 ? (unsigned)atoi(argv[2]) : 2);
         ncs_module_free(live);

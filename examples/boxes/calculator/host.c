@@ -22,7 +22,7 @@ int main(int argc, char **argv) {
     NcsRefusal why;
     pthread_t thread;
     uint8_t number[NUMBER_LEN];
-    live = library_of("live code", ncs_module_live(127, 1, &why), &why, 2 << 20, 1000);
+    live = library_of("live code", ncs_module_live(127, 2, &why), &why, 2 << 20, 1000);
     compile_number(number, 1000);
     int good = sem_init(&came[0], 0, 0) == 0 && sem_init(&came[1], 0, 0) == 0 && sem_init(&came[2], 0, 0) == 0 &&
                compile(&code, "3 * x + 4") && ncs_create(live.module, at, code.bytes, code.len, NULL) &&
