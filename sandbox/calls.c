@@ -166,9 +166,6 @@ static NcsEnd run(NcsBox *b, Thread *t) {
             if (!serve(b, t)) {
                 return b->end;
             }
-            if (t->place == NC_BUNDLE * OUT_RETURN) { /* the function has called the host by its last jump */
-                return returned(t);
-            }
         }
     }
 }

@@ -266,8 +266,7 @@ typedef struct NcsEnd {
 const char *ncs_how(uint32_t how);
 
 /* Calls a function of the box with 32-bit arguments, at most NCS_ARGS_MAX, as C for i386 does. A number of 64 bits is two, the lower half
-   first. The function may end with a jump to a call-back. A call-back may call its own box or another one. In its own box the call's stack
-   lies below the frame that the code has left. */
+   first. A call-back may call its own box or another one. In its own box the call's stack lies below the frame that the code has left. */
 NcsEnd ncs_call(NcsBox *box, NcsAt function, unsigned count, const uint32_t *args);
 
 /* A call-back gets a copy of its arguments. What it returns goes to EDX and EAX. */

@@ -8,10 +8,12 @@ struct nc_hole hole;
 unsigned words[4]; /* of code that waits */
 
 __attribute__((section(".text.start"))) void start(void) {}
-int find(unsigned from, unsigned to) { return nc_hole(from, (struct nc_hole *)to); }
-long long create(unsigned at, unsigned from, unsigned len) { return nc_create(at, (const void *)from, len); }
-long long patch(unsigned at, unsigned from, unsigned len) { return nc_patch(at, (const void *)from, len); }
-long long remove(unsigned at) { return nc_delete(at); }
+/* A call of the host comes back here: it doesn't return to the host at once, as a last jump would have it. */
+#define HERE(answer) ({ long long given = (answer); __asm__ volatile("" ::: "memory"); given; })
+int find(unsigned from, unsigned to) { return (int)HERE(nc_hole(from, (struct nc_hole *)to)); }
+long long create(unsigned at, unsigned from, unsigned len) { return HERE(nc_create(at, (const void *)from, len)); }
+long long patch(unsigned at, unsigned from, unsigned len) { return HERE(nc_patch(at, (const void *)from, len)); }
+long long remove(unsigned at) { return HERE(nc_delete(at)); }
 unsigned run(unsigned at) { return ((unsigned (*)(void))at)(); }
 unsigned seven(void) { return 7; }
 unsigned deep(unsigned n) { return n == 0 ? 0 : 1 + deep(n - 1) + words[3]; }

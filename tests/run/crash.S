@@ -27,7 +27,7 @@
 	andl	$-32, %eax
 	jmp	*%eax
 	AT(return_to_zone) /* 00010140 */
-	pushl	$0x60
+	pushl	$0x20
 	jmp	nc_memory
 	AT(call_without_stack) /* 00010160 */
 	movl	$4, %esp
