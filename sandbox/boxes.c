@@ -217,7 +217,9 @@ static void release_all(Memory *memory, int dead) {
     NcsBox *b;
     for (b = memory->boxes; b != NULL; b = b->next) {
         revive(b);
-        b->dead = dead;
+        if (dead) {
+            b->dead = 1;
+        }
         ncs_box_release(b);
     }
 }

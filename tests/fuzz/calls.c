@@ -200,7 +200,7 @@ static void try_calls(NcsBox *box, Input *input) {
     memset(&t, 0, sizeof t);
     t.box = box;
     rules_begin(box, what, seam_memory_end(), WRITE_MOST);
-    seam_begin(box, what == RULES_NONE ? "/proc/self" : folder_path(), what != RULES_READ, WRITE_MOST);
+    seam_begin(module, box, what == RULES_NONE ? "/proc/self" : folder_path(), what != RULES_READ, WRITE_MOST);
     see_numbers(before);
     take_room(&t);
     while (input->len != 0 && t.count < CALLS_MOST) {

@@ -138,7 +138,7 @@ static void (*const RULES[])(const uint32_t *, int64_t) = {
     rule_of_read, rule_of_write, rule_of_clock, rule_of_memory, rule_of_open, rule_of_close, rule_of_lseek, rule_of_size,
 };
 
-/* ---- What a call does to memory: nothing, but for the range of a read */
+/* ---- What a call does to memory: nothing, but for the range of a read, and a hole that is told */
 
 /* The bytes on one side of a range, as far as they are the box's. */
 typedef struct Side {
@@ -163,7 +163,7 @@ static int is_as_it_was(const Side *side) {
 static uint64_t judge(NcsBox *box, void *user, const uint32_t *args) {
     const Given *g = user;
     size_t k = (size_t)(g - given);
-    uint64_t at = args[1], end = at + args[2];
+    uint64_t at = args[1], end = at + (k == NC_RUN_CODE ? sizeof(NcsHole) : args[2]);
     Side below, above;
     int64_t result;
     see_side(&below, at < AROUND ? 0 : at - AROUND, at);

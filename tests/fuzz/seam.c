@@ -11,9 +11,10 @@
 
 static Run run;
 
-void seam_begin(NcsBox *box, const char *folder, int writable, uint64_t most) {
+void seam_begin(NcsModule *module, NcsBox *box, const char *folder, int writable, uint64_t most) {
     memset(&run, 0, sizeof run);
     MUST(files_begin(&run.files) == NULL && opening_folder(&run.files, folder, writable, most) == NULL);
+    run.module = module;
     run.box = box;
     run.memory_end = MEMORY_END;
     MUST(calls_give(&run));

@@ -5,7 +5,7 @@
 #include "nc_sandbox.h"
 
 /* Gives a box the calls of nc_run.h, as nc-run does with --dir, or with --dir-rw and --write. */
-void seam_begin(NcsBox *box, const char *folder, int writable, uint64_t most);
+void seam_begin(NcsModule *module, NcsBox *box, const char *folder, int writable, uint64_t most);
 
 /* What nc_memory has to return. */
 uint32_t seam_memory_end(void);
