@@ -29,15 +29,15 @@ static void put(uint8_t *text, uint32_t at, uint8_t byte) {
     __atomic_store_n((volatile uint8_t *)text + at, byte, __ATOMIC_RELEASE);
 }
 
+/* The puts of a run come from the lowest bit on. */
 static void put_act(uint8_t *text, const NcAct *act, const uint8_t *code, uint32_t base) {
-    uint32_t k, runs = act->kind == NC_PUT_RUN || act->kind == NC_STOP_RUN ? act->value : 0;
+    uint32_t runs = act->kind == NC_PUT_RUN || act->kind == NC_STOP_RUN ? act->value : 0;
     if (act->kind == NC_PUT) {
         put(text, act->at, (uint8_t)act->value);
     }
-    for (k = 0; k < NC_BUNDLE && runs != 0; k++) {
-        if (runs >> k & 1) {
-            put(text, act->at + k, act->kind == NC_PUT_RUN ? code[act->at + k - base] : NC_STOP);
-        }
+    for (; runs != 0; runs &= runs - 1) {
+        uint32_t at = act->at + (uint32_t)__builtin_ctz(runs);
+        put(text, at, act->kind == NC_PUT_RUN ? code[at - base] : NC_STOP);
     }
 }
 
