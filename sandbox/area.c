@@ -78,7 +78,7 @@ static uint64_t change(NcsBox *b, const uint32_t *args, int (*make)(NcsModule *,
     const void *bytes = ncs_at(b, (NcsAt){args[1]}, args[2]);
     NcsRefusal why;
     int made;
-    if (bytes == NULL) {
+    if (bytes == NULL && args[2] != 0) {
         return failed(EFAULT);
     }
     if (!is_in_area(b, args[0], args[2])) {

@@ -236,6 +236,8 @@ static void refused_requests(NcsBox *box, uint32_t from) {
         {"bytes across the memory's end", "create", from + 64, MEMORY_LEN - 16, 32, -EFAULT, 0},
         {"more bytes than there are", "create", from + 64, lent, 0xFFFFFFE0, -EFAULT, 0},
         {"bytes below the data", "create", from + 64, 0xFFE0, 32, -EFAULT, 0},
+        {"no code at 0", "create", from + 64, 0, 0, -(int)(NCS_FAULT_CODE + NC_BAD_LENGTH), 0},
+        {"a patch of nothing at 0", "patch", from, 0, 0, -(int)(NCS_FAULT_CODE + NC_PATCH_BAD_SPAN), 0},
         {"no code", "create", from + 64, lent, 0, -(int)(NCS_FAULT_CODE + NC_BAD_LENGTH), 0},
         {"half a bundle", "create", from + 64, lent, 16, -(int)(NCS_FAULT_CODE + NC_BAD_LENGTH), 0},
         {"within a bundle", "create", from + 65, lent, 32, -(int)(NCS_FAULT_CODE + NC_BAD_BASE), 0},
