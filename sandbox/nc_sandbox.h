@@ -110,8 +110,9 @@ void ncs_module_free(NcsModule *module);
  *   ncs_module_live_elf  It begins as a file that ncs_module_elf would take. The file's code is the first chunk, and the room for `bundles`
  *                        bundles begins on the next page. Refused with NCS_BAD_LIMITS if there isn't so much below 64 MiB.
  * The room may be up to a page longer. At first all of it is stops, and takes no memory. It takes memory up to the last bundle that is
- * created, in steps of 256 KiB, and keeps that until the module is freed. At most `calls` calls of the module's boxes may be under way at
- * once, 1 to NCS_LIVE_CALLS, and calls within calls count. A reclaim looks at each of them.
+ * created, in steps of 256 KiB, and keeps that until the module is freed. Before Linux 5.14 it takes all of it at once.
+ * At most `calls` calls of the module's boxes may be under way at once, 1 to NCS_LIVE_CALLS, and calls within calls count. A reclaim looks
+ * at each of them. Another number of bundles or calls is refused with NCS_BAD_LIMITS.
  */
 #define NCS_LIVE_CALLS 255u
 NcsModule *ncs_module_live(uint32_t bundles, uint32_t calls, NcsRefusal *why);
