@@ -37,8 +37,7 @@
 #ifndef NC_RUN_H
 #define NC_RUN_H
 
-/* The calls by their numbers, each with the words of its arguments. Those for code begin at NC_RUN_CODE, and any host can give them to a
-   box (ncs_code_calls). */
+/* The calls by their numbers, each with the words of its arguments, but for those for code. */
 #define NC_RUN_CALLS(CALL) \
     CALL(0, read, 3) \
     CALL(1, write, 3) \
@@ -48,12 +47,9 @@
     CALL(5, close, 1) \
     CALL(6, lseek, 4) \
     CALL(7, size, 1)
+
+/* The number of the first of the four calls for code, which any host can give to a box (ncs_code_calls). */
 #define NC_RUN_CODE 8
-#define NC_RUN_CODE_CALLS(CALL) \
-    CALL(8, hole, 2) \
-    CALL(9, create, 3) \
-    CALL(10, patch, 3) \
-    CALL(11, delete, 1)
 
 /* The clocks of nc_clock, which counts nanoseconds. */
 #define NC_CLOCK_REAL 0      /* since 1970 */
@@ -115,9 +111,10 @@ struct nc_hole {
    0. A hole is a hint. */
 int nc_hole(unsigned from, struct nc_hole *to);
 
-/* Makes a chunk of whole bundles at `at`, from `len` bytes that are copied first. The low half of the result is 0 or a negative number. It is
-   -14 (EFAULT) for bytes that aren't in the memory, -22 (EINVAL) for a place that isn't in the area, -12 (ENOMEM), or -(256 + fault) with a
-   fault of nc_host.h, such as NC_OCCUPIED. The upper half is the address of a fault in the code, else 0. A refusal changes nothing. */
+/* Makes a chunk of whole bundles at `at`, from `len` bytes that are copied first. The low half of the result is 0 or a negative number.
+   That is -14 (EFAULT) for bytes that aren't in the memory, -22 (EINVAL) for a place that isn't in the area, -12 (ENOMEM), or
+   -(256 + fault) with a fault of nc_host.h, such as NC_OCCUPIED. The upper half is the address of a fault in the code, else 0. A refusal
+   changes nothing. */
 long long nc_create(unsigned at, const void *from, unsigned len);
 
 /* Replaces whole instructions of a chunk, within a bundle, with others of the same lengths. The result is as that of nc_create. */
