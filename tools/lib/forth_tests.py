@@ -16,6 +16,29 @@ STEPS = {"dup": (1, 2), "drop": (1, 0), "swap": (2, 2), "over": (2, 3), "rot": (
          ">": (2, 1), "0=": (1, 1), "1+": (1, 1), "1-": (1, 1), "@": (1, 1), "!": (2, 0), "/": (2, 1), "mod": (2, 1)}
 
 
+def fibonacci(count):
+    a, b = 0, 1
+    for _ in range(count):
+        yield a
+        a, b = b, a + b
+
+
+def collatz(n):
+    steps = 0
+    while n > 1:
+        n, steps = 3 * n + 1 if n % 2 else n // 2, steps + 1
+    return steps
+
+
+def demonstrated():
+    """What demo.fs has to print, line by line, by Python's own arithmetic."""
+    primes = sum(all(n % d for d in range(2, int(n ** 0.5) + 1)) for n in range(2, 3000))
+    lines = [[1 + 2, 7 - 3, 6 * 7, 17 // 5, 17 % 5, -(17 // 5), 0], [1, 3, 2, 1, 2, 1, 3 * 3], [-1, 0, -1, 0, -1, 0, ~-1, 1 << 5, 15],
+             fibonacci(20), *([k * j for j in range(1, 6)] for k in range(1, 6)), [collatz(27), collatz(97)], [primes], [7 ** 2, 7 ** 3],
+             [2 ** 10, 3 ** 10]]
+    return "".join("".join("%d " % number for number in line) + "\n" for line in lines)
+
+
 def run(words, script):
     done = subprocess.run(words, input=script, capture_output=True, text=True, timeout=120)
     return done.stdout, done.stderr, done.returncode
@@ -75,9 +98,7 @@ def differences(place, own, box, count):
     runs = [[place.tool("nc-run"), "--live-code", "1M", box], [place.tool("nc-run"), "--live-code", "4K", box], [place.tool("nc-run"), box]]
     with open(os.path.join(FORTH, "demo.fs"), encoding="utf-8") as file:
         demo = file.read()
-    with open(os.path.join(FORTH, "demo.txt"), encoding="utf-8") as file:
-        wanted = (file.read(), "", 0)
-    wrong = sum(run(words, demo) != wanted for words in [[own], *runs])
+    wrong = sum(run(words, demo) != (demonstrated(), "", 0) for words in [[own], *runs])
     for number in range(count):
         script = program(number)
         there = run([own], script)
