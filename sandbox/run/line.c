@@ -23,17 +23,17 @@ static const char HELP[] =
     "  [ARGS]...  Words for the program; with --call, 32-bit numbers for the function\n"
     "\n"
     "Options:\n"
-    "      --time <MS>       Processor time in milliseconds, from 0 to 4294967295; 0 sets no limit [default: 0]\n"
-    "      --memory <SIZE>   Bytes of data, heap and stack; K, M and G may follow [default: 256M]\n"
+    "      --time <MS>         Processor time in milliseconds, from 0 to 4294967295; 0 sets no limit [default: 0]\n"
+    "      --memory <SIZE>     Bytes of data, heap and stack; K, M and G may follow [default: 256M]\n"
     "      --live-code <SIZE>  Bytes of code that the program may make, as for --memory, up to 63M [default: 0]\n"
-    "      --call <NAME>     Call this function of the file, and print its result\n"
-    "      --dir <DIR>       Let the program read files below this folder\n"
-    "      --dir-rw <DIR>    Let the program read, write and make files below this folder\n"
-    "      --write <SIZE>    Bytes to write to files below it, as for --memory; a new file counts 4096 [default: 1G]\n"
-    "      --wall <HOW>      Whether to run without a whole second wall [default: try] [possible values: try, must]\n"
-    "      --no-wall         Leave out the second wall, so that a program out of its box could do all that you can\n"
-    "  -h, --help            Print help\n"
-    "  -V, --version         Print version\n";
+    "      --call <NAME>       Call this function of the file, and print its result\n"
+    "      --dir <DIR>         Let the program read files below this folder\n"
+    "      --dir-rw <DIR>      Let the program read, write and make files below this folder\n"
+    "      --write <SIZE>      Bytes to write to files below it, as for --memory; a new file counts 4096 [default: 1G]\n"
+    "      --wall <HOW>        Whether to run without a whole second wall [default: try] [possible values: try, must]\n"
+    "      --no-wall           Leave out the second wall, so that a program out of its box could do all that you can\n"
+    "  -h, --help              Print help\n"
+    "  -V, --version           Print version\n";
 
 static int wrong(const char *what, const char *word) {
     fprintf(stderr, "nc-run: %s%s\nTry 'nc-run --help'.\n", what, word);
