@@ -18,19 +18,10 @@ uint8_t *ncs_box_data(const NcsBox *b, uint32_t at) {
     return (uint8_t *)((uintptr_t)b->data_at + at);
 }
 
-int ncs_box_claim(NcsBox *b, Thread *t) {
-    Thread *nobody = NULL;
-    return __atomic_compare_exchange_n(&b->owner, &nobody, t, 0, __ATOMIC_SEQ_CST, __ATOMIC_SEQ_CST);
-}
-
-void ncs_box_release(NcsBox *b) {
-    __atomic_store_n(&b->owner, NULL, __ATOMIC_SEQ_CST);
-}
-
 /* Its memory is 0 so far. */
 static void fill(NcsBox *b) {
     const Image *image = &b->module->image;
-    ncs_elf_copy_data(image, ncs_box_data(b, 0));
+    ncs_elf_copy_data(image, b->data_at);
     __atomic_store_n(&b->memory->heap, (image->data_end + 15) & ~15u, __ATOMIC_SEQ_CST);
 }
 
@@ -53,17 +44,26 @@ static const char *judge_limits(const NcsModule *m, const NcsLimits *limits) {
     return limits->milliseconds == 0 ? "there is no time for a call" : NULL;
 }
 
-/* Nothing from 00010000 on is read-only, so no address that ncs_box_has accepts makes the host fault. */
+/* At base 0 if it is the only one there. Nothing from 00010000 on is read-only, so no address that ncs_box_has accepts makes the host fault. */
 static int map_memory(NcsBox *b) {
     Memory *memory = b->memory;
     uint32_t len = b->limits.memory;
     int mapped;
     (void)pthread_mutex_lock(&ncs_lock);
-    memory->at = b->data_at = ncs_low_new(len, PROT_NONE, -1);
-    memory->selector = memory->at != 0 ? ncs_segment_data(memory->at, len) : 0;
+    memory->is_base_zero = ncs_base_zero_new(len);
+    memory->at = b->data_at = memory->is_base_zero ? 0 : ncs_low_new(len, PROT_NONE, -1);
+    memory->selector = memory->is_base_zero || memory->at != 0 ? ncs_segment_data(memory->at, len) : 0;
     (void)pthread_mutex_unlock(&ncs_lock);
     mapped = memory->selector != 0;
     return mapped && mprotect(ncs_box_data(b, DATA_LEAST), len - DATA_LEAST, PROT_READ | PROT_WRITE) == 0;
+}
+
+static void unmap_memory(const Memory *memory, uint32_t len) {
+    if (memory->is_base_zero) {
+        ncs_base_zero_free(len);
+    } else {
+        ncs_low_free(memory->at, len);
+    }
 }
 
 /* A reset that is under way has this box too. */
@@ -164,7 +164,7 @@ static int leave(NcsBox *b) {
     }
     (void)pthread_mutex_unlock(&ncs_lock);
     if (made && was_last) {
-        ncs_low_free(b->memory->at, b->limits.memory);
+        unmap_memory(b->memory, b->limits.memory);
         free(b->memory);
     }
     return made;

@@ -159,12 +159,12 @@ const char *ncs_elf_function(const Image *image, uint32_t at, uint32_t *offset) 
     return found;
 }
 
-void ncs_elf_copy_data(const Image *image, uint8_t *to) {
+void ncs_elf_copy_data(const Image *image, uintptr_t to) {
     size_t k;
     for (k = 0; k < image->segment_count; k++) {
         const NcSegment *s = &image->segments[k];
         if ((s->flags & PF_X) == 0) {
-            memcpy(to + s->address, image->bytes + s->offset, s->file_len);
+            memcpy((uint8_t *)(to + s->address), image->bytes + s->offset, s->file_len);
         }
     }
 }

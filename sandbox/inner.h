@@ -115,13 +115,20 @@ void ncs_low_free(uint32_t at, uint32_t len); /* never under a lock */
 int ncs_low_empty(uint32_t at, uint32_t len); /* whether its pages are as new; never under a lock */
 int ncs_low_keep(uint32_t at, uint32_t len); /* no child gets it */
 int ncs_low_seal(uint32_t at, uint32_t len); /* the same, and makes it executable, and no longer writable */
+int ncs_base_zero_new(uint32_t len); /* whether all below `len` is now the caller's, without access. Under ncs_lock */
+void ncs_base_zero_free(uint32_t len); /* never under a lock */
 
 /* ---- process.c and threads.c: what has to be there before anybody enters */
 
 extern uint32_t ncs_landing_at; /* a page below 4 GiB that leads to ncs_switch_landing */
 extern uint32_t ncs_texts;      /* how many modules got their text, atomic */
 
-uint32_t ncs_life(void); /* a number that each child by fork has of its own, 0 in another child, and before the first module */
+extern volatile uint32_t *ncs_life_page; /* atomic */
+/* A number that each child by fork has of its own, 0 in another child, and before the first module. */
+static inline uint32_t ncs_life(void) {
+    const volatile uint32_t *page = __atomic_load_n(&ncs_life_page, __ATOMIC_SEQ_CST);
+    return page != NULL ? *page : 0;
+}
 int ncs_may_begin(NcsRefusal *why); /* whether this isn't a child of which the library has learned nothing */
 int ncs_prepare(NcsRefusal *why); /* whether this process can have a module or a box now */
 void ncs_unprepare(void);         /* after ncs_prepare, of what wasn't made. The first one leaves nothing behind */
@@ -178,7 +185,7 @@ typedef struct Image {
 const char *ncs_elf_read(Image *image); /* NULL, or what is wrong */
 uint32_t ncs_elf_symbol(const Image *image, const char *name); /* 0 if there is none */
 const char *ncs_elf_function(const Image *image, uint32_t at, uint32_t *offset); /* NULL if there is none */
-void ncs_elf_copy_data(const Image *image, uint8_t *to); /* each segment of data to its address, counted from `to` */
+void ncs_elf_copy_data(const Image *image, uintptr_t to); /* each segment of data to its address, counted from `to` */
 
 /* ---- changes.c: code that changes while boxes run it */
 
@@ -241,7 +248,8 @@ struct NcsModule {
 
 /* What boxes have that share their memory. */
 typedef struct Memory {
-    uint32_t at, selector;
+    uint32_t at, selector; /* the linear address of its address 0, which may be 0 */
+    int is_base_zero;
     uint32_t heap;  /* where its free part begins; atomic */
     NcsSpan area;   /* in which their code may change code; written once, under ncs_lock */
     int has_area;   /* under ncs_lock */
@@ -272,12 +280,25 @@ NcsModule *ncs_module_new(const void *bytes, size_t len, NcsRefusal *why); /* wi
 uint32_t ncs_bundles_for(uint32_t bundles); /* of the region whose guard is behind so many [7] */
 void ncs_zone_lay(uint8_t *text); /* trampolines, and stops everywhere else below NC_START [11] */
 void ncs_module_drop(NcsModule *module); /* one user less */
-int ncs_module_is_ours(const NcsModule *module); /* and not that of a process that has forked */
 void ncs_calls_abandon(Thread *thread); /* those under way, which nothing returns to */
-int ncs_box_claim(NcsBox *box, Thread *thread);
-void ncs_box_release(NcsBox *box);
 int ncs_box_has(const NcsBox *box, uint64_t at, uint64_t len);
 uint8_t *ncs_box_data(const NcsBox *box, uint32_t at);
+
+/* Whether it isn't that of a process that has forked. */
+static inline int ncs_module_is_ours(const NcsModule *module) {
+    return module->life == ncs_life();
+}
+
+/* Whether it is this thread's now. */
+static inline int ncs_box_claim(NcsBox *box, Thread *thread) {
+    Thread *nobody = NULL;
+    return __atomic_compare_exchange_n(&box->owner, &nobody, thread, 0, __ATOMIC_SEQ_CST, __ATOMIC_SEQ_CST);
+}
+
+/* What its thread has done with it comes before what the next one does. */
+static inline void ncs_box_release(NcsBox *box) {
+    __atomic_store_n(&box->owner, NULL, __ATOMIC_RELEASE);
+}
 
 #pragma GCC visibility pop
 

@@ -34,10 +34,11 @@ void ncs_mask_set(uint64_t mask) {
     ncs_must(set_mask(&mask, NULL), "a thread can't have its mask");
 }
 
-/* One instruction, so no handler comes between. Whether the mask has stayed on until now. No handler takes it back any more. */
+/* One instruction, so no handler comes between. It isn't locked, since only this thread and its handlers write the selector. Whether the mask
+   has stayed on until now. No handler takes it back any more. */
 static int claim(Mask *m) {
-    uint8_t was = CALLS_ALLOWED;
-    __asm__ volatile("xchgb %0, %1" : "+q"(was), "+m"(m->selector) : : "memory");
+    uint8_t was = CALLS_DISPATCHED, now = CALLS_ALLOWED;
+    __asm__ volatile("cmpxchgb %2, %1" : "+a"(was), "+m"(m->selector) : "q"(now) : "memory", "cc");
     return was == CALLS_DISPATCHED;
 }
 
@@ -64,17 +65,23 @@ static int can_go(Mask *m, int stayed_on) {
     return !looks;
 }
 
+/* Ticks that waited may have waited since long before the call. */
+static void put_on(Thread *t) {
+    Mask *m = &t->mask;
+    uint64_t inside = ~ncs_signals_own(), used = t->used;
+    ncs_must(set_mask(&inside, &m->hosts), "a thread can't have its mask");
+    if (t->begins && (m->hosts & SIGNAL_BIT(TICK_SIGNAL)) != 0) {
+        ncs_thread_count(t);
+        t->deadline += t->used - used;
+    }
+}
+
 /* A thread that can't go in has the host's mask. */
 int ncs_mask_in(Thread *t) {
     Mask *m = &t->mask;
-    uint64_t inside = ~ncs_signals_own(), used = t->used;
     int stayed_on = claim(m), blocks = m->how == NCS_SIGNALS_BLOCKED;
     if (blocks && !stayed_on) {
-        ncs_must(set_mask(&inside, &m->hosts), "a thread can't have its mask");
-        if (t->begins && (m->hosts & SIGNAL_BIT(TICK_SIGNAL)) != 0) { /* ticks have waited since long before the call */
-            ncs_thread_count(t);
-            t->deadline += t->used - used;
-        }
+        put_on(t);
     }
     t->begins = 0;
     if (can_go(m, stayed_on || !blocks)) {

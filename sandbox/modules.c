@@ -175,10 +175,6 @@ void ncs_module_drop(NcsModule *m) {
     }
 }
 
-int ncs_module_is_ours(const NcsModule *m) {
-    return m->life == ncs_life();
-}
-
 void ncs_module_free(NcsModule *m) {
     if (m != NULL && ncs_module_is_ours(m)) {
         ncs_module_drop(m);

@@ -12,6 +12,7 @@
  *               of processor time on. Until then a fault of untrusted code runs that handler, on whatever stack the code has chosen. The
  *               handlers of all other signals may be anything.
  *   Segments    Nobody else changes an entry of the local descriptor table (modify_ldt) that this library has made.
+ *   Memory      Nobody maps memory over this library's (MAP_FIXED), which has the pages below 00010000 from the first box on.
  *   Results     What comes out of a box is untrusted: results, arguments of call-backs, bytes of its memory. Read it once, and judge it.
  *   Call-backs  A call-back returns on the thread and the stack on which it was called, and makes its own calls there. One that returns
  *               elsewhere aborts the process. One that leaves by longjmp or by the end of its thread leaves the box dead. No exception

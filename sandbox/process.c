@@ -10,7 +10,7 @@
 #include <sys/mman.h>
 
 uint32_t ncs_landing_at, ncs_texts;
-static volatile uint32_t *life_page; /* in a child it is 0, however that was made */
+volatile uint32_t *ncs_life_page; /* in a child it is 0, however that was made */
 static uint32_t life;
 
 void ncs_must(int good, const char *what) {
@@ -22,11 +22,6 @@ void ncs_must(int good, const char *what) {
 
 /* ---- Children */
 
-uint32_t ncs_life(void) {
-    const volatile uint32_t *page = __atomic_load_n(&life_page, __ATOMIC_SEQ_CST);
-    return page != NULL ? *page : 0;
-}
-
 /* Nobody else holds the lock at a fork. The child goes on with a life of its own, in which modules and boxes of before aren't used. */
 static void before_fork(void) {
     ncs_must(pthread_mutex_lock(&ncs_lock) == 0, "a lock failed");
@@ -37,8 +32,8 @@ static void after_fork(void) {
 }
 
 static void in_child(void) {
-    if (life_page != NULL) {
-        *life_page = ++life;
+    if (ncs_life_page != NULL) {
+        *ncs_life_page = ++life;
     }
     after_fork();
 }
@@ -51,7 +46,7 @@ static int see_forks(void) {
 /* The page stays, since threads look there without the lock. */
 static int make_life(void) {
     void *page;
-    if (life_page != NULL) {
+    if (ncs_life_page != NULL) {
         return 1;
     }
     page = mmap(NULL, PAGE, PROT_READ | PROT_WRITE, MAP_PRIVATE | MAP_ANONYMOUS, -1, 0);
@@ -63,7 +58,7 @@ static int make_life(void) {
         return 0;
     }
     *(volatile uint32_t *)page = ++life;
-    __atomic_store_n(&life_page, page, __ATOMIC_SEQ_CST);
+    __atomic_store_n(&ncs_life_page, page, __ATOMIC_SEQ_CST);
     return 1;
 }
 
@@ -176,7 +171,7 @@ static int has_handlers(NcsRefusal *why) {
 }
 
 int ncs_may_begin(NcsRefusal *why) {
-    int may = __atomic_load_n(&life_page, __ATOMIC_SEQ_CST) == NULL || ncs_life() != 0;
+    int may = __atomic_load_n(&ncs_life_page, __ATOMIC_SEQ_CST) == NULL || ncs_life() != 0;
     ncs_refuse(why, may ? NCS_OK : NCS_BAD_SYSTEM, may ? "nothing is refused" : "this is a child that was made without fork()");
     return may;
 }

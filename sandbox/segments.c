@@ -3,6 +3,7 @@
 #include "inner.h"
 
 #include <asm/ldt.h>
+#include <errno.h>
 #include <string.h>
 #include <sys/mman.h>
 #include <sys/random.h>
@@ -13,7 +14,7 @@
 #define MADV_DONTNEED_LOCKED 24
 #endif
 #define STEP (1u << 20)        /* pieces of low memory begin so far from each other */
-#define LOW_BEGIN 0x20000000u  /* above what a host that isn't position-independent has below 4 GiB */
+#define LOW_BEGIN 0x20000000u  /* above what a host that isn't position-independent has below 4 GiB, and above a box at base 0 */
 #define LOW_END 0xF0000000u
 #define SHIFT_MOST (192u << 20) /* by chance, in pages; so much isn't used where three boxes of 1 GiB fit */
 #define PIECE (64u << 20)       /* that is given back at once: the system holds a lock of the process meanwhile */
@@ -97,7 +98,7 @@ uint32_t ncs_segment_data(uint32_t base, uint32_t len) {
     return segment_new(base, len, MODIFY_LDT_CONTENTS_DATA);
 }
 
-/* No thread has the selector any more: the way out has loaded others. An entry that the system keeps stays taken. */
+/* No thread uses the selector any more, even if one still has it in DS or ES. An entry that the system keeps stays taken. */
 void ncs_segment_free(uint32_t selector) {
     struct user_desc d;
     if (selector == 0) {
@@ -114,6 +115,16 @@ void ncs_segment_free(uint32_t selector) {
 
 /* ---- Memory */
 
+/* Maps it just there. Whether it has; if not, nothing is mapped. */
+static int take_at(uint32_t at, uint32_t len, int protection, int file) {
+    int flags = (file < 0 ? MAP_PRIVATE | MAP_ANONYMOUS | MAP_NORESERVE : MAP_SHARED) | MAP_FIXED_NOREPLACE;
+    void *got = mmap((void *)(uintptr_t)at, len, protection, flags, file, 0);
+    if (got != (void *)(uintptr_t)at && got != MAP_FAILED) { /* a kernel that doesn't know MAP_FIXED_NOREPLACE */
+        (void)munmap(got, len);
+    }
+    return got == (void *)(uintptr_t)at;
+}
+
 /* Where the search for room begins. Untrusted code that learns of a way to use addresses of the host's doesn't know this one, which differs
    from run to run. */
 static uint32_t beginning(void) {
@@ -126,23 +137,17 @@ static uint32_t beginning(void) {
 
 uint32_t ncs_low_new(uint32_t len, int protection, int file) {
     static uint32_t least, from;
-    int flags = (file < 0 ? MAP_PRIVATE | MAP_ANONYMOUS | MAP_NORESERVE : MAP_SHARED) | MAP_FIXED_NOREPLACE;
     uint64_t at;
     unsigned tries;
     least = least != 0 ? least : beginning();
     at = from = from != 0 ? from : least;
     for (tries = 0; tries < (LOW_END - LOW_BEGIN) / STEP; tries++, at += STEP) {
-        void *got;
         if (at + len > LOW_END) {
             at = least;
         }
-        got = mmap((void *)(uintptr_t)at, len, protection, flags, file, 0);
-        if (got == (void *)(uintptr_t)at) {
+        if (take_at((uint32_t)at, len, protection, file)) {
             from = (uint32_t)(at + (len + STEP - 1) / STEP * STEP);
             return (uint32_t)at;
-        }
-        if (got != MAP_FAILED) { /* a kernel that doesn't know MAP_FIXED_NOREPLACE */
-            (void)munmap(got, len);
         }
     }
     return 0;
@@ -175,4 +180,31 @@ int ncs_low_keep(uint32_t at, uint32_t len) {
 
 int ncs_low_seal(uint32_t at, uint32_t len) {
     return mprotect((void *)(uintptr_t)at, len, PROT_READ | PROT_EXEC) == 0 && ncs_low_keep(at, len);
+}
+
+/* ---- Base 0
+
+   A load that waits for a load takes 4 cycles where the segment's base is 0, and else 7. Then a box's segment begins where the process's
+   own addresses begin, so nothing of the host's may ever be below its end. Its memory is mapped from DATA_LEAST on. What is below is taken
+   without access by the first such box, and kept for the others. */
+
+static uint32_t pages_below; /* bytes from address 0 on that nobody else has or gets; under ncs_lock */
+
+/* Whether nobody else can get this page. The system gives the lowest ones to nobody (vm.mmap_min_addr). */
+static int take_page(uint32_t at) {
+    if (take_at(at, PAGE, PROT_NONE, -1)) {
+        return 1;
+    }
+    return (errno == EPERM || errno == EACCES) && madvise((void *)(uintptr_t)at, PAGE, MADV_NORMAL) != 0 && errno == ENOMEM;
+}
+
+int ncs_base_zero_new(uint32_t len) {
+    while (pages_below < DATA_LEAST && take_page(pages_below)) {
+        pages_below += PAGE;
+    }
+    return pages_below == DATA_LEAST && len <= LOW_BEGIN && take_at(DATA_LEAST, len - DATA_LEAST, PROT_NONE, -1);
+}
+
+void ncs_base_zero_free(uint32_t len) {
+    ncs_low_free(DATA_LEAST, len - DATA_LEAST);
 }

@@ -3,7 +3,9 @@
         .globl ncs_switch_in, ncs_switch_out, ncs_switch_landing, ncs_handler
         .hidden ncs_switch_in, ncs_switch_out, ncs_switch_landing, ncs_handler
 # void ncs_switch_in(Thread *). It returns when the thread has come out. A far jump costs less than half of iretq. It doesn't serialize, and
-# leaves the flags as they are.
+# leaves the flags as they are. Those that a host may have, and code must not, are looked at, since popfq costs more. The others are those of
+# the comparison.
+        .set    UNFIT, 0x44500          # alignment checks, a nested task, the direction, single steps
         .type ncs_switch_in, @function
 ncs_switch_in:
         push    %rbx
@@ -19,9 +21,12 @@ ncs_switch_in:
         mov     %eax, %es
         cmpl    $0, 60(%r8)
         jne     1f
-        pushq   $0x202                  # the flags: no direction, interrupts
-        popfq
-        mov     8(%r8), %edx
+        pushfq
+        pop     %rcx
+        and     $UNFIT, %ecx
+        cmp     $0, %ecx
+        jne     3f
+2:      mov     8(%r8), %edx
         mov     12(%r8), %ebx
         mov     20(%r8), %ebp
         mov     24(%r8), %esi
@@ -31,6 +36,9 @@ ncs_switch_in:
         mov     0(%r8), %eax
         mov     4(%r8), %ecx
         ljmp    *32(%r8)
+3:      pushq   $0x202                  # the flags: interrupts
+        popfq
+        jmp     2b
 1:      push    %rax                    # SS
         mov     16(%r8), %eax
         push    %rax                    # ESP
@@ -59,15 +67,13 @@ ncs_switch_landing:
         mov     %esi, 24(%r8)
         mov     %edi, 28(%r8)
         mov     %ecx, 48(%r8)
-# From there, or from a handler's frame, with the Thread in R8.
+# From there, or from a handler's frame, with the Thread in R8. DS and ES may keep the box's selector, which 64-bit code doesn't use: each way
+# in loads its own, and the system loads 0 where the segment is gone.
 ncs_switch_out:
         cld
         mov     $0x2B, %eax
         mov     %eax, %ss
         mov     40(%r8), %rsp
-        xor     %eax, %eax
-        mov     %eax, %ds
-        mov     %eax, %es
         pop     %r15
         pop     %r14
         pop     %r13

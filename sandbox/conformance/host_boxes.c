@@ -1,4 +1,4 @@
-/* The library of sandbox/ as a host for the kit; with KIT_LIVE its live code. */
+/* The library of sandbox/ as a host for the kit; with KIT_LIVE its live code, and with KIT_ELSEWHERE without a box at base 0. */
 #define _GNU_SOURCE
 #include "kit.h"
 
@@ -7,9 +7,13 @@
 #include <elf.h>
 #include <stdlib.h>
 #include <string.h>
+#include <sys/mman.h>
 
 #ifndef KIT_LIVE
 #define KIT_LIVE 0
+#endif
+#ifndef KIT_ELSEWHERE
+#define KIT_ELSEWHERE 0
 #endif
 #define STUB_AT NC_START            /* the function that is called; the code stands behind it */
 #define DATA_AT (KIT_LIVE ? 0x110000u : 0x30000u) /* the stack is below */
@@ -125,11 +129,20 @@ static int is_trampoline(uint32_t place) {
     return place == NC_BUNDLE * OUT_RETURN || place == NCS_EXIT || (place >= NCS_CALLBACK(0) && place < NCS_CALLBACK(NCS_CALLBACKS));
 }
 
+/* A page that the host has there lets no box begin at base 0. */
+static int keep_base_zero(void) {
+    void *at = (void *)(uintptr_t)DATA_LEAST;
+    return mmap(at, PAGE, PROT_READ, MAP_PRIVATE | MAP_ANONYMOUS | MAP_FIXED_NOREPLACE, -1, 0) == at;
+}
+
 static const char *begin(void) {
     static const uint8_t code[NC_BUNDLE] = {NC_STOP};
     NcsRefusal why;
     NcsModule *module = ncs_module_code(code, sizeof code, &why);
     ncs_module_free(module);
+    if (KIT_ELSEWHERE && !keep_base_zero()) {
+        return "there is no page for the host";
+    }
     return why.kind == NCS_BAD_SYSTEM ? why.sentence : NULL;
 }
 

@@ -112,7 +112,7 @@ static const char *judge_map(const Map *m, const Segment *s, const KitBox *box) 
     if (can(m, 'x')) {
         return "CODE IN A DATA SEGMENT";
     }
-    if (s->base == box->data_base && overlaps(m, data_end, s->end)) {
+    if (s->base == box->data_base && (overlaps(m, data_end, s->end) || (overlaps(m, s->base, s->base + box->data_first) && can(m, 'r')))) {
         return "OTHER MEMORY IN THE DATA SEGMENT";
     }
     return reaches(s, KIT_LOW_AT, KIT_LOW_LEN) || reaches(s, KIT_STACK_AT, KIT_STACK_LEN) ? "MEMORY OF THE HOST'S IN A DATA SEGMENT" : NULL;

@@ -59,7 +59,7 @@ unsigned testing_low_maps(void) {
     char line[512];
     while (maps != NULL && fgets(line, sizeof line, maps) != NULL) {
         uint64_t from = strtoull(line, NULL, 16);
-        low += from >= 0x20000000 && from >> 32 == 0; /* where boxes and modules are */
+        low += from >= 0x10000 && from >> 32 == 0; /* where boxes and modules are */
     }
     if (maps != NULL) {
         fclose(maps);

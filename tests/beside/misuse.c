@@ -363,8 +363,10 @@ static void try_table(void) {
     puts("another user of the local table");
 }
 
+/* Of the second box, since the first one has base 0. */
 static int place(void) {
-    return (int)(asides_flat(asides_box(asides_module(), LONG), 0) >> 12 & 0xFF);
+    NcsModule *own = asides_module();
+    return asides_box(own, LONG) != NULL ? (int)(asides_flat(asides_box(own, LONG), 0) >> 12 & 0xFF) : 0;
 }
 
 /* Eight processes have not all the same low byte of a page's number, but once in 2^56. */
