@@ -18,6 +18,7 @@
 #define LOW_END 0xF0000000u
 #define SHIFT_MOST (192u << 20) /* by chance, in pages; so much isn't used where three boxes of 1 GiB fit */
 #define PIECE (64u << 20)       /* that is given back at once: the system holds a lock of the process meanwhile */
+#define HERE_ONLY (MAP_PRIVATE | MAP_ANONYMOUS | MAP_NORESERVE | MAP_FIXED_NOREPLACE)
 #define SELECTOR(entry) ((entry) << 3 | 7u) /* of the local table, for user code */
 
 pthread_mutex_t ncs_lock = PTHREAD_MUTEX_INITIALIZER;
@@ -117,7 +118,7 @@ void ncs_segment_free(uint32_t selector) {
 
 /* Maps it just there. Whether it has; if not, nothing is mapped. */
 static int take_at(uint32_t at, uint32_t len, int protection, int file) {
-    int flags = (file < 0 ? MAP_PRIVATE | MAP_ANONYMOUS | MAP_NORESERVE : MAP_SHARED) | MAP_FIXED_NOREPLACE;
+    int flags = file < 0 ? HERE_ONLY : MAP_SHARED | MAP_FIXED_NOREPLACE;
     void *got = mmap((void *)(uintptr_t)at, len, protection, flags, file, 0);
     if (got != (void *)(uintptr_t)at && got != MAP_FAILED) { /* a kernel that doesn't know MAP_FIXED_NOREPLACE */
         (void)munmap(got, len);
@@ -190,12 +191,15 @@ int ncs_low_seal(uint32_t at, uint32_t len) {
 
 static uint32_t pages_below; /* bytes from address 0 on that nobody else has or gets; under ncs_lock */
 
-/* Whether nobody else can get this page. The system gives the lowest ones to nobody (vm.mmap_min_addr). */
+/* Whether nobody else can get this page. The system gives the lowest ones to nobody (vm.mmap_min_addr). By the system call itself, since
+   ThreadSanitizer's mmap ends a process that has the page 0. */
 static int take_page(uint32_t at) {
-    if (take_at(at, PAGE, PROT_NONE, -1)) {
-        return 1;
+    long got = syscall(SYS_mmap, at, PAGE, PROT_NONE, HERE_ONLY, -1, 0);
+    if (got != -1 && got != (long)at) {
+        (void)munmap((void *)got, PAGE);
+        return 0;
     }
-    return (errno == EPERM || errno == EACCES) && madvise((void *)(uintptr_t)at, PAGE, MADV_NORMAL) != 0 && errno == ENOMEM;
+    return got != -1 || ((errno == EPERM || errno == EACCES) && madvise((void *)(uintptr_t)at, PAGE, MADV_NORMAL) != 0 && errno == ENOMEM);
 }
 
 int ncs_base_zero_new(uint32_t len) {
