@@ -25,7 +25,8 @@ HINTS = [
     Hint("start", 'a program begins at this function: define it (in C++ extern "C"), or name another entry by -e'),
     Hint("_start", "the entry of other systems: a program for the sandbox begins at start, where -e names nothing else"),
     Hint("main", "called by {library}/start.c or by a file like it: define main, or leave that file out and define start"),
-    Hint("mem(cpy|set|move|cmp)", "compilers call this for structs and arrays, also with -ffreestanding: define it, or link a C library"),
+    Hint("mem(cpy|set|move|cmp)", "compilers call this for structs and arrays, also with -ffreestanding: link "
+         "{library}/strings.c, or a C library"),
     Hint("__(u?div|u?mod|u?divmod)di[34]|__popcount[sd]i2",
          "64-bit division and the counting of bits: link {library}/division.c"),
     Hint("__(add|sub|mul|div|neg|eq|ne|lt|le|gt|ge|unord)[sd]f[23]|__fix(uns)?[sd]f[sd]i|__float(un)?[sd]i[sd]f|__extendsfdf2|__truncdfsf2",

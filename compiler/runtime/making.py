@@ -18,9 +18,12 @@ NOT_THERE = "there is no %s below %s: `build --help` says what to get"
 MUSL_FOLDERS = """string stdlib ctype stdio math multibyte locale errno malloc malloc/mallocng internal exit env time unistd prng fenv setjmp stat
     fcntl misc thread signal select temp conf dirent mman linux sched process legacy search regex""".split()
 MUSL_FAST = {"internal", "malloc", "malloc/mallocng", "string"}  # which musl's own Makefile optimises more
-OWN = ("division", "floating", "math")
-# What math.c has in place of musl's.
-MATH = "ceil floor fmod llrint llround lrint lround nearbyint nearbyintf rint rintf round roundf trunc".split()
+OWN = ("division", "floating", "math", "strings")
+# What math.c and strings.c have in place of musl's, by musl's folders.
+REPLACED = {
+    "math": "ceil floor fmod llrint llround lrint lround nearbyint nearbyintf rint rintf round roundf trunc".split(),
+    "string": "memchr memcmp memcpy memmove memset strcmp strlen strncmp".split(),
+}
 C_FLAGS = ["-w", "-std=gnu99", "-ffreestanding"]
 LIMIT = 100
 
@@ -146,13 +149,14 @@ def build_folder(musl, made, cc, name):
 
 
 def build_objects(musl, made, cc, pool):
-    """The objects of musl, by its folders, and those of 64-bit division and of software floating point, with what this changes of libm."""
+    """The objects of musl, by its folders, and those of this folder, some of which take the places of musl's."""
     print("musl by %s: %d folders" % (cc, len(MUSL_FOLDERS)), flush=True)
     objects = dict(zip(MUSL_FOLDERS, pool.map(lambda name: build_folder(musl, made, cc, name), MUSL_FOLDERS)))
-    objects["math"] = [path for path in objects["math"] if os.path.basename(path)[:-2] not in MATH]
+    for name, files in REPLACED.items():
+        objects[name] = [path for path in objects[name] if os.path.basename(path)[:-2] not in files]
     objects["own"] = [os.path.join(made, "%s-%s.o" % (name, cc)) for name in OWN]
     for name, path in zip(OWN, objects["own"]):
-        nc_cc(["-c", "-O2", os.path.join(HERE, name + ".c"), "-o", path], cc)
+        nc_cc(["-c", "-O2", "-ffreestanding", os.path.join(HERE, name + ".c"), "-o", path], cc)
     return objects
 
 

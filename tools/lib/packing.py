@@ -62,6 +62,7 @@ FILES = [
     ("compiler/runtime/runtime.py", DOC + "examples/library/runtime.py"),
     ("compiler/runtime/setup.h", DOC + "examples/library/setup.h"),
     ("compiler/runtime/start.c", DOC + "examples/library/start.c"),
+    ("compiler/runtime/strings.c", DOC + "examples/library/strings.c"),
     ("examples/ports/build", DOC + "examples/library/build"),
     ("examples/ports/host.s", DOC + "examples/library/host.s"),
     ("examples/ports/load.c", DOC + "examples/library/load.c"),
