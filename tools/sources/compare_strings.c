@@ -63,12 +63,11 @@ static void end(void) { _exit(1); }
 
 /* ---- What is tried */
 
-enum { AROUND = 32, NEAR = 8192 }; /* bytes beside a result, and bytes that a short operand lies in before the end of its memory */
-enum { PLACES = 9 };
+enum { AROUND = 32, LARGEST = 1030, NOISE = 8192, PLACES = 9 };
 #define COUNT(list) (sizeof(list) / sizeof *(list))
 
 static const u8 VALUES[] = {0, 1, 2, 'a', 0x7E, 0x7F, 0x80, 0x81, 0xFE, 0xFF};
-static u8 noise[NEAR], mirror[NEAR];
+static u8 noise[NOISE], mirror[NOISE];
 static u64 state;
 static u32 calls, wrong;
 static const char *doing, *ending = "";
@@ -86,9 +85,9 @@ static u32 chance(u32 below) {
     return (u32)(state >> 32) % below;
 }
 
-/* Where a place is within its page tells where it is. */
+/* Operands are told by where they begin in their pages. */
 static void report(const char *name, const void *a, const void *b, size_t len) {
-    static const char *told[COUNT(VALUES)];
+    static const char *told[16];
     int k = 0;
     wrong++;
     while (told[k] && !same(told[k], name)) k++;
@@ -122,18 +121,18 @@ static void go_astray(int number) {
 
 static int sign(int number) { return (number > 0) - (number < 0); }
 
-static void fill(u8 *at, size_t len) { RIGHT(memcpy)(at, noise + chance(NEAR - (u32)len), len); }
+static void fill(u8 *at, size_t len) { RIGHT(memcpy)(at, noise + chance(NOISE - (u32)len), len); }
 
 /* Where `len` bytes begin: at 8 places around the end of a page, or so that they end where memory ends. */
 static u8 *place(int which, unsigned k, size_t len) { return k < 8 ? ends[which] - 2 * PAGE - len / 2 - 4 + k : ends[which] - len; }
 
-/* All sizes up to 72, then some around powers of 2 and those from which another loop goes on. */
+/* All sizes up to 72, then those around powers of 2 and around the least that `rep` moves or sets, up to LARGEST. */
 static size_t next_size(size_t len) {
-    static const size_t from[] = {126, 188, 252, 320, 509, 1021}, to[] = {132, 204, 268, 324, 520, 1030};
+    static const size_t from[] = {126, 188, 252, 320, 509, 1021}, to[] = {132, 204, 268, 324, 520, LARGEST};
     if (len < 72) return len + 1;
     for (unsigned k = 0; k < COUNT(from); k++)
         if (len < to[k]) return len < from[k] ? from[k] : len + 1;
-    return 0;
+    return LARGEST + 1;
 }
 
 /* ---- Bytes that are moved or set */
@@ -170,14 +169,14 @@ static void try_memset(int which, u8 *at, int byte, size_t len) {
 }
 
 static void each_memcpy(int which) {
-    for (size_t len = 0, k = 0; len || !k; len = next_size(len))
-        for (k = 0; k < PLACES * PLACES; k++) try_memcpy(which, place(which, k % PLACES, len), place(!which, k / PLACES, len), len);
+    for (size_t len = 0; len <= LARGEST; len = next_size(len))
+        for (unsigned k = 0; k < PLACES * PLACES; k++) try_memcpy(which, place(which, k % PLACES, len), place(!which, k / PLACES, len), len);
 }
 
 /* At all distances at which the bytes overlap, and at some more: the upper of the two at each place. */
 static void each_memmove(int which) {
-    for (size_t len = 0, k = 0; len || !k; len = next_size(len))
-        for (k = 0; k < PLACES; k++)
+    for (size_t len = 0; len <= LARGEST; len = next_size(len))
+        for (unsigned k = 0; k < PLACES; k++)
             for (size_t by = 0; by < len + 9; by += len > 72 && by > 72 && by < len - 72 ? 7 : 1) {
                 u8 *at = place(which, k, len);
                 try_memmove(which, at, at - by, len);
@@ -187,8 +186,8 @@ static void each_memmove(int which) {
 
 static void each_memset(int which) {
     static const int more[] = {0x180, -1, -128, 0x7FFFFF00};
-    for (size_t len = 0, k = 0; len || !k; len = next_size(len))
-        for (k = 0; k < PLACES; k++) {
+    for (size_t len = 0; len <= LARGEST; len = next_size(len))
+        for (unsigned k = 0; k < PLACES; k++) {
             for (unsigned v = 0; v < COUNT(VALUES); v++) try_memset(which, place(which, k, len), VALUES[v], len);
             for (unsigned v = 0; v < COUNT(more); v++) try_memset(which, place(which, k, len), more[v], len);
         }
@@ -263,8 +262,8 @@ static void lay_two(u8 *a, u8 *b, size_t len, int is_text) {
 
 /* Equal bytes, then such as differ first in one way and then in others. */
 static void each_memcmp(int which) {
-    for (size_t len = 0, k = 0; len || !k; len = next_size(len))
-        for (k = 0; k < PLACES * PLACES; k++) {
+    for (size_t len = 0; len <= LARGEST; len = next_size(len))
+        for (unsigned k = 0; k < PLACES * PLACES; k++) {
             u8 *a = place(which, k % PLACES, len), *b = place(!which, k / PLACES, len);
             lay_two(a, b, len, 0);
             try_memcmp(a, b, len);
@@ -308,8 +307,8 @@ static void each_strcmp(int which) { each_text(which, 0); }
 /* Also texts without an end. */
 static void each_strncmp(int which) {
     each_text(which, 1);
-    for (size_t len = 0, k = 0; len || !k; len = next_size(len))
-        for (k = 0; k < PLACES * PLACES; k++) {
+    for (size_t len = 0; len <= LARGEST; len = next_size(len))
+        for (unsigned k = 0; k < PLACES * PLACES; k++) {
             u8 *a = place(which, k % PLACES, len), *b = place(!which, k / PLACES, len);
             lay_two(a, b, len, 1);
             try_strncmp(a, b, len);
@@ -323,7 +322,7 @@ static void large(int which) {
     for (unsigned k = 0; k < COUNT(sizes); k++) {
         size_t len = sizes[k];
         u8 *a = ends[which] - len - k, *b = ends[!which] - len;
-        for (size_t m = 0; m < len; m++) b[m] = noise[m % (NEAR - 3)] | 1;
+        for (size_t m = 0; m < len; m++) b[m] = noise[m % (NOISE - 3)] | 1;
         CHECK("memcpy", own_memcpy(a, b, len) == a && RIGHT(memcmp)(a, b, len) == 0, a, b, len);
         CHECK("memmove", own_memmove(a - 5, a, len) == a - 5 && RIGHT(memcmp)(a - 5, b, len) == 0, a - 5, a, len);
         CHECK("memmove", own_memmove(a, a - 5, len) == a && RIGHT(memcmp)(a, b, len) == 0, a, a - 5, len);
@@ -374,7 +373,7 @@ int main(int count, char **words) {
 #ifndef IN_A_BOX
     signal(SIGSEGV, go_astray);
 #endif
-    for (size_t k = 0; k < NEAR; k++) noise[k] = (u8)chance(256);
+    for (size_t k = 0; k < NOISE; k++) noise[k] = (u8)chance(256);
     for (unsigned k = 0; k < 2 * COUNT(TESTS); k++)
         if (!*ending || same(ending, TESTS[k / 2].name)) TESTS[k / 2].each(k % 2);
     for (int which = 0; which < 2; which++) large(which);
