@@ -5,6 +5,6 @@ from .notes import noted, without_note
 from .padding import lengthen
 from .releases import release
 from .rewriting import rewritten
-from .statements import Refusal
+from .statements import JumpRefusal, Refusal
 
-__all__ = ["Refusal", "header_hints", "hints", "lengthen", "noted", "release", "rewritten", "without_note"]
+__all__ = ["JumpRefusal", "Refusal", "header_hints", "hints", "lengthen", "noted", "release", "rewritten", "without_note"]

@@ -76,9 +76,11 @@ class Listing:
         self.globals = set(self.named_by(GLOBALS))
         self.functions = self.globals | set(self.functions_by_type())
         self.starts = self.starts_of_functions()
-        self.pointed = set()
+        self.pointed = {}  # the labels that a pointer may hold, with the statements that take their addresses
         for index, statement in enumerate(self.statements):
-            self.pointed.update(self.named_once(name) for name in self.taken(index, statement) if name in self.labels)
+            for name in self.taken(index, statement):
+                if name in self.labels:
+                    self.pointed.setdefault(self.named_once(name), []).append(index)
         self.inside = self.pointed_inside()
 
     def code(self):
@@ -122,9 +124,10 @@ class Listing:
             if statement.word == ".type" and re.search(r"[@%]function", statement.operands):
                 yield from (self.named_once(name) for name in symbols(statement.operands.split(",")[0]) if name in self.labels)
 
-    def begins_bundle(self, name):
-        """Whether a pointer may hold this label's address, so that it has to be a bundle start."""
-        return name in self.functions or name in self.pointed
+    def begins_bundle(self, name, replaced):
+        """Whether a pointer may hold this label's address, so that it has to be a bundle start. In the statements of `replaced` other labels
+        stand for it."""
+        return name in self.functions or any(index not in replaced for index in self.pointed.get(name, ()))
 
     def starts_of_functions(self):
         """For each section the places at which functions begin, in order."""
@@ -142,7 +145,7 @@ class Listing:
     def pointed_inside(self):
         """For each function the labels inside it that a pointer may hold."""
         found = {}
-        for name in self.pointed - self.functions:
+        for name in self.pointed.keys() - self.functions:
             found.setdefault(self.function_at(self.labels[name]), []).append(name)
         return found
 

@@ -1,14 +1,23 @@
-"""What instructions do with %ecx, and whether a jump through memory may overwrite it."""
+"""What instructions do with registers, and whether %ecx is free where a jump through memory stands."""
 
 import re
+from functools import lru_cache
 
-from .listing import is_direct
 from .statements import split_operands
 
-REGISTERS = ("%eax", "%ecx", "%edx", "%ebx", "%esi", "%edi", "%ebp")
-# The parts of %ecx that its names stand for: the lowest byte, the one above it, and the rest.
-PARTS = {"%ecx": {"low", "high", "rest"}, "%cx": {"low", "high"}, "%cl": {"low"}, "%ch": {"high"}}
-ALL = PARTS["%ecx"]
+ALL = frozenset({"low", "high", "rest"})
+
+
+def names_of(letters):
+    """The names of a register, each with the parts that it stands for: the lowest byte, the one above it, and the rest."""
+    bytes_of = {f"%{letters[0]}l": {"low"}, f"%{letters[0]}h": {"high"}} if letters.endswith("x") else {}
+    return {"%e" + letters: ALL, "%" + letters: ALL - {"rest"}, **bytes_of}
+
+
+PARTS = {"%e" + letters: names_of(letters) for letters in ("ax", "cx", "dx", "bx", "si", "di", "bp")}
+REGISTERS = tuple(PARTS)
+# Those in which a call may take arguments, and whose values it doesn't keep. A call keeps the others.
+FOR_CALLS = ("%eax", "%ecx", "%edx")
 
 # Instructions that write their last operand without having read it.
 MOVES = re.compile(r"(?:mov[bwl]?|mov[sz](?:bl|bw|wl)|lea[lw]?|pop[lw]?|set[a-z]+|bs[fr][lw]?)$")
@@ -17,7 +26,25 @@ ZEROING = re.compile(r"(?:xor|sub|sbb)[bwl]?$")
 CONSTANTS = {("or", "$-1"), ("orl", "$-1"), ("and", "$0"), ("andl", "$0")}
 # These change no register that they name last.
 READ_ONLY = re.compile(r"(?:cmp|test|push|mul|i?div|bt)[bwl]?$")
-BY_COUNT = re.compile(r"(?:loop[a-z]*|jecxz|cpuid|cmpxchg8b)$")
+# Instructions that use no register but those that they name; beside them, those that do, with what they read and write without naming it.
+# Any other one may read all.
+PLAIN = re.compile(r"(?:mov[bwl]?|mov[sz](?:bl|bw|wl)|lea[lw]?|(?:add|sub|adc|sbb|and|or|xor|not|neg|inc|dec|cmp|test|push|pop|sh[lr]d?|sa[lr]|ro[lr]"
+                   r"|rc[lr]|bt[src]?|bs[fr]|bswap|xchg|xadd|imul|nop)[bwl]?|(?:set|cmov|j)[a-z]+|calll?|ud2|hlt|pause)$")
+UNNAMED = [
+    (re.compile(r"mull$"), {"%eax"}, {"%edx"}),
+    (re.compile(r"mul[bw]?$|c[bw]t[wl]$|cwtd$|cmpxchg[bwl]?$"), {"%eax"}, set()),
+    (re.compile(r"cltd$"), {"%eax"}, {"%edx"}),
+    (re.compile(r"i?div[bwl]?$"), {"%eax", "%edx"}, set()),
+    (re.compile(r"(?:movs|cmps)[bwl]$"), {"%esi", "%edi"}, set()),
+    (re.compile(r"(?:stos|scas)[bwl]$"), {"%eax", "%edi"}, set()),
+    (re.compile(r"lods[bwl]$"), {"%esi"}, set()),
+    (re.compile(r"loop[a-z]*$|jecxz$"), {"%ecx"}, set()),
+    (re.compile(r"cmpxchg8b$"), {"%eax", "%ecx", "%edx", "%ebx"}, set()),
+    (re.compile(r"cpuid$"), {"%eax", "%ecx"}, {"%eax", "%ecx", "%edx", "%ebx"}),
+    (re.compile(r"leave$"), {"%ebp"}, set()),
+    # A return by %ecx gives back what the others have.
+    (re.compile(r"retl?$"), set(REGISTERS) - {"%ecx"}, set()),
+]
 ENDS = ("call", "ret", "lret", "iret", "ud2", "hlt")
 # A call of this and a register's letters gives the register the address of the code, for position-independent code, and changes no other.
 OWN_ADDRESS = "__x86.get_pc_thunk."
@@ -25,9 +52,9 @@ OWN_ADDRESS = "__x86.get_pc_thunk."
 BESIDE = re.compile(r"\*?(?:\d+|0x[0-9a-fA-F]+)?\((%e\w\w)\)$")
 
 
-def parts_in(text):
-    """The parts of %ecx that a text names."""
-    return set().union(*(PARTS.get(name, ()) for name in re.findall(r"%\w+", text)))
+def parts_in(text, register="%ecx"):
+    """The parts of a register that a text names."""
+    return set().union(*(PARTS[register].get(name, ()) for name in re.findall(r"%\w+", text)))
 
 
 def is_move(statement, operands):
@@ -36,30 +63,45 @@ def is_move(statement, operands):
     return bool(is_constant or MOVES.match(statement.word) or statement.word.startswith("imul") and len(operands) == 3)
 
 
-def written(statement):
-    """The parts of %ecx that have other values after an instruction, whatever they were before."""
-    operands = split_operands(statement.operands)
-    if statement.word == "cpuid" or statement.operands == OWN_ADDRESS + "cx":
-        return ALL
-    return PARTS[operands[-1]] if operands and operands[-1] in PARTS and is_move(statement, operands) else set()
+@lru_cache(maxsize=None)
+def unnamed_by(word):
+    """The registers that instructions of a word read and write without naming them."""
+    known = next(((reads, writes) for pattern, reads, writes in UNNAMED if pattern.match(word)), None)
+    return known or (set() if PLAIN.match(word) else set(REGISTERS), set())
 
 
-def read(statement):
-    """The parts of %ecx that an instruction reads, by their names or as the count of a repetition."""
+def unnamed(statement):
+    """The same for an instruction, which may be a product of %eax or a repetition."""
+    is_product = statement.word.startswith("imul") and "," not in statement.operands
+    word = statement.word[1:] if is_product else statement.word
+    reads, writes = unnamed_by(word)
+    is_repeated = statement.prefixes and statement.prefixes[0].startswith("rep") and not word.startswith(("ret", "nop"))
+    return reads | {"%ecx"} if is_repeated else reads, writes
+
+
+def written(statement, register="%ecx"):
+    """The parts of a register that have other values after an instruction, whatever they were before."""
     operands = split_operands(statement.operands)
-    is_repeated = statement.prefixes and statement.prefixes[0].startswith("rep") and statement.word not in ("ret", "nop")
-    if is_repeated or BY_COUNT.match(statement.word):
+    if register in unnamed(statement)[1] or statement.operands == OWN_ADDRESS + register[2:]:
         return ALL
-    if not operands or operands[-1] not in PARTS or not is_move(statement, operands):
-        return parts_in(statement.operands)
-    return set() if ZEROING.match(statement.word) else parts_in(", ".join(operands[:-1]))
+    return PARTS[register][operands[-1]] if operands and operands[-1] in PARTS[register] and is_move(statement, operands) else set()
+
+
+def read(statement, register="%ecx"):
+    """The parts of a register that an instruction reads."""
+    operands = split_operands(statement.operands)
+    if register in unnamed(statement)[0]:
+        return ALL
+    if not operands or operands[-1] not in PARTS[register] or not is_move(statement, operands):
+        return parts_in(statement.operands, register)
+    return set() if ZEROING.match(statement.word) else parts_in(", ".join(operands[:-1]), register)
 
 
 def changes(statement):
     """Whether an instruction gives %ecx another value, whether it has read it or not."""
-    operands = split_operands(statement.operands)
+    operands, names = split_operands(statement.operands), PARTS["%ecx"]
     only_read = READ_ONLY.match(statement.word) or statement.word.startswith("imul") and len(operands) == 1
-    named = statement.word.startswith(("xchg", "xadd")) and set(PARTS) & set(operands) or operands and operands[-1] in PARTS
+    named = statement.word.startswith(("xchg", "xadd")) and set(names) & set(operands) or operands and operands[-1] in names
     return bool(written(statement)) or bool(named) and not only_read
 
 
@@ -95,30 +137,3 @@ def takes_up_state(listing, index):
         is_same_run = is_same_run and statement.kind == "instruction" and not statement.word.startswith(("j", *ENDS))
         has_loaded = has_loaded or is_same_run and loads_stack_pointer(statement, target.group(1))
     return has_loaded
-
-
-def following(listing, index, statement):
-    """The statements to which control goes from an instruction with %ecx as it is: a call doesn't come back with it. None is outside."""
-    if is_direct(statement):
-        yield listing.labels.get(statement.operands)
-    if not statement.word.startswith(("jmp", *ENDS)) or OWN_ADDRESS in statement.operands:
-        yield listing.after.get(index)
-
-
-def is_needed_at(listing, name):
-    """Whether a path from a label reads a part of %ecx before that is written, or leads to a function that may do so."""
-    seen, waiting = set(), [(listing.labels[name], frozenset(ALL))]
-    while waiting:
-        index, kept = waiting.pop()
-        if (index, kept) in seen or not kept:
-            continue
-        seen.add((index, kept))
-        statement = listing.statements[index]
-        if statement.kind != "instruction":
-            waiting += [(after, kept) for after in [listing.after.get(index)] if after is not None]
-            continue
-        goes_on = list(following(listing, index, statement))
-        if read(statement) & kept or None in goes_on or statement.word.startswith("call") and not is_direct(statement):
-            return True
-        waiting += [(place, kept - written(statement)) for place in goes_on]
-    return False

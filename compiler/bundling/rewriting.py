@@ -4,8 +4,8 @@ import re
 
 from .listing import Listing
 from .notes import ONLY_PADDING, OWN_NOPS, noted
-from .registers import REGISTERS, is_needed_at, is_set_before, parts_in, takes_up_state
-from .statements import statements_of
+from .registers import REGISTERS, is_set_before, parts_in, takes_up_state
+from .statements import JumpRefusal, statements_of
 from .tables import PAD, Tables, is_jump_through_memory
 
 BUNDLE = 32
@@ -24,6 +24,7 @@ class Bundler:
     def __init__(self, listing, keep_returns):
         self.listing, self.keep_returns = listing, keep_returns
         self.tables = Tables(listing)
+        self.pads = self.tables.pads()  # labels at which %ecx is still to be restored
         self.has_nops = False  # whether the text has nops of one byte
         self.bases = {}  # code section -> the label at its start, from which places are counted
         self.base = None  # that label for the current section, or None outside of code
@@ -89,31 +90,33 @@ class Bundler:
         if target in REGISTERS:
             self.mask_and_go("jmp", target)
             return
-        if self.tables.saves_register(statement):
-            self.emit("pushl %ecx")
-        else:
+        register = "%ecx"
+        if self.tables.table_of(statement) is None:
             self.check_free(index, statement)
-        self.emit(f"movl {target}, %ecx")
-        self.mask_and_go("jmp", "%ecx")
+        elif self.tables.register_for(statement):
+            register = self.tables.register_for(statement)
+        else:
+            self.emit("pushl %ecx")
+        self.emit(f"movl {target}, {register}")
+        self.mask_and_go("jmp", register)
 
     def check_free(self, index, statement):
         """Refuses a jump through memory that isn't by a table, unless %ecx is free: the jump takes up a state that was kept, or it goes to
         labels of the function that don't need %ecx. Out of the function it might take arguments along in any register."""
         labels = self.tables.targets(index, statement)
         if not labels and not takes_up_state(self.listing, index):
-            statement.refuse(NONE_FREE)
+            statement.refuse(NONE_FREE, JumpRefusal)
         is_set = not parts_in(statement.operands) and is_set_before(self.listing, index)
-        if is_set or any(is_needed_at(self.listing, name) for name in labels):
+        if is_set or self.tables.paths.is_needed(labels, "%ecx"):
             statement.refuse("a jump through memory to labels of a function: compile with -fno-jump-tables (a switch), or keep the label's "
-                             "address in a register, by -mindirect-branch-register (gcc) or asm(\"\" : \"+r\"(label))")
+                             "address in a register, by -mindirect-branch-register (gcc) or asm(\"\" : \"+r\"(label))", JumpRefusal)
 
     def finish(self, section):
         """The end of a code section: the labels of tables by which jumps save %ecx, and whole bundles."""
         self.out.append(section.directive)
-        for name in self.tables.pads(section):
-            self.start_bundle()
-            self.out.append(PAD + name + ":")
-            self.emit("popl %ecx", f"jmp {name}")
+        for name in sorted(name for name in self.pads if self.listing.sections[self.listing.labels[name]] == section):
+            self.restore_before(name)
+            self.emit(f"jmp {name}")
         self.start_bundle()
 
     def instruction(self, index, statement):
@@ -134,10 +137,25 @@ class Bundler:
         else:
             self.out.append(statement.text)
 
-    def label(self, statement):
-        if self.base and self.listing.begins_bundle(statement.word):
+    def label(self, index, statement):
+        name = statement.word
+        if self.base and self.listing.begins_bundle(name, self.tables.padded):
             self.start_bundle()
+        elif name in self.pads and self.is_only_jumped_to(index):
+            self.restore_before(name)
         self.out.append(statement.text)
+
+    def is_only_jumped_to(self, index):
+        """Whether control doesn't come to a label from the instruction before it."""
+        before = self.listing.statements[index - 1] if index else None
+        return before is not None and before.kind == "instruction" and before.word in JUMPS | RETURNS
+
+    def restore_before(self, name):
+        """The place where %ecx is restored on the way from a table to its label."""
+        self.pads.remove(name)
+        self.start_bundle()
+        self.out.append(PAD + name + ":")
+        self.emit("popl %ecx")
 
     def directive(self, index, statement):
         if index in self.listing.enters:
@@ -163,7 +181,7 @@ class Bundler:
         """Everything, and whole bundles in each code section."""
         for index, statement in enumerate(self.listing.statements):
             if statement.kind == "label":
-                self.label(statement)
+                self.label(index, statement)
             elif statement.kind == "directive":
                 self.directive(index, statement)
             elif statement.kind == "instruction" and self.base:

@@ -23,6 +23,10 @@ class Refusal(Exception):
         super().__init__(f"line {statement.line}, `{text}`: {reason}")
 
 
+class JumpRefusal(Refusal):
+    """The same for a jump through memory. A compiler that makes no tables for jumps writes it only for a computed goto."""
+
+
 class Statement(NamedTuple):
     """A label, a directive, an assignment or an instruction with its prefixes, and the line on which it begins."""
 
@@ -41,8 +45,8 @@ class Statement(NamedTuple):
             return f"\t{self.word} = {self.operands}"
         return ("\t" + " ".join([*self.prefixes, self.word]) + "\t" + self.operands).rstrip()
 
-    def refuse(self, reason):
-        raise Refusal(self, reason)
+    def refuse(self, reason, kind=Refusal):
+        raise kind(self, reason)
 
 
 def pieces(text):

@@ -2,6 +2,9 @@
 
 import re
 
+from .listing import DATA
+from .paths import Paths
+from .registers import REGISTERS
 from .statements import split_operands, symbols
 
 SILENT = {".size", ".type", ".local", ".hidden", ".loc"}  # directives that name a label and don't read its address
@@ -30,22 +33,28 @@ def constant_tables(listing):
     for index, statement in enumerate(listing.statements):
         if statement.kind == "label":
             current = statement.word
-        elif listing.sections[index].name.startswith(CONSTANT) and any(name in listing.labels for name in symbols(statement.operands)):
-            tables.setdefault(current, []).append(index)
+        elif statement.word in DATA and listing.sections[index].name.startswith(CONSTANT):
+            if any(name in listing.labels for name in symbols(statement.operands)):
+                tables.setdefault(current, []).append(index)
     return tables
 
 
 class Tables:
-    """`padded` are the statements of those tables whose labels nothing else reads than jumps through memory. Their labels can be replaced:
-    such a jump saves %ecx, and the new label restores it."""
+    """`by_jumps` has the labels of those tables that nothing else reads than jumps through memory, by the table's name. Such a jump loads its
+    target into a register whose value none of the labels needs. Where there is none, it saves %ecx, and the table's statements, which are
+    `padded`, have labels instead that restore it."""
 
     def __init__(self, listing):
         self.listing = listing
         tables, named = constant_tables(listing), references(listing)
         self.of_labels = {name: places for name, places in tables.items() if any(self.inner_labels(index) for index in places)}
-        self.by_jumps = {name for name in self.of_labels if all(self.is_jump_by(index, name) for index in named.get(name, ()))
-                         and all(self.is_replaceable(index) for index in tables[name])}
-        self.padded = {index for name in self.by_jumps & self.jumped() for index in tables[name]}
+        by_jumps = [name for name in self.of_labels if all(self.is_jump_by(index, name) for index in named.get(name, ()))
+                    and all(self.is_replaceable(index) for index in tables[name])]
+        self.by_jumps = {name: sorted({label for index in tables[name] for label in self.inner_labels(index)}) for name in by_jumps}
+        self.paths = Paths(listing, self.targets)
+        jumped = self.by_jumps.keys() & self.jumped()
+        self.free = {name: [each for each in REGISTERS if not self.paths.is_needed(self.by_jumps[name], each)] for name in jumped}
+        self.padded = {index for name in jumped if not self.free[name] for index in tables[name]}
 
     def inner_labels(self, index):
         """The labels inside of functions that a statement names."""
@@ -67,21 +76,27 @@ class Tables:
         jumps = (statement for statement in self.listing.statements if is_jump_through_memory(statement))
         return {name for statement in jumps for name in symbols(statement.operands)}
 
-    def pads(self, section):
-        """The labels of a section for which there has to be one that restores %ecx, in order."""
-        names = {name for index in self.padded for name in self.inner_labels(index)}
-        return sorted(name for name in names if self.listing.sections[self.listing.labels[name]] == section)
+    def pads(self):
+        """The labels for which there has to be one that restores %ecx."""
+        return {name for index in self.padded for name in self.inner_labels(index)}
 
     def replaced(self, index):
         """A table's statement with the labels that restore %ecx."""
         statement = self.listing.statements[index]
         return statement._replace(operands=", ".join(PAD + name for name in self.inner_labels(index)))
 
-    def saves_register(self, statement):
-        """Whether a jump through memory is by a table whose labels are replaced, so that it saves %ecx."""
-        return any(name in self.by_jumps for name in symbols(statement.operands))
+    def table_of(self, statement):
+        """The name of the table by which alone a jump through memory goes, or None."""
+        return next((name for name in symbols(statement.operands) if name in self.by_jumps), None)
+
+    def register_for(self, statement):
+        """The register that a jump by a table overwrites: its index where that is free. None saves %ecx."""
+        free = self.free[self.table_of(statement)]
+        return next((name for name in re.findall(r"%\w+", statement.operands)[::-1] if name in free), free[0] if free else None)
 
     def targets(self, index, statement):
-        """The labels inside of functions to which another jump through memory may go. Without any it leaves its function."""
+        """The labels inside of functions to which a jump through memory may go. Without any it leaves its function."""
+        if not is_jump_through_memory(statement) or self.table_of(statement):
+            return self.by_jumps.get(self.table_of(statement), [])
         places = [place for name in symbols(statement.operands) for place in self.of_labels.get(name, ())]
         return [name for place in places for name in self.inner_labels(place)] + self.listing.pointed_beside(index)
