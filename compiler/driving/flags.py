@@ -3,7 +3,8 @@
 from .tools import is_clang
 
 FREESTANDING = "-ffreestanding"
-DEFAULTS = ["-fno-pic", "-fno-pie", "-fno-jump-tables", "-fno-asynchronous-unwind-tables"]
+DEFAULTS = ["-fno-pic", "-fno-pie", "-mtune=generic", "-fno-asynchronous-unwind-tables"]
+NO_TABLES = "-fno-jump-tables"
 DEFAULTS_CXX = ["-fno-exceptions", "-fno-rtti", "-fno-threadsafe-statics", "-fno-use-cxa-atexit"]
 # Conventions by which a return keeps %ecx, or has a part of the result there. A rewritten return goes by %ecx, so functions have the usual
 # convention instead. The attribute that stands for theirs does nothing.

@@ -1,0 +1,4 @@
+/* The switches as C++. */
+extern "C" {
+#include "switches.c"
+}
