@@ -24,7 +24,8 @@ REPLACED = {
     "math": "ceil floor fmod llrint llround lrint lround nearbyint nearbyintf rint rintf round roundf trunc".split(),
     "string": "memchr memcmp memcpy memmove memset strcmp strlen strncmp".split(),
 }
-C_FLAGS = ["-w", "-std=gnu99", "-ffreestanding"]
+# For the C library's own sources, as in musl's Makefile, and for those that use it: there a compiler knows what `memcpy` does.
+C_FLAGS, HOSTED = ["-w", "-std=gnu99", "-ffreestanding"], ["-w", "-std=gnu99", "-fhosted"]
 LIMIT = 100
 
 
