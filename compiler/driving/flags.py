@@ -3,7 +3,8 @@
 from .tools import is_clang
 
 FREESTANDING = "-ffreestanding"
-DEFAULTS = ["-fno-pic", "-fno-pie", "-mtune=generic", "-fno-asynchronous-unwind-tables"]
+DEFAULTS = ["-fno-pic", "-fno-pie", "-fno-asynchronous-unwind-tables"]
+DEFAULTS_GCC = ["-mtune=generic"]  # clang's code is larger with it, by up to a sixth, and no faster
 NO_TABLES = "-fno-jump-tables"
 DEFAULTS_CXX = ["-fno-exceptions", "-fno-rtti", "-fno-threadsafe-statics", "-fno-use-cxa-atexit"]
 # Conventions by which a return keeps %ecx, or has a part of the result there. A rewritten return goes by %ecx, so functions have the usual
@@ -22,5 +23,6 @@ NEEDED_CLANG = ["-m80387", "-Xclang", "-msoft-float", *(word for name in FEATURE
 def flags_for(language, given=(), is_hosted=False):
     """The flags for a language: the defaults, those given, which may replace them, and those that can't be otherwise. With a C library the
     code is hosted."""
+    own, needed = ([], NEEDED_CLANG) if is_clang() else (DEFAULTS_GCC, NEEDED_GCC)
     cxx = DEFAULTS_CXX if language.startswith("c++") else []
-    return [*[FREESTANDING] * (not is_hosted), *DEFAULTS, *cxx, *given, *NEEDED, *(NEEDED_CLANG if is_clang() else NEEDED_GCC)]
+    return [*[FREESTANDING] * (not is_hosted), *DEFAULTS, *own, *cxx, *given, *NEEDED, *needed]
