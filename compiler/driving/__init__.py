@@ -8,4 +8,5 @@ from .questions import answer
 from .responses import shortened
 from .tools import ABOVE, LED_BACK, ended, tool
 
-__all__ = ["ABOVE", "LED_BACK", "NO_TABLES", "Fault", "Line", "answer", "ended", "flags_for", "own_headers", "shortened", "template_flags", "tool"]
+__all__ = ["ABOVE", "LED_BACK", "NO_TABLES", "Fault", "Line", "answer", "ended", "flags_for", "own_headers", "shortened", "template_flags",
+           "tool"]
