@@ -74,6 +74,7 @@ class Listing:
         self.aliases = self.aliased()
         self.labels.update({alias: self.labels[name] for alias, name in self.aliases.items()})
         self.globals = set(self.named_by(GLOBALS))
+        self.weak = {name for statement in self.statements if statement.word == ".weak" for name in symbols(statement.operands)}
         self.functions = self.globals | set(self.functions_by_type())
         self.starts = self.starts_of_functions()
         self.pointed = {}  # the labels that a pointer may hold, with the statements that take their addresses

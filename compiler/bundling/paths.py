@@ -11,9 +11,9 @@ class Paths:
         self.listing, self.labels_of = listing, labels_of
 
     def targets(self, index, statement):
-        """The places to which a jump or a call goes. None is outside, or not known."""
+        """The places to which a jump or a call goes. None is outside, or not known: another function may stand for a weak one."""
         if is_direct(statement):
-            return [self.listing.labels.get(statement.operands)]
+            return [None if statement.operands in self.listing.weak else self.listing.labels.get(statement.operands)]
         return [self.listing.labels[label] for label in self.labels_of(index, statement)] or [None]
 
     def following(self, index, statement, register):

@@ -28,7 +28,7 @@ CONSTANTS = {("or", "$-1"), ("orl", "$-1"), ("and", "$0"), ("andl", "$0")}
 READ_ONLY = re.compile(r"(?:cmp|test|push|mul|i?div|bt)[bwl]?$")
 # Instructions that use no register but those that they name; beside them, those that do, with what they read and write without naming it.
 # Any other one may read all.
-PLAIN = re.compile(r"(?:mov[bwl]?|mov[sz](?:bl|bw|wl)|lea[lw]?|(?:add|sub|adc|sbb|and|or|xor|not|neg|inc|dec|cmp|test|push|pop|sh[lr]d?|sa[lr]|ro[lr]"
+PLAIN = re.compile(r"(?:mov[bwl]?|mov[sz](?:bl|bw|wl)|lea[lw]?|(?:add|sub|adc|sbb|and|or|xor|not|neg|inc|dec|cmp|test|push|pop|sh[lr]|sa[lr]|ro[lr]"
                    r"|rc[lr]|bt[src]?|bs[fr]|bswap|xchg|xadd|imul|nop)[bwl]?|(?:set|cmov|j)[a-z]+|calll?|ud2|hlt|pause)$")
 UNNAMED = [
     (re.compile(r"mull$"), {"%eax"}, {"%edx"}),
@@ -38,7 +38,8 @@ UNNAMED = [
     (re.compile(r"(?:movs|cmps)[bwl]$"), {"%esi", "%edi"}, set()),
     (re.compile(r"(?:stos|scas)[bwl]$"), {"%eax", "%edi"}, set()),
     (re.compile(r"lods[bwl]$"), {"%esi"}, set()),
-    (re.compile(r"loop[a-z]*$|jecxz$"), {"%ecx"}, set()),
+    # gcc leaves out the count of `shldl %cl, %eax, %edx`.
+    (re.compile(r"loop[a-z]*$|jecxz$|sh[lr]d[lw]?$"), {"%ecx"}, set()),
     (re.compile(r"cmpxchg8b$"), {"%eax", "%ecx", "%edx", "%ebx"}, set()),
     (re.compile(r"cpuid$"), {"%eax", "%ecx"}, {"%eax", "%ecx", "%edx", "%ebx"}),
     (re.compile(r"leave$"), {"%ebp"}, set()),
