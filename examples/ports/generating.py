@@ -1,7 +1,6 @@
 """Compiles programs that generate code: PCRE2 with its JIT, and tcc. `generators` and tools/try/generators share this."""
 
 import concurrent.futures
-import fnmatch
 import glob
 import importlib.util
 import os
@@ -39,13 +38,6 @@ def unpacked(name, sources, place, edits):
     return top
 
 
-def files_of(name, top):
-    """The sources of a program's library."""
-    port = GENERATORS[name]
-    paths = [path for pattern in port.files.split() for path in sorted(glob.glob(os.path.join(top, pattern)))]
-    return [path for path in paths if not any(fnmatch.fnmatch(os.path.basename(path), one) for one in port.without.split())]
-
-
 class Compiler:
     """A compiler with its flags, for the box or natively."""
 
@@ -80,7 +72,7 @@ def pcre2_flags(top, widths, width=None):
 def pcre2_library(compiler, top, folder, widths):
     """The objects of the library in all of the widths."""
     return [path for width in widths for path in
-            compiler.objects(pcre2_flags(top, widths, width), files_of("pcre2-jit", top), os.path.join(folder, str(width)))]
+            compiler.objects(pcre2_flags(top, widths, width), GENERATORS["pcre2-jit"].sources(top), os.path.join(folder, str(width)))]
 
 
 def pcre2_test(compiler, top, folder, widths, library):
@@ -164,7 +156,7 @@ def build_tcc(driver, top, folder):
             file.write(text)
     compiler = Compiler([driver, "-O2"])
     flags = [*QUIET, *("-I" + place for place in (OWN["tcc"], folder, top))]
-    return [compiler.program(compiler.objects(flags, files_of("tcc", top), folder), os.path.join(folder, "tcc.nc"))]
+    return [compiler.program(compiler.objects(flags, GENERATORS["tcc"].sources(top), folder), os.path.join(folder, "tcc.nc"))]
 
 
 BUILDERS = {"pcre2-jit": build_pcre2, "tcc": build_tcc}

@@ -4,6 +4,9 @@
 (load.c, host.s).
 """
 
+import fnmatch
+import glob
+import os
 from typing import NamedTuple
 
 
@@ -21,6 +24,11 @@ class Port(NamedTuple):
 
     def version(self):
         return self.archive.partition("_")[2].partition(".orig")[0].partition("+")[0]
+
+    def sources(self, top):
+        """The paths of what is compiled, in the archive's only folder."""
+        paths = [path for pattern in self.files.split() for path in sorted(glob.glob(os.path.join(top, pattern)))]
+        return [path for path in paths if not any(fnmatch.fnmatch(os.path.basename(path), name) for name in self.without.split())]
 
 
 PORTS = {

@@ -6,6 +6,8 @@ import os
 import shutil
 
 from generating import OWN, SLJIT_FLAGS, Compiler, edits_of, pcre2_flags, pcre2_library
+from jit_web import Web
+from peers_times import mean
 from porting import done
 
 NAME = "pcre2-jit"
@@ -45,13 +47,15 @@ def build(compiler, top, folder, more=()):
     return compiler.program([*main, *more, *pcre2_library(compiler, top, folder, [8])], os.path.join(folder, "times"))
 
 
-def lines_of(place):
-    """The command of each program, once all are built and the texts are there."""
-    edits = edits_of(NAME)
-    tops = {"box": place.sources(NAME, edits.EDITS.values(), "box"), "i386-": place.sources(NAME, edits.PLAIN, "plain"),
-            "i386": place.sources(NAME, [], "native")}
-    tops["x86-64"] = tops["i386"]
-    write_texts(tops["box"], place.folder)
+def tops_of(place):
+    """PCRE2's sources for each program."""
+    edits, native = edits_of(NAME), place.sources(NAME, [], "native")
+    return {"box": place.sources(NAME, edits.EDITS.values(), "box"), "i386-": place.sources(NAME, edits.PLAIN, "plain"), "i386": native,
+            "x86-64": native}
+
+
+def lines_of(place, tops):
+    """The command of each program, once all are built."""
     box = build(Compiler([place.tool("nc-cc"), *SLJIT_FLAGS]), tops["box"], place.below("times-box"))
     lines = {"box": [*place.runs("--dir", "."), box, "patterns.txt"]}
     for name, words in NATIVE.items():
@@ -69,26 +73,30 @@ def least(rows, others):
     return [(name, found, [min(pair) for pair in zip(numbers, more)]) for (name, found, numbers), (_, _, more) in zip(rows, others)]
 
 
-def mean(ratios):
-    """The geometric mean."""
-    return math.exp(sum(map(math.log, ratios)) / len(ratios))
-
-
 def print_row(name, cells):
     print("    %-42.42s" % name + "".join("%9s" % (cell if isinstance(cell, str) else "%.2f" % cell) for cell in cells))
 
 
-def print_table(best):
-    """The table of milliseconds, and the ratios: JIT in the box to i386-, interpreter to JIT, bytes of code, time to make it."""
-    all_ratios = []
-    print_row("", HEAD)
-    print_row("", ("", "in box", "in box", "JIT", "JIT", "JIT", "i386-", "JIT", "i386-", "i386-"))
+def print_web_means(web, best):
+    """The geometric means of what the interpreter takes by wasm2c and in Node.js, for each of the texts."""
+    for part, what in ((slice(PROSE), "prose"), (slice(PROSE, None), "dna")):
+        jit = [row[2][1] for row in best["box"][part]]
+        for title, times in zip(web.titles(), zip(*web.times()[part])):
+            print("    %s, geometric mean: interpreter by %s to JIT in the box %.1f" % (what, title, mean([a / b for a, b in zip(times, jit)])))
+
+
+def print_table(best, web):
+    """The table of milliseconds, and the ratios: JIT in the box to i386-, interpreter to JIT, bytes of code, time to make it. The last
+    columns are milliseconds of the interpreter."""
+    all_ratios, more = [], web.times() or [()] * len(best["box"])
+    print_row("", [*HEAD, *web.titles()])
+    print_row("", ["", "in box", "in box", "JIT", "JIT", "JIT", "i386-", "JIT", "i386-", "i386-", *["interp"] * len(web.titles())])
     for k, (name, found, (interpreter, jit, took, size)) in enumerate(best["box"]):
         plain, wide, native = (best[kind][k][2] for kind in NATIVE)
         ratios = [jit / plain[1], interpreter / jit, size / plain[3], took / plain[2],
                   jit / wide[1], jit / native[1], interpreter / plain[0]]
         all_ratios.append(ratios)
-        print_row(name, [found[0], interpreter, jit, plain[1], wide[1], native[1], *ratios[:4]])
+        print_row(name, [found[0], interpreter, jit, plain[1], wide[1], native[1], *ratios[:4], *more[k]])
     for part, what in ((all_ratios[:PROSE], "prose"), (all_ratios[PROSE:], "dna")):
         means = [mean([ratios[k] for ratios in part]) for k in range(7)]
         print("    %s, geometric means: JIT in the box to i386- %.2f, i386 %.2f, x86-64 %.2f; interpreter to JIT in the box %.1f; "
@@ -97,14 +105,21 @@ def print_table(best):
 
 def measure(place):
     """Prints the table. All programs have to find the same."""
-    lines = lines_of(place)
+    tops = tops_of(place)
+    write_texts(tops["box"], place.folder)
+    lines, web = lines_of(place, tops), Web(tops["x86-64"], PATTERNS, place.folder)
     shutil.copy(PATTERNS, place.folder)
-    best = {name: rows_of(line, place.folder, 1, 1) for name, line in lines.items()}
-    for turn in range(1, ROUNDS):
+    best = {}
+    for turn in range(ROUNDS):
         for name, line in lines.items():
-            best[name] = least(best[name], rows_of(line, place.folder, 1, int(turn < INTERPRETED)))
+            rows = rows_of(line, place.folder, 1, int(turn < INTERPRETED))
+            best[name] = least(best.get(name, rows), rows)
+        if turn < INTERPRETED:
+            web.turn()
     same = all([row[:2] for row in rows] == [row[:2] for row in best["box"]] for rows in best.values())
-    print_table(best)
+    same = same and web.agrees([found[1] for _, found, _ in best["box"]])
+    print_table(best, web)
+    print_web_means(web, best)
     if not same:
         print("DIFFERS: the programs don't find the same")
     return same

@@ -23,6 +23,12 @@ def done(words, folder, cc="gcc"):
     return did.stdout.decode(errors="replace")
 
 
+def code_size(paths):
+    """The bytes of code in objects."""
+    lines = done(["size", "-A", *paths], os.curdir).splitlines()
+    return sum(int(line.split()[1]) for line in lines if line.startswith(".text"))
+
+
 def archives_of(what, table, names):
     """Those of the names whose archives are there. A line tells how to get the others."""
     absent = [name for name in names if not os.path.exists(os.path.join(SOURCES, table[name].archive))]

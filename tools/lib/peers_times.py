@@ -1,0 +1,110 @@
+"""Sums and times of the libraries of tools/try/peers by each way, and the tables of them."""
+
+import math
+import os
+
+from peers_table import PEERS
+from peers_ways import BASE, NODE
+from porting import Fault
+
+ROUNDS = 5  # of each operation in a run, of which the least time counts
+WARM = 3  # times as many in Node.js, which compiles code anew while it runs
+BOX = "box"  # the boxes of this checkout; those of another one have its name
+HEADS = {BASE: ("native", BASE), "i386": ("native", "i386"), BOX: ("", BOX), "guard": ("wasm2c", "guard"), "bounds": ("wasm2c", "bounds"),
+         NODE: ("", NODE)}
+
+
+def run(name, way, built, folder, rounds):
+    """The milliseconds and the sum of each operation."""
+    peer = PEERS[name]
+    times = WARM if way == NODE and rounds > 1 else 1
+    return built.run([os.path.join(folder, peer.input), str(times * rounds), str(len(peer.operations))], folder)
+
+
+def differing(name, sums):
+    """What the ways don't agree on, for the sums of each way. Native 64-bit code may make something else where the word's size matters."""
+    said = []
+    for k, operation in enumerate(PEERS[name].operations):
+        ways = {}
+        for way, those in sums.items():
+            if not (operation.by_words and way == BASE):
+                ways.setdefault(those[k], []).append(way)
+        if len(ways) > 1:
+            said.append("%s: %s" % (operation.name, "; ".join("%s by %s" % (those, ", ".join(by)) for those, by in ways.items())))
+    return said
+
+
+def same_sums(name, built, folder):
+    """Whether one run of each way makes the same. Prints a line."""
+    try:
+        said = differing(name, {way: [made for _, made in run(name, way, one, folder, 1)] for way, one in built.items()})
+    except Fault as fault:
+        said = [str(fault)]
+    told = "DIFFERS: " + " | ".join(said) if said else "same sums"
+    print("%s %s by %s: %s" % (name, PEERS[name].version(), ", ".join(built), told), flush=True)
+    return not said
+
+
+def measured(name, built, folder, passes):
+    """The least milliseconds of each operation by each way, which run by turns."""
+    best = {way: [math.inf] * len(PEERS[name].operations) for way in built}
+    for _ in range(passes):
+        for way, one in built.items():
+            best[way] = [min(least, took) for least, (took, _) in zip(best[way], run(name, way, one, folder, ROUNDS))]
+    return best
+
+
+def mean(ratios):
+    """The geometric mean."""
+    return math.exp(sum(map(math.log, ratios)) / len(ratios)) if ratios else math.nan
+
+
+def print_row(title, cells):
+    print(("    %-38s" % title + "".join("%10s" % cell for cell in cells)).rstrip(), flush=True)
+
+
+def row_title(name, k):
+    """A library with its version in its first row, and an operation."""
+    peer = PEERS[name]
+    return "%s, %s" % (peer.title if k else "%s %s" % (peer.title, peer.version()), peer.operations[k].name)
+
+
+class Times:
+    """The table of times: milliseconds natively, ratios to them by the other ways, and of two trees to the first one."""
+
+    def __init__(self, ways, trees):
+        self.ways, self.trees = ways, trees
+        self.columns = [*ways[1:], *(tree + "/" for tree in trees[1:])]
+        self.ratios = {column: [] for column in self.columns}
+
+    def print_head(self):
+        heads = [HEADS.get(way, (BOX, way)) for way in self.ways]
+        print_row("", [head for head, _ in heads] + list(self.trees[1:]))
+        print_row("", [head for _, head in heads] + ["/ " + self.trees[0]] * (len(self.trees) - 1))
+
+    def add(self, name, best):
+        """Prints the rows of a library."""
+        for k, operation in enumerate(PEERS[name].operations):
+            least = {way: times[k] for way, times in best.items()}
+            row = {way: least[way] / least[BASE] for way in self.ways[1:] if way in least}
+            row.update({tree + "/": least[tree] / least[self.trees[0]] for tree in self.trees[1:]})
+            for column, ratio in row.items():
+                self.ratios[column].append((operation.floats, ratio))
+            print_row(row_title(name, k), ["%.2f ms" % least[BASE], *("%.2f" % row[way] if way in row else "-" for way in self.columns)])
+
+    def print_means(self):
+        """The geometric means of all rows, and of those with hardly any floats."""
+        for title, takes in (("geometric mean of %d", lambda floats: True), ("of %d with hardly any floats", lambda floats: not floats)):
+            taken = {column: [ratio for floats, ratio in pairs if takes(floats)] for column, pairs in self.ratios.items()}
+            count = max(map(len, taken.values()), default=0)
+            print_row(title % count, ["", *("%.3f" % mean(taken[column]) for column in self.columns)])
+
+
+def print_sizes(all_built):
+    """The bytes of code, by library and way: of the library's objects, and of a box's file with the C library; of what wasm2c made of a
+    module, and of the module's file."""
+    ways = [way for way in next(iter(all_built.values())) if way != "bounds"]
+    boxes = [way for way in ways if way not in HEADS or way == BOX]
+    print_row("bytes of code", [{"guard": "wasm2c", NODE: ".wasm"}.get(way, way) for way in ways] + [way + " file" for way in boxes])
+    for name, built in all_built.items():
+        print_row("%s %s" % (PEERS[name].title, PEERS[name].version()), [built[way].size for way in ways] + [built[way].whole for way in boxes])

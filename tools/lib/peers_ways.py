@@ -1,0 +1,116 @@
+"""The ways in which tools/try/peers runs a library, but for boxes: natively, by wasm2c, and in Node.js."""
+
+import os
+import shutil
+from typing import NamedTuple
+
+from examples import TOP
+from porting import Fault, code_size, done
+
+SOURCES = os.path.join(TOP, "tools", "sources", "peers")
+HOST = [os.path.join(SOURCES, name) for name in ("host.c", "shared.c")]
+BASE = "x86-64"
+NATIVE = {BASE: ["gcc", "-O2"], "i386": ["gcc", "-m32", "-O2", "-msse2", "-mfpmath=sse", "-fno-pie", "-no-pie"]}
+
+WASM = ["clang", "--target=wasm32-wasi", "-O2", "-mbulk-memory", "-msign-ext", "-ftls-model=local-exec", "-isystem", os.path.join(SOURCES, "wasm")]
+SYSTEM = os.path.join(SOURCES, "wasm", "system.c")
+LINKED = ["-mexec-model=reactor", "-Wl,-z,stack-size=1048576"]
+WABT = "/usr/share/wabt/wasm2c"
+# The flags that wabt names for gcc, and those of each way: with guard pages, which is wasm2c's own, and with bounds checks.
+OF_WABT = ["gcc", "-O2", "-w", "-fno-optimize-sibling-calls", "-frounding-math", "-fsignaling-nans", "-I" + WABT]
+WASM2C = {"guard": [], "bounds": ["-DWASM_RT_MEMCHECK_SIGNAL_HANDLER=0", "-DWASM_RT_MAX_CALL_STACK_DEPTH=100000"]}
+NODE = "node"
+NO_WASM = "clang makes no WebAssembly here, which wants Debian's packages clang, lld, wasi-libc and libclang-rt-14-dev-wasm32"
+
+
+class Unit(NamedTuple):
+    """A library with operations over it: the sources of both, the flags for all, and the folder in which they are made."""
+
+    own: list
+    library: list
+    flags: list
+    folder: str
+
+
+class Built(NamedTuple):
+    """The command of a unit without the words for the host, which come between these; the bytes of the library's code, and of a box's
+    whole file."""
+
+    before: list
+    after: list
+    size: int
+    whole: int = 0
+
+    def run(self, words, folder):
+        """The milliseconds and the sum of each operation."""
+        lines = done([*self.before, *words, *self.after], folder).splitlines()
+        return [(float(took), sum_made) for took, sum_made in map(str.split, lines)]
+
+
+def objects(unit, way, words):
+    """The objects of a unit's own sources, and those of the library."""
+    folder = os.path.join(unit.folder, way)
+    os.makedirs(folder)
+    made = []
+    for number, source in enumerate([*unit.own, *unit.library]):
+        made.append(os.path.join(folder, "%d.o" % number))
+        done([*words, "-w", *unit.flags, "-c", "-x", "c", source, "-o", made[-1]], folder)
+    return made[:len(unit.own)], made[len(unit.own):]
+
+
+def native(unit, way):
+    """The unit as a program of this system."""
+    own, library = objects(unit, way, NATIVE[way])
+    program = os.path.join(unit.folder, way + "-program")
+    done([*NATIVE[way], *HOST, os.path.join(SOURCES, "native.c"), *own, *library, "-lm", "-o", program], unit.folder)
+    return Built([program], [], code_size(library))
+
+
+def wasm_made(words, path, folder):
+    """Links a module of WebAssembly, whose system is wasm/system.c."""
+    done([*WASM, *LINKED, SYSTEM, *words, "-o", path], folder)
+    return path
+
+
+def wasm2c_made(module, way, sources, folder):
+    """A program of a module by wasm2c and of sources of a host, and the module's object. The module's header is unit-wasm.h."""
+    folder = os.path.join(folder, way)
+    os.makedirs(folder)
+    source, made_of, program = (os.path.join(folder, name) for name in ("unit-wasm.c", "unit-wasm.o", "program"))
+    done(["wasm2c", module, "-n", "unit", "-o", source], folder)
+    words = [*OF_WABT, *WASM2C[way], "-I" + SOURCES, "-I" + folder]
+    done([*words, "-c", source, "-o", made_of], folder)
+    done([*words, *sources, made_of, os.path.join(WABT, "wasm-rt-impl.c"), "-lm", "-o", program], folder)
+    return program, made_of
+
+
+def web(unit, ways):
+    """The unit by those of the ways that begin with WebAssembly."""
+    if not set(ways) & {NODE, *WASM2C}:
+        return {}
+    own, library = objects(unit, "wasm", WASM)
+    module = wasm_made([*own, *library], os.path.join(unit.folder, "unit.wasm"), unit.folder)
+    built = {NODE: Built(["node", os.path.join(SOURCES, "node.mjs")], [module], os.path.getsize(module))} if NODE in ways else {}
+    for way in [way for way in ways if way in WASM2C]:
+        program, code = wasm2c_made(module, way, [*HOST, os.path.join(SOURCES, "wasm2c.c")], unit.folder)
+        built[way] = Built([program], [], code_size([code]))
+    return built
+
+
+def web_ways(what, folder):
+    """Those of the ways that can be gone here. A line tells what the others lack."""
+    try:
+        wasm_made([], os.path.join(folder, "empty.wasm"), folder)
+    except (Fault, OSError):
+        print("skipped: %s by wasm2c and in Node.js: %s" % (what, NO_WASM))
+        return []
+    ways = []
+    if shutil.which("wasm2c") and os.path.isdir(WABT):
+        ways += WASM2C
+    else:
+        print("skipped: %s by wasm2c: Debian's package wabt has it" % what)
+    if shutil.which("node"):
+        ways.append(NODE)
+    else:
+        print("skipped: %s in Node.js: node isn't there" % what)
+    return ways
