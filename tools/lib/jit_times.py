@@ -78,11 +78,12 @@ def print_row(name, cells):
 
 
 def print_web_means(web, best):
-    """The geometric means of what the interpreter takes by wasm2c and in Node.js, for each of the texts."""
-    for part, what in ((slice(PROSE), "prose"), (slice(PROSE, None), "dna")):
-        jit = [row[2][1] for row in best["box"][part]]
-        for title, times in zip(web.titles(), zip(*web.times()[part])):
-            print("    %s, geometric mean: interpreter by %s to JIT in the box %.1f" % (what, title, mean([a / b for a, b in zip(times, jit)])))
+    """The geometric means of what the interpreter takes as WebAssembly, in proportion to the JIT in the box."""
+    jit = [times[1] for _, _, times in best["box"]]
+    for title, column in zip(web.titles(), zip(*web.times())):
+        ratios = [took / here for took, here in zip(column, jit)]
+        means = mean(ratios[:PROSE]), mean(ratios[PROSE:])
+        print("    geometric means: interpreter by %s to JIT in the box %.1f (prose), %.1f (dna)" % (title, *means))
 
 
 def print_table(best, web):

@@ -78,6 +78,6 @@ class Tree:
 
     def build(self, unit):
         """The unit in a box."""
-        own, library = objects(unit, self.name, self.compiler())
-        elf = self.linked([*own, *library], os.path.join(unit.folder, self.name + ".elf"))
+        own, library = objects(unit, "tree-" + self.name, self.compiler())
+        elf = self.linked([*own, *library], os.path.join(unit.folder, "tree-" + self.name + ".elf"))
         return Built([self.made("host")], [elf], code_size(library), code_size([elf]))

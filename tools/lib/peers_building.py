@@ -3,12 +3,15 @@
 import glob
 import os
 import shutil
+import sys
 
 from examples import TOP
 from installing import ARCHIVE, SOURCES
 from peers_table import PEERS
 from peers_ways import NATIVE, SOURCES as OWN, Unit, native, web
 from porting import archives_of, done
+
+sys.path.append(os.path.join(TOP, "compiler", "runtime"))
 from making import unpack
 
 MUSL_SUM = "7d5b0b6062521e4627e099e4c9dc8248d32a30285e959b7eecaa780cf8cfd4a4"

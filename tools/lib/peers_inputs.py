@@ -66,7 +66,7 @@ def statement(draw, words, first, second):
         "    %s = %s_%s(%s, %d);\n" % (first, name, draw.often(words), second, draw.below(100)),
         "    if (%s->%s != %s) {\n        return %d;\n    }\n" % (first, name, second, draw.below(10)),
         "    box_%s_%s(%s, \"%s\\n\");\n" % (name, draw.pick(("text", "blob", "int", "value")), first, sentence(draw, words, 3)),
-        "    for (%s = 0; %s < %d; %s++) {\n        %s += %s[%s];\n    }\n" % (second, second, draw.below(1000), second, first, name, second)))
+        "    while (%s < %d) {\n        %s += %s[%s++];\n    }\n" % (second, draw.below(1000), first, name, second)))
 
 
 def function(draw, words):

@@ -56,7 +56,7 @@ def measured(name, built, folder, passes):
 
 def mean(ratios):
     """The geometric mean."""
-    return math.exp(sum(map(math.log, ratios)) / len(ratios)) if ratios else math.nan
+    return math.exp(sum(map(math.log, ratios)) / len(ratios))
 
 
 def print_row(title, cells):
@@ -70,34 +70,30 @@ def row_title(name, k):
 
 
 class Times:
-    """The table of times: milliseconds natively, ratios to them by the other ways, and of two trees to the first one."""
+    """The table of times: milliseconds natively, their ratios to these by the other ways, and those of other checkouts to this one."""
 
     def __init__(self, ways, trees):
         self.ways, self.trees = ways, trees
-        self.columns = [*ways[1:], *(tree + "/" for tree in trees[1:])]
-        self.ratios = {column: [] for column in self.columns}
+        self.rows, self.plain = [], []  # of ratios; the second ones with hardly any floats
 
     def print_head(self):
         heads = [HEADS.get(way, (BOX, way)) for way in self.ways]
-        print_row("", [head for head, _ in heads] + list(self.trees[1:]))
-        print_row("", [head for _, head in heads] + ["/ " + self.trees[0]] * (len(self.trees) - 1))
+        print_row("", [head for head, _ in heads] + self.trees[1:])
+        print_row("", [head for _, head in heads] + ["/ " + BOX] * len(self.trees[1:]))
 
     def add(self, name, best):
         """Prints the rows of a library."""
         for k, operation in enumerate(PEERS[name].operations):
             least = {way: times[k] for way, times in best.items()}
-            row = {way: least[way] / least[BASE] for way in self.ways[1:] if way in least}
-            row.update({tree + "/": least[tree] / least[self.trees[0]] for tree in self.trees[1:]})
-            for column, ratio in row.items():
-                self.ratios[column].append((operation.floats, ratio))
-            print_row(row_title(name, k), ["%.2f ms" % least[BASE], *("%.2f" % row[way] if way in row else "-" for way in self.columns)])
+            row = [least[way] / least[BASE] for way in self.ways[1:]] + [least[tree] / least[BOX] for tree in self.trees[1:]]
+            self.rows.append(row)
+            self.plain += [] if operation.floats else [row]
+            print_row(row_title(name, k), ["%.2f ms" % least[BASE], *("%.2f" % ratio for ratio in row)])
 
     def print_means(self):
         """The geometric means of all rows, and of those with hardly any floats."""
-        for title, takes in (("geometric mean of %d", lambda floats: True), ("of %d with hardly any floats", lambda floats: not floats)):
-            taken = {column: [ratio for floats, ratio in pairs if takes(floats)] for column, pairs in self.ratios.items()}
-            count = max(map(len, taken.values()), default=0)
-            print_row(title % count, ["", *("%.3f" % mean(taken[column]) for column in self.columns)])
+        for title, rows in (("geometric mean of %d", self.rows), ("of %d with hardly any floats", self.plain)):
+            print_row(title % len(rows), ["", *("%.3f" % mean(column) for column in zip(*rows))])
 
 
 def print_sizes(all_built):
@@ -107,4 +103,5 @@ def print_sizes(all_built):
     boxes = [way for way in ways if way not in HEADS or way == BOX]
     print_row("bytes of code", [{"guard": "wasm2c", NODE: ".wasm"}.get(way, way) for way in ways] + [way + " file" for way in boxes])
     for name, built in all_built.items():
-        print_row("%s %s" % (PEERS[name].title, PEERS[name].version()), [built[way].size for way in ways] + [built[way].whole for way in boxes])
+        title = "%s %s" % (PEERS[name].title, PEERS[name].version())
+        print_row(title, [built[way].size for way in ways] + [built[way].whole for way in boxes])

@@ -12,9 +12,10 @@ HOST = [os.path.join(SOURCES, name) for name in ("host.c", "shared.c")]
 BASE = "x86-64"
 NATIVE = {BASE: ["gcc", "-O2"], "i386": ["gcc", "-m32", "-O2", "-msse2", "-mfpmath=sse", "-fno-pie", "-no-pie"]}
 
-WASM = ["clang", "--target=wasm32-wasi", "-O2", "-mbulk-memory", "-msign-ext", "-ftls-model=local-exec", "-isystem", os.path.join(SOURCES, "wasm")]
+WASM = ["clang", "--target=wasm32-wasi", "-O2", "-mbulk-memory", "-msign-ext", "-ftls-model=local-exec",
+        "-D_WASI_EMULATED_GETPID", "-D_WASI_EMULATED_PROCESS_CLOCKS", "-isystem", os.path.join(SOURCES, "wasm")]
 SYSTEM = os.path.join(SOURCES, "wasm", "system.c")
-LINKED = ["-mexec-model=reactor", "-Wl,-z,stack-size=1048576"]
+LINKED = ["-mexec-model=reactor", "-Wl,-z,stack-size=1048576", "-lwasi-emulated-getpid", "-lwasi-emulated-process-clocks"]
 WABT = "/usr/share/wabt/wasm2c"
 # The flags that wabt names for gcc, and those of each way: with guard pages, which is wasm2c's own, and with bounds checks.
 OF_WABT = ["gcc", "-O2", "-w", "-fno-optimize-sibling-calls", "-frounding-math", "-fsignaling-nans", "-I" + WABT]
@@ -68,7 +69,7 @@ def native(unit, way):
 
 def wasm_made(words, path, folder):
     """Links a module of WebAssembly, whose system is wasm/system.c."""
-    done([*WASM, *LINKED, SYSTEM, *words, "-o", path], folder)
+    done([*WASM, SYSTEM, *words, *LINKED, "-o", path], folder)
     return path
 
 

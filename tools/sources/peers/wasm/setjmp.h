@@ -8,7 +8,11 @@ _Noreturn void abort(void);
 
 #define setjmp(buffer) ((void)(buffer), 0)
 #define _setjmp setjmp
-#define longjmp(buffer, value) ((void)(buffer), (void)(value), abort())
 #define _longjmp longjmp
+
+_Noreturn static inline void longjmp(jmp_buf buffer, int value) {
+    (void)buffer, (void)value;
+    abort();
+}
 
 #endif
