@@ -17,6 +17,7 @@ WASM = ["clang", "--target=wasm32-wasi", "-O2", "-mbulk-memory", "-msign-ext", "
 SYSTEM = os.path.join(SOURCES, "wasm", "system.c")
 LINKED = ["-mexec-model=reactor", "-Wl,-z,stack-size=1048576", "-lwasi-emulated-getpid", "-lwasi-emulated-process-clocks"]
 WABT = "/usr/share/wabt/wasm2c"
+WABT_VERSION = "1.0.32"  # of Debian 12; others name otherwise what they make
 # The flags that wabt names for gcc, and those of each way: with guard pages, which is wasm2c's own, and with bounds checks.
 OF_WABT = ["gcc", "-O2", "-w", "-fno-optimize-sibling-calls", "-frounding-math", "-fsignaling-nans", "-I" + WABT]
 WASM2C = {"guard": [], "bounds": ["-DWASM_RT_MEMCHECK_SIGNAL_HANDLER=0", "-DWASM_RT_MAX_CALL_STACK_DEPTH=100000"]}
@@ -98,6 +99,11 @@ def web(unit, ways):
     return built
 
 
+def has_wasm2c(folder):
+    """Whether wasm2c is there, in the version whose names wasm2c.c has."""
+    return shutil.which("wasm2c") is not None and os.path.isdir(WABT) and done(["wasm2c", "--version"], folder).strip() == WABT_VERSION
+
+
 def web_ways(what, folder):
     """Those of the ways that can be gone here. A line tells what the others lack."""
     try:
@@ -106,10 +112,10 @@ def web_ways(what, folder):
         print("skipped: %s by wasm2c and in Node.js: %s" % (what, NO_WASM))
         return []
     ways = []
-    if shutil.which("wasm2c") and os.path.isdir(WABT):
+    if has_wasm2c(folder):
         ways += WASM2C
     else:
-        print("skipped: %s by wasm2c: Debian's package wabt has it" % what)
+        print("skipped: %s by wasm2c: it isn't there in version %s, which is in Debian's package wabt" % (what, WABT_VERSION))
     if shutil.which("node"):
         ways.append(NODE)
     else:
