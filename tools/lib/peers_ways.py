@@ -92,10 +92,12 @@ def web(unit, ways):
         return {}
     own, library = objects(unit, "wasm", WASM)
     module = wasm_made([*own, *library], os.path.join(unit.folder, "unit.wasm"), unit.folder)
-    built = {NODE: Built(["node", os.path.join(SOURCES, "node.mjs")], [module], os.path.getsize(module))} if NODE in ways else {}
+    built = {}
     for way in [way for way in ways if way in WASM2C]:
         program, code = wasm2c_made(module, way, [*HOST, os.path.join(SOURCES, "wasm2c.c")], unit.folder)
         built[way] = Built([program], [], code_size([code]))
+    if NODE in ways:
+        built[NODE] = Built(["node", os.path.join(SOURCES, "node.mjs")], [module], os.path.getsize(module))
     return built
 
 
