@@ -2,6 +2,7 @@
 
 import re
 
+from .flags import check_flags
 from .listing import Listing
 from .notes import ONLY_PADDING, OWN_NOPS, noted
 from .registers import REGISTERS, is_set_before, parts_in, takes_up_state
@@ -197,4 +198,5 @@ def rewritten(text, keep_returns=False):
     """The text in bundles. A Refusal says what isn't kept, and on which line."""
     listing = Listing(statements_of(text))
     listing.check()
+    check_flags(listing)
     return Bundler(listing, keep_returns).write()

@@ -1,12 +1,12 @@
 """A compiler's driver for the sandbox: its command line, the tools beneath it, and what it answers by itself."""
 
 from .faults import Fault
-from .flags import NO_TABLES, flags_for
+from .flags import NO_TABLES, flags_for, retries
 from .headers import own_headers, template_flags
 from .line import Line
 from .questions import answer
 from .responses import shortened
 from .tools import ABOVE, LED_BACK, ended, tool
 
-__all__ = ["ABOVE", "LED_BACK", "NO_TABLES", "Fault", "Line", "answer", "ended", "flags_for", "own_headers", "shortened", "template_flags",
-           "tool"]
+__all__ = ["ABOVE", "LED_BACK", "NO_TABLES", "Fault", "Line", "answer", "ended", "flags_for", "own_headers", "retries", "shortened",
+           "template_flags", "tool"]

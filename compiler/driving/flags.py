@@ -5,7 +5,8 @@ from .tools import is_clang
 FREESTANDING = "-ffreestanding"
 DEFAULTS = ["-fno-pic", "-fno-pie", "-fno-asynchronous-unwind-tables"]
 DEFAULTS_GCC = ["-mtune=generic"]  # clang's code is larger with it, by up to a sixth, and no faster
-NO_TABLES = "-fno-jump-tables"
+# With the first gcc compares anew at the cases of a switch what it compared once before the jump, whose mask changes the flags.
+NO_TABLES, RETRIES_GCC = "-fno-jump-tables", ["-fno-gcse"]
 DEFAULTS_CXX = ["-fno-exceptions", "-fno-rtti", "-fno-threadsafe-statics", "-fno-use-cxa-atexit"]
 # Conventions by which a return keeps %ecx, or has a part of the result there. A rewritten return goes by %ecx, so functions have the usual
 # convention instead. The attribute that stands for theirs does nothing.
@@ -18,6 +19,11 @@ NEEDED_GCC = ["-mno-80387", "-msoft-float", "-fno-ipa-ra", "-mindirect-branch-re
 FEATURES = ["+retpoline-indirect-calls", "+retpoline-external-thunk"]
 NEEDED_CLANG = ["-m80387", "-Xclang", "-msoft-float", *(word for name in FEATURES for word in ("-Xclang", "-target-feature", "-Xclang", name)),
                 "-Qunused-arguments"]
+
+
+def retries():
+    """The flags with which a source is compiled again, one after the other, while nc-bundle can't keep a jump."""
+    return [*([] if is_clang() else RETRIES_GCC), NO_TABLES]
 
 
 def flags_for(language, given=(), is_hosted=False):

@@ -22,7 +22,7 @@ FORMS = [
     ("its index is read", "movl (%eax), %eax\n\tret", "", jump_by("%ecx")),
     ("a part of its index is read", "movb $1, %al\n\tmovl %eax, %ecx\n\tret", "", jump_by("%ecx")),
     ("a return has its index", "ret", "", jump_by("%ecx")),
-    ("a path reads it", "je 1f\n\tmovl $1, %eax\n\tret\n1:\tincl %eax\n\tret", "", jump_by("%ecx")),
+    ("a path reads it", "testl %ebx, %ebx\n\tje 1f\n\tmovl $1, %eax\n\tret\n1:\tincl %eax\n\tret", "", jump_by("%ecx")),
     ("a round leads to the jump again", "movl $1, %ecx\n\tjmp f", "", jump_by("%ecx")),
     ("the next byte is read by it", "cltd\n\tret", "", jump_by("%ecx")),
     ("a count is read", "rep stosl\n\tpopl %ebx\n\tret", "", jump_by("%ebx")),
@@ -37,9 +37,11 @@ FORMS = [
     ("a shift of two words", "shldl %eax, %edx\n\tpopl %ebx\n\tret", "", jump_by("%ebx")),
     ("a jump outside", "jmp g", "", SAVING),
     ("a jump by a pointer", "movl $g, %eax\n\tjmp *%eax", "", jump_by("%eax")),
-    ("an instruction that isn't known", "pushfl\n\tud2", "", SAVING),
+    ("an instruction that isn't known", "xlat\n\tud2", "", SAVING),
     ("a place before its label", "call g\n\tret", "", "\t.bundle_unlock\n" + RESTORING + ".L5:\n\t.skip"),
     ("a place elsewhere, since control comes to its label", "nop\n.L5:\tcall g\n\tret", "", RESTORING + "\tjmp .L5\n"),
+    ("flags but the carry are written before they are read", "incl %eax\n\tje g\n\tret", "", "\tjmp *%ecx\n"),
+    ("all flags are written before they are read", "shll $2, %eax\n\tjbe g\n\tret", "", "\tjmp *%ecx\n"),
     ("a name behind it", "movl $1, %eax\n\tret", TABLE.replace("L4", "L6") + "\t.weak h\n\t.set h, f\n\t.text\n", jump_by("%eax")),
 ]
 
@@ -55,10 +57,10 @@ ONCE, AGAIN = " -S -x c it.c ", " -fno-jump-tables -S -x c it.c "
 REFUSED = "nc-cc: it.c: assembly text, line "
 # A name, words for nc-cc, its status, how often it compiles, and a part of what it says. What it shows has to work in a shell.
 LINES = [
-    ("a table that is refused", [], 0, 2, AGAIN),
-    ("tables that are asked for", ["-fjump-tables"], 0, 2, AGAIN),
+    ("a table that is refused", [], 0, 3, AGAIN),
+    ("tables that are asked for", ["-fjump-tables"], 0, 3, AGAIN),
     ("no tables", ["-fno-jump-tables"], 0, 1, ONCE),
-    ("a jump by hand", ["-DBY_HAND"], 1, 2, REFUSED),
+    ("a jump by hand", ["-DBY_HAND"], 1, 3, REFUSED),
     ("a jump by hand, no tables", ["-fno-jump-tables", "-DBY_HAND"], 1, 1, REFUSED),
 ]
 
