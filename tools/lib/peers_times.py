@@ -97,11 +97,11 @@ class Times:
 
 
 def print_sizes(all_built):
-    """The bytes of code, by library and way: of the library's objects, and of a box's file with the C library; of what wasm2c made of a
-    module, and of the module's file."""
+    """The bytes of code, by library and way: of the library's objects; of what wasm2c made of a module, and of the module's file; and last of
+    each box's file, with the C library."""
     ways = [way for way in next(iter(all_built.values())) if way != "bounds"]
     boxes = [way for way in ways if way not in HEADS or way == BOX]
-    print_row("bytes of code", [{"guard": "wasm2c", NODE: ".wasm"}.get(way, way) for way in ways] + [way + " file" for way in boxes])
+    print_row("bytes of code", [{"guard": "wasm2c", NODE: ".wasm"}.get(way, way) for way in ways] + ["file"] * len(boxes))
     for name, built in all_built.items():
         title = "%s %s" % (PEERS[name].title, PEERS[name].version())
         print_row(title, [built[way].size for way in ways] + [built[way].whole for way in boxes])
