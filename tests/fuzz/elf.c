@@ -56,7 +56,7 @@ static void try_data(const Image *image) {
     uint8_t *memory = calloc(1, image->data_end);
     size_t k;
     MUST(memory != NULL);
-    ncs_elf_copy_data(image, memory);
+    ncs_elf_copy_data(image, (uintptr_t)memory);
     for (k = 0; k < reader.segment_count; k++) {
         const NcSegment *s = &reader.segments[k];
         if (s->address != reader.code.address) {
