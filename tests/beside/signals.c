@@ -153,7 +153,7 @@ static int loop_in_child(void) {
     return (int)asides_call(box, LOOPS, 0).how;
 }
 
-/* Ticks that anybody sends take no time. */
+/* Ticks that anybody sends take no time. The thread has handled them before its box is killed. */
 static void try_forged_ticks(void) {
     Aside a = {.box = asides_box(module, 2000), .function = COUNTS};
     siginfo_t info;
@@ -164,7 +164,7 @@ static void try_forged_ticks(void) {
     for (k = 0; k < 2000; k++) {
         CHECK(k % 2 != 0 ? pthread_kill(a.thread, TICK_SIGNAL) == 0 : syscall(SYS_rt_sigqueueinfo, getpid(), TICK_SIGNAL, &info) == 0);
     }
-    CHECK(asides_end(&a).how == NCS_KILLED && ncs_free(a.box));
+    CHECK(usleep(50000) == 0 && asides_end(&a).how == NCS_KILLED && ncs_free(a.box));
     puts("ticks that aren't the timer's");
 }
 
