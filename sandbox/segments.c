@@ -194,8 +194,8 @@ static uint32_t pages_below; /* bytes from address 0 on that nobody else has or 
 /* Whether nobody else can get this page. The system gives the lowest ones to nobody (vm.mmap_min_addr). By the system call itself, since
    ThreadSanitizer's mmap ends a process that has the page 0. */
 static int take_page(uint32_t at) {
-    long got = syscall(SYS_mmap, at, PAGE, PROT_NONE, HERE_ONLY, -1, 0);
-    if (got != -1 && got != (long)at) {
+    long got = syscall(SYS_mmap, (long)at, (long)PAGE, (long)PROT_NONE, (long)HERE_ONLY, -1l, 0l);
+    if (got != -1 && got != (long)at) { /* a kernel that doesn't know MAP_FIXED_NOREPLACE */
         (void)munmap((void *)got, PAGE);
         return 0;
     }
