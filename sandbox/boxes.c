@@ -44,7 +44,8 @@ static const char *judge_limits(const NcsModule *m, const NcsLimits *limits) {
     return limits->milliseconds == 0 ? "there is no time for a call" : NULL;
 }
 
-/* At base 0 if it is the only one there. Nothing from 00010000 on is read-only, so no address that ncs_box_has accepts makes the host fault. */
+/* At base 0, unless another box or the host is there. Nothing from 00010000 on is read-only, so no address that ncs_box_has accepts makes
+   the host fault. */
 static int map_memory(NcsBox *b) {
     Memory *memory = b->memory;
     uint32_t len = b->limits.memory;

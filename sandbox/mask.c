@@ -34,8 +34,8 @@ void ncs_mask_set(uint64_t mask) {
     ncs_must(set_mask(&mask, NULL), "a thread can't have its mask");
 }
 
-/* One instruction, so no handler comes between. It isn't locked, since only this thread and its handlers write the selector. Whether the mask
-   has stayed on until now. No handler takes it back any more. */
+/* One instruction, so no handler comes between. It isn't locked, since only this thread and its handlers write the selector. Whether the
+   mask has stayed on until now. No handler takes it back any more. */
 static int claim(Mask *m) {
     uint8_t was = CALLS_DISPATCHED, now = CALLS_ALLOWED;
     __asm__ volatile("cmpxchgb %2, %1" : "+a"(was), "+m"(m->selector) : "q"(now) : "memory", "cc");

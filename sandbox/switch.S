@@ -3,8 +3,8 @@
         .globl ncs_switch_in, ncs_switch_out, ncs_switch_landing, ncs_handler
         .hidden ncs_switch_in, ncs_switch_out, ncs_switch_landing, ncs_handler
 # void ncs_switch_in(Thread *). It returns when the thread has come out. A far jump costs less than half of iretq. It doesn't serialize, and
-# leaves the flags as they are. Those that a host may have, and code must not, are looked at, since popfq costs more. The others are those of
-# the comparison.
+# leaves the flags as they are. Those that code must not have are cleared only where the host has one, since popfq costs more than a look.
+# The others are those of the comparison.
         .set    UNFIT, 0x44500          # alignment checks, a nested task, the direction, single steps
         .type ncs_switch_in, @function
 ncs_switch_in:
@@ -67,8 +67,8 @@ ncs_switch_landing:
         mov     %esi, 24(%r8)
         mov     %edi, 28(%r8)
         mov     %ecx, 48(%r8)
-# From there, or from a handler's frame, with the Thread in R8. DS and ES may keep the box's selector, which 64-bit code doesn't use: each way
-# in loads its own, and the system loads 0 where the segment is gone.
+# From there, or from a handler's frame, with the Thread in R8. DS and ES may keep the box's selector, which 64-bit code doesn't use. Each
+# way in loads its own, and the system loads 0 where the segment is gone.
 ncs_switch_out:
         cld
         mov     $0x2B, %eax

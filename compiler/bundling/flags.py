@@ -1,5 +1,7 @@
-"""Labels that need the processor's flags: gcc merges comparisons at the heads of a table's cases to one before the jump, whose mask changes the
-flags."""
+"""Labels that need the processor's flags.
+
+gcc merges comparisons at the heads of a table's cases to one before the jump, whose mask changes the flags.
+"""
 
 import re
 
@@ -69,5 +71,5 @@ def check_flags(listing):
     for label in listing.pointed:
         if label not in listing.functions and needs_flags(listing, label):
             listing.statements[listing.labels[label]].refuse(
-                "a jump by a table or a pointer leads here, whose mask changes the flags that are read here: compile with -fno-gcse (gcc), or with "
-                "-fno-jump-tables (a switch)", JumpRefusal)
+                "a jump by a table or a pointer leads here, whose mask changes the flags that are read here: compile with -fno-gcse (gcc), "
+                "or with -fno-jump-tables (a switch)", JumpRefusal)

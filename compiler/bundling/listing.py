@@ -126,8 +126,8 @@ class Listing:
                 yield from (self.named_once(name) for name in symbols(statement.operands.split(",")[0]) if name in self.labels)
 
     def begins_bundle(self, name, replaced):
-        """Whether a pointer may hold this label's address, so that it has to be a bundle start. In the statements of `replaced` other labels
-        stand for it."""
+        """Whether a pointer may hold this label's address, so that it has to be a bundle start. In the statements of `replaced` other
+        labels stand for it."""
         return name in self.functions or any(index not in replaced for index in self.pointed.get(name, ()))
 
     def starts_of_functions(self):

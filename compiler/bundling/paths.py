@@ -17,7 +17,8 @@ class Paths:
         return [self.listing.labels[label] for label in self.labels_of(index, statement)] or [None]
 
     def following(self, index, statement, register):
-        """The places to which control goes from an instruction with the register as it is. A call comes back only with those that it keeps."""
+        """The places to which control goes from an instruction with the register as it is. A call comes back only with those that it
+        keeps."""
         is_call = statement.word.startswith("call") and OWN_ADDRESS not in statement.operands
         takes_along = is_call and register in FOR_CALLS
         if takes_along or statement.word.startswith(("j", "loop")):

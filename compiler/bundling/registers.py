@@ -28,8 +28,8 @@ CONSTANTS = {("or", "$-1"), ("orl", "$-1"), ("and", "$0"), ("andl", "$0")}
 READ_ONLY = re.compile(r"(?:cmp|test|push|mul|i?div|bt)[bwl]?$")
 # Instructions that use no register but those that they name; beside them, those that do, with what they read and write without naming it.
 # Any other one may read all.
-PLAIN = re.compile(r"(?:mov[bwl]?|mov[sz](?:bl|bw|wl)|lea[lw]?|(?:add|sub|adc|sbb|and|or|xor|not|neg|inc|dec|cmp|test|push|pop|sh[lr]|sa[lr]|ro[lr]"
-                   r"|rc[lr]|bt[src]?|bs[fr]|bswap|xchg|xadd|imul|nop)[bwl]?|(?:set|cmov|j)[a-z]+|calll?|ud2|hlt|pause)$")
+PLAIN = re.compile(r"(?:mov[bwl]?|mov[sz](?:bl|bw|wl)|lea[lw]?|(?:add|sub|adc|sbb|and|or|xor|not|neg|inc|dec|cmp|test|push|pop"
+                   r"|sh[lr]|sa[lr]|ro[lr]|rc[lr]|bt[src]?|bs[fr]|bswap|xchg|xadd|imul|nop)[bwl]?|(?:set|cmov|j)[a-z]+|calll?|ud2|hlt|pause)$")
 UNNAMED = [
     (re.compile(r"mull$"), {"%eax"}, {"%edx"}),
     (re.compile(r"mul[bw]?$|c[bw]t[wl]$|cwtd$|cmpxchg[bwl]?$"), {"%eax"}, set()),

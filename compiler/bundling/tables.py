@@ -40,9 +40,9 @@ def constant_tables(listing):
 
 
 class Tables:
-    """`by_jumps` has the labels of those tables that nothing else reads than jumps through memory, by the table's name. Such a jump loads its
-    target into a register whose value none of the labels needs. Where there is none, it saves %ecx, and the table's statements, which are
-    `padded`, have labels instead that restore it."""
+    """`by_jumps` has the labels of those tables that nothing else reads than jumps through memory, by the table's name. Such a jump loads
+    its target into a register whose value none of the labels needs. Where there is none, it saves %ecx, and the table's statements, which
+    are `padded`, have labels instead that restore it."""
 
     def __init__(self, listing):
         self.listing = listing

@@ -36,8 +36,8 @@ static int is_first(const NcsBox *box) {
 
 static const struct {
     uint32_t at, trap;
-} ACCESSES[] = {{0, 14}, {4, 14}, {0xFFC, 14}, {0x1000, 14}, {0xFFFC, 14}, {0x10000, 0}, {DATA_AT + 16, 0}, {MEMORY - 4, 0}, {MEMORY - 3, 13},
-                {MEMORY, 13}, {0x400000, 13}, {0x20000000, 13}, {0x7FFFFFFC, 13}, {0xFFFFFFFC, 13}};
+} ACCESSES[] = {{0, 14}, {4, 14}, {0xFFC, 14}, {0x1000, 14}, {0xFFFC, 14}, {0x10000, 0}, {DATA_AT + 16, 0}, {MEMORY - 4, 0},
+                {MEMORY - 3, 13}, {MEMORY, 13}, {0x400000, 13}, {0x20000000, 13}, {0x7FFFFFFC, 13}, {0xFFFFFFFC, 13}};
 
 static void try_accesses(NcsBox *box, const char *name) {
     unsigned k;

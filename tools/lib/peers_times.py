@@ -97,8 +97,8 @@ class Times:
 
 
 def print_sizes(all_built):
-    """The bytes of code, by library and way: of the library's objects; of what wasm2c made of a module, and of the module's file; and last of
-    each box's file, with the C library."""
+    """The bytes of code, by library and way: of the library's objects; of what wasm2c made of a module, and of the module's file; and last
+    of each box's file, with the C library."""
     ways = [way for way in next(iter(all_built.values())) if way != "bounds"]
     boxes = [way for way in ways if way not in HEADS or way == BOX]
     print_row("bytes of code", [{"guard": "wasm2c", NODE: ".wasm"}.get(way, way) for way in ways] + ["file"] * len(boxes))

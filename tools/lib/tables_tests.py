@@ -73,7 +73,8 @@ def text_of(there, others):
 
 def wrong_form(name, there, others, part):
     """What is wrong with a form, or nothing."""
-    done = subprocess.run([sys.executable, os.path.join(COMPILE, "nc-bundle")], input=text_of(there, others), capture_output=True, text=True)
+    words = [sys.executable, os.path.join(COMPILE, "nc-bundle")]
+    done = subprocess.run(words, input=text_of(there, others), capture_output=True, text=True)
     return "" if part in done.stdout else f"table, {name}: {done.stdout or done.stderr!r} without {part!r}"
 
 

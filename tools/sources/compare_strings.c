@@ -170,7 +170,8 @@ static void try_memset(int which, u8 *at, int byte, size_t len) {
 
 static void each_memcpy(int which) {
     for (size_t len = 0; len <= LARGEST; len = next_size(len))
-        for (unsigned k = 0; k < PLACES * PLACES; k++) try_memcpy(which, place(which, k % PLACES, len), place(!which, k / PLACES, len), len);
+        for (unsigned k = 0; k < PLACES * PLACES; k++)
+            try_memcpy(which, place(which, k % PLACES, len), place(!which, k / PLACES, len), len);
 }
 
 /* At all distances at which the bytes overlap, and at some more: the upper of the two at each place. */

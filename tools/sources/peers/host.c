@@ -1,5 +1,5 @@
-/* Runs a unit: HOST INPUT ROUNDS OPERATIONS [UNIT]. For each operation it prints the least milliseconds of the processor and, in hexadecimal,
-   the sum over what was made, which no clock counts. */
+/* Runs a unit: HOST INPUT ROUNDS OPERATIONS [UNIT]. For each operation it prints the least milliseconds of the processor and, in
+   hexadecimal, the sum over what was made, which no clock counts. */
 #include "host.h"
 
 #include <stdio.h>

@@ -15,7 +15,8 @@ static void encode(void) {
     unsigned char *to = packets;
     uint32_t k;
     need(encoder != NULL);
-    need(opus_encoder_ctl(encoder, OPUS_SET_BITRATE(BITS)) == OPUS_OK && opus_encoder_ctl(encoder, OPUS_SET_COMPLEXITY(COMPLEXITY)) == OPUS_OK);
+    need(opus_encoder_ctl(encoder, OPUS_SET_BITRATE(BITS)) == OPUS_OK);
+    need(opus_encoder_ctl(encoder, OPUS_SET_COMPLEXITY(COMPLEXITY)) == OPUS_OK);
     for (k = 0; k < frames; k++) {
         packet_lens[k] = opus_encode(encoder, (const opus_int16 *)in + k * FRAME * CHANNELS, FRAME, to, PACKET_MAX);
         need(packet_lens[k] > 0);

@@ -1,4 +1,5 @@
-/* The calls of WASI that the C library makes. There are no files and no clock, and no words in the environment, so a module imports nothing. */
+/* The calls of WASI that the C library makes. There are no files and no clock, and no words in the
+   environment, so a module imports nothing. */
 #include <stdint.h>
 
 #pragma clang diagnostic ignored "-Wunused-parameter" /* nothing looks at what is given */
