@@ -44,27 +44,47 @@ static const char *judge_limits(const NcsModule *m, const NcsLimits *limits) {
     return limits->milliseconds == 0 ? "there is no time for a call" : NULL;
 }
 
-/* At base 0, unless another box or the host is there. Nothing from 00010000 on is read-only, so no address that ncs_box_has accepts makes
-   the host fault. */
-static int map_memory(NcsBox *b) {
+/* Memory and a segment for it, at base 0 or elsewhere. Whether it has both. Nothing from 00010000 on is read-only, so no address that
+   ncs_box_has accepts makes the host fault. */
+static int take_memory(NcsBox *b, int at_base_zero) {
     Memory *memory = b->memory;
     uint32_t len = b->limits.memory;
-    int mapped;
     (void)pthread_mutex_lock(&ncs_lock);
-    memory->is_base_zero = ncs_base_zero_new(len);
-    memory->at = b->data_at = memory->is_base_zero ? 0 : ncs_low_new(len, PROT_NONE, -1);
+    memory->is_base_zero = at_base_zero && ncs_base_zero_new(len);
+    memory->at = b->data_at = at_base_zero ? 0 : ncs_low_new(len, PROT_NONE, -1);
     memory->selector = memory->is_base_zero || memory->at != 0 ? ncs_segment_data(memory->at, len) : 0;
     (void)pthread_mutex_unlock(&ncs_lock);
-    mapped = memory->selector != 0;
-    return mapped && mprotect(ncs_box_data(b, DATA_LEAST), len - DATA_LEAST, PROT_READ | PROT_WRITE) == 0;
+    return memory->selector != 0 && mprotect(ncs_box_data(b, DATA_LEAST), len - DATA_LEAST, PROT_READ | PROT_WRITE) == 0;
 }
 
-static void unmap_memory(const Memory *memory, uint32_t len) {
+static void give_memory_back(Memory *memory, uint32_t len) {
+    (void)pthread_mutex_lock(&ncs_lock);
+    ncs_segment_free(memory->selector);
+    (void)pthread_mutex_unlock(&ncs_lock);
+    memory->selector = 0;
     if (memory->is_base_zero) {
         ncs_base_zero_free(len);
     } else {
         ncs_low_free(memory->at, len);
     }
+    memory->is_base_zero = 0;
+}
+
+static int close_base_zero(void) {
+    int is_closed;
+    (void)pthread_mutex_lock(&ncs_lock);
+    is_closed = ncs_base_zero_close();
+    (void)pthread_mutex_unlock(&ncs_lock);
+    return is_closed;
+}
+
+/* At base 0, unless another box or the host is there. */
+static int map_memory(NcsBox *b) {
+    if (take_memory(b, 1) && close_base_zero()) {
+        return 1;
+    }
+    give_memory_back(b->memory, b->limits.memory);
+    return take_memory(b, 0);
 }
 
 /* A reset that is under way has this box too. */
@@ -160,12 +180,10 @@ static int leave(NcsBox *b) {
     if (!made) {
         b->next = b->memory->boxes;
         b->memory->boxes = b;
-    } else if (was_last) {
-        ncs_segment_free(b->memory->selector);
     }
     (void)pthread_mutex_unlock(&ncs_lock);
     if (made && was_last) {
-        unmap_memory(b->memory, b->limits.memory);
+        give_memory_back(b->memory, b->limits.memory);
         free(b->memory);
     }
     return made;

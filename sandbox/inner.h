@@ -115,7 +115,8 @@ void ncs_low_free(uint32_t at, uint32_t len); /* never under a lock */
 int ncs_low_empty(uint32_t at, uint32_t len); /* whether its pages are as new; never under a lock */
 int ncs_low_keep(uint32_t at, uint32_t len); /* no child gets it */
 int ncs_low_seal(uint32_t at, uint32_t len); /* the same, and makes it executable, and no longer writable */
-int ncs_base_zero_new(uint32_t len); /* whether all below `len` is now the caller's, without access. Under ncs_lock */
+int ncs_base_zero_new(uint32_t len); /* whether all from DATA_LEAST up to `len` is the caller's now, without access. Under ncs_lock */
+int ncs_base_zero_close(void); /* whether nobody else has a page below DATA_LEAST, or gets one. If not, it takes none. Under ncs_lock */
 void ncs_base_zero_free(uint32_t len); /* never under a lock */
 
 /* ---- process.c and threads.c: what has to be there before anybody enters */

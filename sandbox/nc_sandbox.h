@@ -216,7 +216,9 @@ int ncs_free(NcsBox *box);
  *                         stack meanwhile, and the library's signals unblocked. A thread that it starts has the same mask.
  *   NCS_SIGNALS_PROMISED  They aren't blocked. The host promises that each handler of the process has SA_ONSTACK at any time, whoever
  *                         installs it, and that the thread keeps its alternate stack, and the library's signals unblocked. A handler then
- *                         finds the untrusted code's registers in its context. It follows none of them, and makes no call.
+ *                         finds the untrusted code's registers in its context. It follows none of them, and makes no call. The frame of
+ *                         one without SA_ONSTACK goes where the untrusted stack pointer leads. That ends the process or, as in a box at
+ *                         base 0, is the box's memory, where untrusted code can change the host's registers in it.
  *
  * A thread whose alternate stack is gone isn't let in under NCS_SIGNALS_BLOCKED. Under the other two a call is refused within 10 ms of
  * processor time, and the process ends at once if a signal comes before that.

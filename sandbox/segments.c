@@ -190,6 +190,7 @@ int ncs_low_seal(uint32_t at, uint32_t len) {
    without access by the first such box, and kept for the others. */
 
 static uint32_t pages_below; /* bytes from address 0 on that nobody else has or gets; under ncs_lock */
+static int has_others_below; /* somebody had a page there; under ncs_lock */
 
 /* Whether nobody else can get this page. The system gives the lowest ones to nobody (vm.mmap_min_addr). By the system call itself, since
    ThreadSanitizer's mmap ends a process that has the page 0. */
@@ -202,11 +203,26 @@ static int take_page(uint32_t at) {
     return got != -1 || ((errno == EPERM || errno == EACCES) && madvise((void *)(uintptr_t)at, PAGE, MADV_NORMAL) != 0 && errno == ENOMEM);
 }
 
+static void give_pages_back(void) {
+    while (pages_below != 0) {
+        pages_below -= PAGE;
+        (void)munmap((void *)(uintptr_t)pages_below, PAGE);
+    }
+}
+
 int ncs_base_zero_new(uint32_t len) {
+    return !has_others_below && len <= LOW_BEGIN && take_at(DATA_LEAST, len - DATA_LEAST, PROT_NONE, -1);
+}
+
+int ncs_base_zero_close(void) {
     while (pages_below < DATA_LEAST && take_page(pages_below)) {
         pages_below += PAGE;
     }
-    return pages_below == DATA_LEAST && len <= LOW_BEGIN && take_at(DATA_LEAST, len - DATA_LEAST, PROT_NONE, -1);
+    has_others_below = pages_below < DATA_LEAST;
+    if (has_others_below) {
+        give_pages_back();
+    }
+    return !has_others_below;
 }
 
 void ncs_base_zero_free(uint32_t len) {

@@ -4,10 +4,12 @@
 
 #include "../inner.h"
 
+#include <asm/ldt.h>
 #include <stdio.h>
 #include <stdlib.h>
 #include <string.h>
 #include <sys/mman.h>
+#include <sys/syscall.h>
 #include <sys/wait.h>
 #include <unistd.h>
 
@@ -130,11 +132,26 @@ static int has_base_zero_beside(uint32_t at) {
     return told | (is_first(box) ? IS_FIRST : 0) | (testing_wrong != 0 ? IS_WRONG : 0);
 }
 
-static int told_by_child(uint32_t at) {
+/* A box that gets no segment leaves everything below 4 GiB as it was. */
+static int is_refused_without_segments(uint32_t at) {
+    const NcsLimits limits = {.memory = MEMORY, .depth = 2, .milliseconds = 100};
+    struct user_desc d = {.limit = 1, .seg_32bit = 1, .useable = 1};
+    NcsRefusal why;
+    unsigned maps;
+    module = testing_module(LOADS);
+    for (d.entry_number = 0; d.entry_number < LDT_ENTRIES; d.entry_number++) {
+        (void)syscall(SYS_modify_ldt, 0x11, &d, sizeof d);
+    }
+    maps = testing_low_maps();
+    CHECK(ncs_box_new(module, &limits, &why) == NULL && why.kind == NCS_NO_MEMORY && testing_low_maps() == maps);
+    return (take(at) ? 0 : HAS_NO_PAGE) | (take(0x10000) ? 0 : IS_WRONG) | (testing_wrong != 0 ? IS_WRONG : 0);
+}
+
+static int told_by_child(int (*what)(uint32_t), uint32_t at) {
     int status = -1;
     pid_t child = fork();
     if (child == 0) {
-        _exit(has_base_zero_beside(at));
+        _exit(what(at));
     }
     CHECK(child > 0 && waitpid(child, &status, 0) == child && WIFEXITED(status));
     return WEXITSTATUS(status);
@@ -145,8 +162,9 @@ static void try_pages_below(void) {
     static const uint32_t pages[] = {0, 0x1000, 0xF000};
     unsigned k;
     for (k = 0; k < sizeof pages / sizeof *pages; k++) {
-        int told = told_by_child(pages[k]);
+        int told = told_by_child(has_base_zero_beside, pages[k]);
         CHECK(told == 0 || told == (IS_FIRST | HAS_NO_PAGE));
+        CHECK(told_by_child(is_refused_without_segments, pages[k]) == (told & HAS_NO_PAGE));
     }
     puts("pages below");
 }
@@ -154,7 +172,8 @@ static void try_pages_below(void) {
 /* A child gets base 0 only where the parent's memory isn't there. */
 static void try_child(void) {
     NcsBox *box = box_of(MEMORY);
-    CHECK(is_first(box) && told_by_child(ABOVE_ALL) == 0 && ncs_free(box) && told_by_child(ABOVE_ALL) == IS_FIRST);
+    CHECK(is_first(box) && told_by_child(has_base_zero_beside, ABOVE_ALL) == 0 && ncs_free(box));
+    CHECK(told_by_child(has_base_zero_beside, ABOVE_ALL) == IS_FIRST);
     puts("children");
 }
 

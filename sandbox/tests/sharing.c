@@ -1,4 +1,6 @@
 /* Boxes on the same memory: a thread compiles, two execute, one deletes; each box has a stack, limits and a kill of its own. */
+#define _GNU_SOURCE
+
 #include "codes.h"
 
 #include <pthread.h>
@@ -147,10 +149,10 @@ static void try_limits(void) {
 static int is_over;
 static uint32_t resets;
 
+/* It never yields, so that where processors are few it is mostly interrupted in a reset, and not between two. */
 static void *reset_often(void *box) {
     while (!__atomic_load_n(&is_over, __ATOMIC_SEQ_CST)) {
         __atomic_fetch_add(&resets, (uint32_t)ncs_reset(box), __ATOMIC_SEQ_CST);
-        (void)sched_yield();
     }
     return NULL;
 }
@@ -162,15 +164,21 @@ static int has_returned(NcsBox *box) {
     return end.how == NCS_RETURNED;
 }
 
-/* Boxes are made, called and freed beside one that another thread resets. */
+static unsigned processors(void) {
+    cpu_set_t set;
+    return sched_getaffinity(0, sizeof set, &set) == 0 ? (unsigned)CPU_COUNT(&set) : 1;
+}
+
+/* Boxes are made, called and freed beside one that another thread resets. On one processor they hardly ever meet a reset. */
 static void try_resets(void) {
     NcsBox *box = new_box(LONG);
+    const uint32_t met = processors() > 1 ? ROUNDS : 0;
     pthread_t thread;
     uint32_t returned = 0, k;
     if (pthread_create(&thread, NULL, reset_often, box) != 0) {
         abort();
     }
-    for (k = 0; k < ROUNDS || returned == 0 || __atomic_load_n(&resets, __ATOMIC_SEQ_CST) < ROUNDS; k++) {
+    for (k = 0; k < ROUNDS || returned == 0 || k - returned < met || __atomic_load_n(&resets, __ATOMIC_SEQ_CST) < ROUNDS; k++) {
         NcsBox *other = ncs_box_beside(box, (NcsAt){MEMORY_LEN}, 2, LONG, NULL);
         returned += (uint32_t)has_returned(other);
         CHECK(ncs_free(other));

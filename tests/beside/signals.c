@@ -447,9 +447,9 @@ static int fork_in_handler(void) {
     uint64_t before = mask_now();
     int status = -1;
     NcsEnd end;
-    one_box = asides_box(asides_module(), 500);
+    one_box = asides_box(asides_module(), 900);
     handle(SIGALRM, fork_here, 0, 0);
-    (void)ualarm(200000, 0);
+    (void)ualarm(700000, 0); /* the loop has begun by then, even on a busy machine */
     call_often(one_box, NCS_RETURNED); /* and no system call from here on */
     end = asides_call(one_box, LOOPS, 0);
     if (forked == 0) {
