@@ -111,6 +111,8 @@ pub(crate) fn next_fault(
     ensures within { result ≤ length judged.now.code.now }
     ensures faultless { (k : ℕ) → from ≤ k → k < result
         → fault_at judged.now.base judged.now.limit judged.now.code.now classes.now k ≡ None }
+    ensures fault { result < length judged.now.code.now
+        → ¬ (fault_at judged.now.base judged.now.limit judged.now.code.now classes.now result ≡ None) }
     ensures known { AreCandidates judged.now.code.now classes.now seen.new.at seen.new.bits }
 {
     let mut at = from;
