@@ -318,9 +318,9 @@ NcSegments nc_host_elf(const uint8_t *file, size_t file_len, NcSegment *segments
       Changes     A creation or a patch is a call of a history (LogsCall). A change writes its acts, serializations included, which are then
                   pending in the host's memory (ReportsPending). Once they are made, and a deletion has ended, the memory has the region's
                   bytes. `at` is 0, except for faults 4 to 7 [at]. A call that reads or writes runs never changes the region [same].
-      Buffers     A buffer is refused with NC_NO_ROOM if a change of this length can need a longer one. But with a length of 0 the change is
-                  made, and its acts aren't reported. That is for hosts without memory, or those that ask for runs. Begin a growing buffer
-                  above 0.
+      Buffers     A buffer is refused with NC_NO_ROOM if a change of this length can need a longer one. But with a length of 0 a creation or
+                  a deletion is made, and its acts aren't reported. That is for hosts without memory, or those that ask for runs. Begin a
+                  growing buffer above 0.
       Memory      nc_region_free, nc_vetted_free and nc_seat_leave free all that was allocated for the handle [tested]. Only the table of
                   stamps and check-ins, which a region shares with its seats, is freed with the last of them, in any order [tested]. */
 
@@ -356,11 +356,11 @@ void nc_vetted_free(NcVetted *vetted);
 NcChange nc_region_load(NcRegion *region, NcVetted *vetted, NcAct *acts, size_t acts_len);
 
 /* Replaces whole instructions of a chunk with others of the same lengths, with at most 3 * `len` acts. There are none if no instruction
-   differs. A patch has no runs.
-   Promised: the patch was lawful (IsPatch), and the region has its bytes (IsModified) [modified]. The acts are the patch's (log_of_modify)
-   [reported, pending, at].
-   Refused: NC_UNDER_WAY; NC_NO_ROOM, if `len` is at most 32 and a lent buffer shorter than 3 * `len`; 16 to 21 [refused, allowed,
-   unchanged, untouched]. */
+   differs. A patch has no runs, so it wants a buffer.
+   Promised: the patch was lawful (IsPatch), and the region has its bytes (IsModified) [modified]. A buffer was lent [lent]. It has the
+   patch's acts (log_of_modify) [reported, pending, at].
+   Refused: NC_UNDER_WAY; NC_NO_ROOM, if `len` is at most 32 and the buffer shorter than 3 * `len`, even of length 0; 16 to 21 [refused,
+   allowed, unchanged, untouched]. */
 NcChange nc_region_patch(NcRegion *region, uint32_t at, const uint8_t *bytes, size_t len, NcAct *acts, size_t acts_len);
 
 /* Begins a deletion, with two acts more than the chunk has bytes. The last is NC_BUMP, for which the host must call nc_region_end_delete

@@ -4,9 +4,9 @@
  *     costs COUNT BUNDLES ROUNDS [SEATS]
  *
  * A round makes a region with SEATS seats (default 1), creates COUNT chunks of BUNDLES bundles of ordinary code in it, patches and deletes
- * each of them, and reclaims all once each seat has checked in. Creations, patches and deletions are made with a buffer for their acts, and
- * without one. Creations and deletions are also made without one, and then their acts are written as runs. Other rows are a call that only
- * vets, the loading of vetted chunks, a check-in, and the making of a largest region. docs/PERFORMANCE.md has numbers.
+ * each of them, and reclaims all once each seat has checked in. Creations and deletions are made with a buffer for their acts, without one,
+ * and without one but with their acts as runs afterwards. A patch always has a buffer. Other rows are a call that only vets, the loading of
+ * vetted chunks, a check-in, and the making of a largest region. docs/PERFORMANCE.md has numbers.
  */
 #define _POSIX_C_SOURCE 199506L
 #include "nc_host.h"
@@ -16,15 +16,15 @@
 #include <string.h>
 #include <time.h>
 
-/* How a change tells its acts. A patch has none as runs. */
+/* How a creation or a deletion tells its acts. */
 enum { SILENT, ACTS, RUNS };
 
-/* What is timed; creations, patches and deletions in the order of the ways above. */
-enum { VET, CREATE, LOAD = CREATE + 3, PATCH, DELETE = PATCH + 2, RECLAIM = DELETE + 3, CHECK_IN, NEW, KINDS };
+/* What is timed; creations and deletions in the order of the ways above. */
+enum { VET, CREATE, LOAD = CREATE + 3, PATCH, DELETE, RECLAIM = DELETE + 3, CHECK_IN, NEW, KINDS };
 
 static const char *const names[KINDS] = {
-    "vet", "create", "create, with acts", "create, with runs", "load a vetted chunk", "patch", "patch, with acts", "delete",
-    "delete, with acts", "delete, with runs", "reclaim a chunk", "check in", "make a region of 64 MiB",
+    "vet", "create", "create, with acts", "create, with runs", "load a vetted chunk", "patch, with acts", "delete", "delete, with acts",
+    "delete, with runs", "reclaim a chunk", "check in", "make a region of 64 MiB",
 };
 
 /* Ordinary code with a branch and a masked jump in it, and the same with another number. */
@@ -78,9 +78,9 @@ static void patch_and_delete(int way) {
     patch[1]++;
     start = now();
     for (k = 0; k < count; k++) {
-        need(nc_region_patch(&region, base(k) + NUMBER_AT, patch, 5, buffer, places).fault == NC_OK);
+        need(nc_region_patch(&region, base(k) + NUMBER_AT, patch, 5, acts, room).fault == NC_OK);
     }
-    keep(way == ACTS ? PATCH + 1 : PATCH, start, count);
+    keep(PATCH, start, count);
     start = now();
     for (k = 0; k < count; k++) {
         need(nc_region_begin_delete(&region, base(k), buffer, places).fault == NC_OK);

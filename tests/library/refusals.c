@@ -111,7 +111,8 @@ static void tell(const char *what, uint32_t fault) {
 }
 
 static void patch(const char *what, uint32_t place, const char *bytes) {
-    tell(what, nc_region_patch(&region, base + place, BYTES(bytes), NULL, 0).fault);
+    NcAct acts[3 * NC_BUNDLE];
+    tell(what, nc_region_patch(&region, base + place, BYTES(bytes), acts, sizeof acts / sizeof *acts).fault);
 }
 
 static uint32_t patches(void) {

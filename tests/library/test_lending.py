@@ -38,7 +38,7 @@ LENT = [nc.CUT_SHORT, nc.BAD_LENGTH, nc.BAD_LENGTH, nc.NO_ROOM, nc.BAD_LENGTH, n
 
 
 def held(address):
-    """The faults of the calls on handles. A change without a buffer is made."""
+    """The faults of the calls on handles. A creation and a deletion are made without a buffer, and a patch isn't."""
     none, acts, numbers = as_bytes(address), as_list(nc.Act, address), as_list(nc.u32, address)
     region, vetted = nc.Region(4), nc.Vetted(nc.START + nc.BUNDLE, END, CODE)
     return [
@@ -55,7 +55,7 @@ def held(address):
     ]
 
 
-HELD = [nc.BAD_LENGTH, nc.OK, nc.BAD_LENGTH, nc.OK, nc.PATCH_BAD_SPAN, nc.OK, nc.NO_ROOM, nc.NO_ROOM, nc.OK, nc.NO_ROOM]
+HELD = [nc.BAD_LENGTH, nc.OK, nc.BAD_LENGTH, nc.OK, nc.PATCH_BAD_SPAN, nc.NO_ROOM, nc.NO_ROOM, nc.NO_ROOM, nc.OK, nc.NO_ROOM]
 
 
 class Lending(unittest.TestCase):

@@ -120,8 +120,7 @@ class ManyChunks(unittest.TestCase):
         patched = {*order[::100]}
         for number in patched:
             new = number_in(number + CHUNKS)
-            change = LIBRARY.nc_region_patch(self.region.handle, base(number), new, len(new), None, 0)
-            self.assertEqual(change.plain(), (nc.OK, 0, 0), number)
+            self.assertEqual(self.region.patch(base(number), new).fault, nc.OK, number)
         half, few = CHUNKS // 2, CHUNKS - 10
         self.delete(order[:half])
         self.assertEqual(self.region.reclaim(), 0)

@@ -69,7 +69,7 @@ class TakesNone(unittest.TestCase):
             self.assertEqual(region.patch(PLACE, OTHER).acts, [])
             self.assertEqual(region.patch(PLACE, b"\xc3" * 5).fault, nc.PATCH_NOT_PERMITTED)
             self.assertEqual(region.patch(region.limit, OTHER).fault, nc.PATCH_NOT_LIVE)
-            self.assertEqual(LIBRARY.nc_region_patch(region.handle, base(599) + 2, OTHER, len(OTHER), None, 0).plain().fault, nc.OK)
+            self.assertEqual(LIBRARY.nc_region_patch(region.handle, base(599) + 2, OTHER, 5, None, 0).plain(), (nc.NO_ROOM, 0, 15))
 
     def test_a_small_load(self):
         """A vetted chunk of 16 bundles comes into pages that are made, beside a chunk in the list."""

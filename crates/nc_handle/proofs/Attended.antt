@@ -31,6 +31,7 @@ attended_none gens r passes table tables = record {
   as_many = refl;
   tables = tables;
   seats = refl;
+  unmet = λ none. refl;
   inside = λ k d low high. absurd (omega (arith, high));
 }
 
@@ -53,6 +54,7 @@ attended_next gens old before r s now i p d h lt same others table generation ra
       as_many = length-set now i p ∙ h.as_many;
       tables = All-set (λ (q : PassState). q.table ≡ gens) now i p same.0 h.tables;
       seats = map-set_same (λ (q : PassState). q.seat) now i p d same.1 ∙ h.seats;
+      unmet = λ none. absurd (omega (arith, lt, h.as_many, ap (λ (ps : List PassState). length ps) none));
       inside = AllWithin-more_set now i p lt (IsIn s n) kept here;
     }
 

@@ -11,6 +11,7 @@ use Rattle.nc_entries.specs.Standing.{AreBytesAt}
 use Rattle.nc_handle.specs.machinery.Window.{HoldsText}
 
 pub record LiesIn (text : List ℕ) (at len : ℕ) : Type 0 where
+  pub some : 0 < len
   pub short : len ≤ 32
   pub low : 0x10000 ≤ at
   pub high : at + 32 ≤ limit_of text
@@ -26,6 +27,7 @@ patch_lies r at new region patch =
     subst (λ (d : Chunk). HasGoodSpan d.base (limit_of r.marked.bytes) d.length) listed.2
     (each_get (λ (d : Chunk). HasGoodSpan d.base (limit_of r.marked.bytes) d.length) r.chunks listed.0 c listed.1 region.placed) in
     record {
+      some = omega (arith, patch.0.0);
       short = omega (arith, patch.0.1);
       low = omega (arith, good.low, inside.0);
       high = omega (arith, good.high, inside.1);

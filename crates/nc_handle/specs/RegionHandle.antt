@@ -70,9 +70,9 @@ MayRefuseSeat h seat.OutOfMemory = ¬ (h.passes ≡ [])
 abbrev pub IsShort : ℕ → ℕ → Type 0
 IsShort room wanted = (0 < room) × (room < wanted)
 
--- a buffer is lent for a patch of at most 32 bytes, and it has room for fewer than three acts for each new byte
+-- the buffer for a patch of at most 32 bytes has room for fewer than three acts for each new byte, even if none is lent
 abbrev pub IsShortForPatch : ℕ → ℕ → Type 0
-IsShortForPatch room len = (len ≤ 32) × IsShort room (3 * len)
+IsShortForPatch room len = (len ≤ 32) × (room < 3 * len)
 
 -- when `create` returns each refusal: a deletion is under way; or else a lent buffer has room for fewer acts than the
 -- chunk has bytes plus two; or else the region refuses (`MayRefuse` of nc_region)
@@ -88,8 +88,8 @@ IsNotLoaded old new v load.Underway = new ≡ old
 IsNotLoaded old new v (load.NoRoom wanted) = new ≡ old
 IsNotLoaded old new v (load.Refused fault) = (new ≡ record old { region = new.region }) × IsRefused old.region new.region v fault
 
--- when `modify` returns each refusal: a deletion is under way; or else a buffer lent for at most 32 new bytes has room
--- for fewer than three acts for each; or else the region refuses (`MayRefusePatch` of nc_region)
+-- when `modify` returns each refusal: a deletion is under way; or else the buffer for at most 32 new bytes has room for
+-- fewer than three acts for each; or else the region refuses (`MayRefusePatch` of nc_region)
 abbrev pub MayRefuseModify : RegionHandleState → ℕ → List ℕ → ℕ → PatchFault → Type 0
 MayRefuseModify h at new room patch.Underway = IsSome h.begun
 MayRefuseModify h at new room (patch.NoRoom wanted) =
@@ -139,16 +139,18 @@ abbrev pub meetings : List PassState → List Event
 meetings [] = []
 meetings (p ∷ rest) = Looks p.seat ∷ Looks p.seat ∷ meetings rest
 
--- No deletion was under way. The keeper met the passes not given out, by which its bounds may have risen, and then this
--- many retired chunks were reclaimed (`IsReclaimed` of nc_region). These are two calls of a history (`IsCall` and
--- `LogsCall` of nc_calls); the first one logs nothing. The passes not given out keep their seat numbers, and the keeper's
--- bounds for these are at least the generation. All else is as before.
+-- No deletion was under way. The keeper met the passes not given out, by which its bounds may have risen. If there were
+-- none, it met nobody, and the region is as it was. Then this many retired chunks were reclaimed (`IsReclaimed` of
+-- nc_region). These are two calls of a history (`IsCall` and `LogsCall` of nc_calls); the first one logs nothing. The
+-- passes not given out keep their seat numbers, and the keeper's bounds for these are at least the generation. All else
+-- is as before.
 pub record HasReclaimed (old new : RegionHandleState) (count : ℕ) : Type 0 where
   pub none : old.begun ≡ None
   pub met : Region
   pub keeper : met ≡ record old.region { keeper = met.keeper }
   pub generation : met.keeper.numbers.generation ≡ old.region.keeper.numbers.generation
   pub raised : Raised old.region.keeper.numbers.bounds met.keeper.numbers.bounds
+  pub unmet : old.passes ≡ [] → met ≡ old.region
   pub meets : (seats : ℕ) → IsCall seats old.region met (meetings old.passes)
   pub reclaimed : IsReclaimed met new.region count
   pub call : (seats : ℕ)

@@ -1,6 +1,6 @@
 //! Checking in for seats that haven't been given out.
 
-ghost use Rattle.std.specs.Prelude.{◌≡◌, ◌≤◌, ◌<◌, All, length, map, slice_index};
+ghost use Rattle.std.specs.Prelude.{◌≡◌, ◌≤◌, ◌<◌, [], All, length, map, slice_index};
 ghost use Rattle.nc_gens.specs.Seen.{Raised, PassState};
 ghost use Rattle.nc_handle.specs.RegionHandle.{IsIn};
 
@@ -35,6 +35,7 @@ pub(crate) fn attend(region: &mut RegionOf<HandleActs>, gens: &Gens, passes: &mu
     ensures table { region.new.keeper.table ≡ region.old.keeper.table }
     ensures generation { region.new.keeper.numbers.generation ≡ region.old.keeper.numbers.generation }
     ensures raised { Raised region.old.keeper.numbers.bounds region.new.keeper.numbers.bounds }
+    ensures unmet { passes.old ≡ [] → region.new ≡ region.old }
     ensures outside { All (IsIn region.new region.old.keeper.numbers.generation) passes.new }
 {
     for i in 0..passes.len() {

@@ -30,37 +30,29 @@ fn is_short(room: usize, wanted: usize) -> bool
     0 < room && room < wanted
 }
 
-/// Whether a buffer is lent for a patch of at most 32 bytes and has less room than three acts for each new byte.
+/// Whether the buffer for a patch of at most 32 bytes has less room than three acts for each new byte.
 fn is_short_for_patch(room: usize, len: usize) -> bool
     ensures { IsTrue result ↔ IsShortForPatch room len }
 {
-    len <= 32 && is_short(room, 3 * len)
+    len <= 32 && room < 3 * len
 }
 
-/// How many bytes of the text a patch of this many bytes has to know from before it: all if a buffer is lent for its acts,
-/// otherwise none.
-fn bytes_before(acts: &[NcAct], len: usize) -> u32
+/// How many bytes of the text a patch of this many bytes has to know from before it. One of more than 32 bytes is refused.
+fn bytes_before(len: usize) -> u32
     ensures most { result ≤ 32 }
-    ensures lent { 0 < length acts.now → len ≤ 32 → result ≡ len }
+    ensures all { len ≤ 32 → result ≡ len }
 {
-    if acts.is_empty() || len > 32 {
-        0
-    } else {
-        len as u32
-    }
+    if len > 32 { 0 } else { len as u32 }
 }
 
-/// Writes the acts of a patch if a buffer is lent; the bytes from before matter only then. Returns the number written.
+/// Writes the acts of a patch. Returns the number written.
 fn report_patch(acts: &mut [NcAct], at: u32, before: &[u8], new: &[u8]) -> usize
     requires long { length new.now ≤ length before.now }
     requires high { at + length before.now < 2 ^ 32 }
-    requires room { ¬ IsShort (length acts.old) (3 * length new.now) }
-    ensures { (text : List ℕ) (news : List Piece) → (0 < length acts.old → AreBytesAt text at before.now) → AreBytesOf new.now news
+    requires room { 3 * length new.now ≤ length acts.old }
+    ensures { (text : List ℕ) (news : List Piece) → AreBytesAt text at before.now → AreBytesOf new.now news
         → IsReported acts.old acts.new result (log_of_modify text at news) }
 {
-    if acts.is_empty() {
-        return 0;
-    }
     write_patch(acts, 0, at, before, 0, new)
 }
 
@@ -106,8 +98,7 @@ impl RegionHandle {
         Ok(())
     }
 
-    /// Checks that no deletion is under way, and that a lent buffer has room for the acts of a patch with these bytes,
-    /// at any address.
+    /// Checks that no deletion is under way, and that the buffer has room for the acts of a patch with these bytes, at any address.
     fn check_patch(&self, new: &[u8], room: usize) -> Result<(), PatchFault>
         ensures allowed { OnOk result ((self.now.begun ≡ None) × ¬ IsShortForPatch room (length new.now)) }
         ensures refused { IfErr result (λ fault. (at : ℕ) → MayRefuseModify self.now at new.now room fault) }
@@ -197,16 +188,17 @@ impl RegionHandle {
     }
 
     /// `RegionOf::modify`, which also writes its acts into the buffer, with the serializations among them: at most three for each
-    /// new byte. An empty buffer counts as none. Returns the number of acts written. It takes no memory, and a refusal changes
-    /// nothing.
+    /// new byte. Since no other call writes them, an empty buffer is too short. Returns the number of acts written. It takes no
+    /// memory, and a refusal changes nothing.
     pub fn modify(&mut self, at: u32, new: &[u8], acts: &mut [NcAct]) -> Result<usize, PatchFault>
         // The new bytes are in place; all else is as before.
         ensures modified { OnOk result (IsModified self.old.region self.new.region at new.now) }
         ensures others { OnOk result (self.new ≡ record self.old { region = self.new.region }) }
         // Only lawful patches are made.
         ensures lawful { OnOk result (IsPatch self.old.region at new.now) }
-        // No deletion was under way, and a lent buffer had room for three acts for each byte.
+        // No deletion was under way, and a buffer was lent, with room for three acts for each byte.
         ensures allowed { OnOk result ((self.old.begun ≡ None) × ¬ IsShortForPatch (length acts.old) (length new.now)) }
+        ensures lent { OnOk result (0 < length acts.old) }
         // The acts written are those of a patch of the region's own bytes, with the serializations.
         ensures reported { IfOk result (λ count. (news : List Piece) → AreBytesOf new.now news
             → IsReported acts.old acts.new count (log_of_modify self.old.region.marked.bytes at news)) }
@@ -224,7 +216,7 @@ impl RegionHandle {
         if let Err(fault) = self.check_patch(new, acts.len()) {
             return Err(fault);
         }
-        let before = read_window(&self.region, at, bytes_before(acts, new.len()));
+        let before = read_window(&self.region, at, bytes_before(new.len()));
         if let Err(fault) = nc_calls::modify(&mut self.region, at, new) {
             return Err(PatchFault::Refused(fault));
         }

@@ -115,6 +115,7 @@ pub extern "C" fn nc_region_create(
 fn patch(handle: &mut RegionHandle, at: u32, new: &[u8], acts: &mut [NcAct]) -> NcChange
     ensures modified { result.fault ≡ 0 → HasPatched at new.now handle.old handle.new }
     ensures allowed { result.fault ≡ 0 → ¬ IsShortForPatch (length acts.old) (length new.now) }
+    ensures lent { result.fault ≡ 0 → 0 < length acts.old }
     ensures reported { result.fault ≡ 0 → (news : List Piece) → AreBytesOf new.now news
         → IsReported acts.old acts.new result.count (log_of_modify handle.old.region.marked.bytes at news) }
     ensures pending { (v : MarkedChunk) → result.fault ≡ 0 → ReportsPending handle.old handle.new v acts.old acts.new result.count }
@@ -136,8 +137,8 @@ fn patch(handle: &mut RegionHandle, at: u32, new: &[u8], acts: &mut [NcAct]) -> 
 /// Patches a chunk of a region, with its acts. It takes no memory, and of the chunk it reads only the bundles of the patch and
 /// of its targets.
 ///
-/// The acts are written into the buffer, with the serializations among them: at most three for each new byte. An empty buffer counts
-/// as none, and then the count is 0. A refusal changes nothing.
+/// The acts are written into the buffer, with the serializations among them: at most three for each new byte. Since no other call
+/// writes them, an empty buffer is too short. A refusal changes nothing.
 #[unsafe(no_mangle)]
 pub extern "C" fn nc_region_patch(
     alloc: Global,
@@ -148,8 +149,9 @@ pub extern "C" fn nc_region_patch(
 ) -> NcChange
     // No deletion was under way, and the new bytes are in place, by a lawful patch; all else is as before.
     ensures modified { result.fault ≡ 0 → IsDone region.old.value region.new.value (HasPatched at bytes.now) }
-    // A lent buffer had room for three acts for each byte.
+    // A buffer was lent, with room for three acts for each byte.
     ensures allowed { result.fault ≡ 0 → ¬ IsShortForPatch (length acts.old) (length bytes.now) }
+    ensures lent { result.fault ≡ 0 → 0 < length acts.old }
     // The acts written are those of a patch of the region's own bytes, with the serializations.
     ensures reported { result.fault ≡ 0 → (h : RegionHandleState) (news : List Piece) → region.old.value ≡ Some h → AreBytesOf bytes.now news
         → IsReported acts.old acts.new result.count (log_of_modify h.region.marked.bytes at news) }

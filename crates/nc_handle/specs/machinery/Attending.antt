@@ -1,5 +1,5 @@
 -- Passes that check in, one after the other.
-use Rattle.std.specs.Prelude.{◌≡◌, ℕ, List, All, length, map}
+use Rattle.std.specs.Prelude.{◌≡◌, ℕ, List, [], All, length, map}
 use Rattle.std.specs.List.{AllWithin}
 use Rattle.atomic_table.specs.Seated.{TableId}
 use Rattle.nc_gens.specs.Seen.{PassState, Raised}
@@ -15,4 +15,5 @@ pub record HasAttended (gens : TableId) (old : Region) (before : List PassState)
   pub as_many : length now ≡ length before
   pub tables : All (λ (p : PassState). p.table ≡ gens) now
   pub seats : map (λ (p : PassState). p.seat) now ≡ map (λ (p : PassState). p.seat) before
+  pub unmet : before ≡ [] → new ≡ old
   pub inside : AllWithin (IsIn new old.keeper.numbers.generation) now 0 count

@@ -18,3 +18,6 @@ pub returns-clause-outside : goal.returns-clause-outside
 returns-clause-outside c =
     attended_all c.args.gens.now c.args.region.now c.args.passes.now c.loop-i.region c.loop-i.passes c.loop-i.i c.loop-i.invariant
     (omega (arith, c.loop-i-test.false, c.loop-i.invariant.as_many))
+
+pub returns-clause-unmet : goal.returns-clause-unmet
+returns-clause-unmet c = c.loop-i.invariant.unmet

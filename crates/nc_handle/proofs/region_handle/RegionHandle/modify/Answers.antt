@@ -29,9 +29,14 @@ pub returns-clause-reported : goal.returns-clause-reported
 returns-clause-reported c =
     let lies = patch_lies c.self.inside.region c.args.at c.args.new.now c.read_window-before.ensures.region c.in_default-modify.ensures.lawful in
     rw (← c.self.view_is) (λ news are.
-    c.report_patch.ensures c.self.inside.region.marked.bytes news (λ some.
-    window_stands c.self.inside.region.marked.bytes c.args.at (length c.args.new.now) c.bytes_before.result c.read_window-before.result lies
-    (c.bytes_before.ensures.lent some lies.short) c.read_window-before.ensures.read) are)
+    c.report_patch.ensures c.self.inside.region.marked.bytes news
+    (window_stands c.self.inside.region.marked.bytes c.args.at (length c.args.new.now) c.bytes_before.result c.read_window-before.result lies
+    (c.bytes_before.ensures.all lies.short) c.read_window-before.ensures.read) are)
+
+pub returns-clause-lent : goal.returns-clause-lent
+returns-clause-lent c =
+    let lies = patch_lies c.self.inside.region c.args.at c.args.new.now c.read_window-before.ensures.region c.in_default-modify.ensures.lawful in
+    grind (arith, lies.some, lies.short, c.in_default.ensures.allowed.1)
 
 pub returns-in-Err-clause-refused : goal.returns-in-Err-clause-refused
 returns-in-Err-clause-refused c = c.in-Err.ensures.refused c.args.at
@@ -57,6 +62,6 @@ returns-clause-pending c = λ v.
     (record { region = c.modify.new.region; passes = c.self.inside.passes.items; begun = c.self.inside.begun })
     c.args.at c.args.new.now c.args.acts.now c.report_patch.new.acts c.report_patch.result v c.in_default-modify.ensures.lawful
     c.in_default-modify.ensures.modified (ap (λ (h : RegionHandleState). h.begun) c.self.view_is ∙ c.in_default.ensures.allowed.0) refl (λ news are.
-    c.report_patch.ensures c.self.inside.region.marked.bytes news (λ some.
-    window_stands c.self.inside.region.marked.bytes c.args.at (length c.args.new.now) c.bytes_before.result c.read_window-before.result lies
-    (c.bytes_before.ensures.lent some lies.short) c.read_window-before.ensures.read) are))
+    c.report_patch.ensures c.self.inside.region.marked.bytes news
+    (window_stands c.self.inside.region.marked.bytes c.args.at (length c.args.new.now) c.bytes_before.result c.read_window-before.result lies
+    (c.bytes_before.ensures.all lies.short) c.read_window-before.ensures.read) are))

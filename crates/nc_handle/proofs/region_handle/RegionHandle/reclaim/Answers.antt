@@ -30,6 +30,7 @@ returns-clause-reclaimed c =
       keeper = search rules;
       generation = search rules;
       raised = search rules;
+      unmet = search rules;
       meets = λ seats. UsesKeeper (ap (λ (r : Region). r.marked) same) (ap (λ (r : Region). r.chunks) same)
           (all_keepers c.args.self.now.passes) low;
       reclaimed = search rules;
