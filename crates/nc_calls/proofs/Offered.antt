@@ -13,3 +13,4 @@ pub use Rattle.nc_calls.proofs.Knowing.{knows_as_much, knows_raised}
 pub use Rattle.nc_calls.proofs.StaysWhole.{IsWholeIn, StaysWhole, whole_serialized, whole_append, whole_front}
 pub use Rattle.nc_calls.proofs.Fetching.{fetch_whole_after}
 pub use Rattle.nc_calls.proofs.AllTurns.{Stays, same_region, call_stays, all_stand}
+pub use Rattle.nc_calls.proofs.lives.WithoutPatch.{lives}

@@ -11,9 +11,10 @@ use Rattle.nc_text.proofs.Offered.{confined_if_closed}
 use Rattle.nc_gens.specs.Seen.{KeeperState, least_number}
 use Rattle.nc_list.specs.declared.chunk.Chunk.{Chunk}
 use Rattle.nc_region.specs.schedules.Spans.{RetiredSpan}
-use Rattle.nc_region.specs.schedules.World.{World, first_world, NoneIsWithin}
-use Rattle.nc_region.specs.schedules.Events.{Event, Retires, Frees, world_after, AreAllowed}
-use Rattle.nc_region.proofs.Offered.{after_append, allowed_append, safe_after, none_is_within_freed}
+use Rattle.nc_region.specs.schedules.World.{World, first_world, IsViewOf, NoneIsWithin}
+use Rattle.nc_region.specs.schedules.Events.{Event, Puts, Retires, Frees, after, world_after, AreAllowed}
+use Rattle.nc_text.specs.Places.{InRegion}
+use Rattle.nc_region.proofs.Offered.{after_append, allowed_append, safe_after, none_is_within_freed, keeps_reached, Keeps as HasInvariant}
 use Rattle.nc_region.proofs.Offered.{allowed_front}
 use Rattle.nc_acts.specs.Log.{only_acts}
 use Rattle.nc_region.specs.Deletion.{IsReclaimed, freed, unmarkings}
@@ -37,14 +38,14 @@ use Rattle.nc_calls.proofs.Offered.{Stays, same_region, all_stand}
 use Rattle.nc_region.proofs.Offered.{deleted_region}
 use Rattle.nc_hosts.proofs.Deleting.{deleted_there}
 use Rattle.nc_hosts.proofs.Interleaving.{IsWriters, writers_own, threads_append, threads_none, one_writers}
-use Rattle.nc_hosts.proofs.Looked.{looks_or_not, frees_no_look, only_looks, frees_last}
+use Rattle.nc_hosts.proofs.Looked.{looks_or_not, frees_no_look, only_looks, rest_looks_not}
 use Rattle.nc_hosts.proofs.Reaching.{Phase, Calling, Deleting, Led, finished, led}
 
 -- all events so far are allowed, and leave instructions whole, and those pending too, unless a look is still pending
 data Goes (w : World) (so_far pending : List Event) : Type 0 where
   Done : AreAllowed w (so_far ++ pending) → StaysWhole w (so_far ++ pending) → Goes w so_far pending
-  Looking : AreAllowed w so_far → StaysWhole w so_far → ((span : RetiredSpan) (later : List Event) → pending ≡ Frees span ∷ later → ⊥)
-      → Goes w so_far pending
+  Looking : AreAllowed w so_far → StaysWhole w so_far
+      → ((event : Event) (later : List Event) → pending ≡ event ∷ later → IsNoLook event → ⊥) → Goes w so_far pending
 
 -- events that lead to a region are allowed and leave instructions whole
 led_goes : (limit seats : ℕ) (before since pending : List Event) (from r : Region) → Stays limit seats before from
@@ -95,11 +96,11 @@ reclaim_goes limit seats before since pending from region count stays threads al
           (freed (least_number region.keeper.numbers) from.chunks)) some in
           Looking (keepers_allowed limit seats before since from stays.led looks threads)
           (keepers_whole limit seats before since from stays looks threads)
-          (λ span later at. some (subst (All IsNoLook) (sym at)
-          (frees_last (writers since) later span (range_with_len 0 seats)
+          (λ event later at no_look. some (subst (All IsNoLook) (sym at)
+          (rest_looks_not (writers since) later event (range_with_len 0 seats)
           (events_of_log (record no_details { seats = seats; spans = retired_spans from.chunks })
           (only_acts (unmarkings (freed (least_number region.keeper.numbers) from.chunks))))
-          (ap (λ (z : List Event). writers since ++ z) (sym at) ∙ events)
+          (ap (λ (z : List Event). writers since ++ z) (sym at) ∙ events) no_look
           (frees_no_look (record no_details { seats = seats; spans = retired_spans from.chunks })
           (freed (least_number region.keeper.numbers) from.chunks)))))
     ]
@@ -232,12 +233,52 @@ freed_there limit seats host span later l is =
     go (Done allowed whole) =
         none_is_within_freed limit seats (l.before ++ l.since) later span l.stays.led.lawful
         (subst (λ (z : List Event). AreAllowed (first_world limit seats) ((l.before ++ l.since) ++ z)) is allowed)
-    go (Looking allowed whole none) = absurd (none span later is)
+    go (Looking allowed whole none) = absurd (none (Frees span) later is tt)
 
 pub frees : (bundles seats : ℕ) (host : Host) (span : RetiredSpan) (later : List Event) → IsReached bundles seats host
     → host.pending ≡ Frees span ∷ later → NoneIsWithin host.world span
 frees bundles seats host span later reached is =
     freed_there (65536 + 32 * bundles) seats host span later (led bundles seats host reached) is
+
+-- the later events of an allowed schedule are allowed where they stand
+allowed_back : (w : World) (events later : List Event) → AreAllowed w (events ++ later) → AreAllowed (world_after w events) later
+allowed_back w [] later a = a
+allowed_back w (event ∷ events) later a = allowed_back (after w event) events later a.1
+
+-- a store that a host makes next is in the region
+lies_there : (limit seats : ℕ) (host : Host) (at byte : ℕ) (later : List Event) → Led limit seats host
+    → host.pending ≡ Puts at byte ∷ later → InRegion host.world.marked.bytes at
+lies_there limit seats host at byte later l is =
+    subst (λ (w : World). InRegion w.marked.bytes at) (sym l.world) (go (goes limit seats host l))
+  where
+    go : Goes (first_world limit seats) (l.before ++ l.since) host.pending
+        → InRegion (world_after (first_world limit seats) (l.before ++ l.since)).marked.bytes at
+    go (Done allowed whole) =
+        (allowed_back (first_world limit seats) (l.before ++ l.since) (Puts at byte ∷ later)
+        (subst (λ (z : List Event). AreAllowed (first_world limit seats) ((l.before ++ l.since) ++ z)) is allowed)).0.0
+    go (Looking allowed whole none) = absurd (none (Puts at byte) later is tt)
+
+pub lies : (bundles seats : ℕ) (host : Host) (at byte : ℕ) (later : List Event) → IsReached bundles seats host
+    → host.pending ≡ Puts at byte ∷ later → InRegion host.world.marked.bytes at
+lies bundles seats host at byte later reached is =
+    lies_there (65536 + 32 * bundles) seats host at byte later (led bundles seats host reached) is
+
+-- the memory keeps what every allowed schedule keeps
+keeps_there : (limit seats : ℕ) (host : Host) → Led limit seats host → HasInvariant host.world
+keeps_there limit seats host l =
+    subst HasInvariant (sym l.world) (go (goes limit seats host l))
+  where
+    go : Goes (first_world limit seats) (l.before ++ l.since) host.pending → HasInvariant (world_after (first_world limit seats) (l.before ++ l.since))
+    go (Done allowed whole) =
+        keeps_reached limit seats (l.before ++ l.since) l.stays.led.lawful
+        (allowed_front (first_world limit seats) (l.before ++ l.since) host.pending allowed)
+    go (Looking allowed whole none) = keeps_reached limit seats (l.before ++ l.since) l.stays.led.lawful allowed
+
+-- the memory is confined in every view, also between two stores
+pub views : (bundles seats : ℕ) (host : Host) (view : List ℕ) → IsReached bundles seats host → IsViewOf host.world view → IsConfined view
+views bundles seats host view reached is =
+    confined_if_closed view host.world.marked.marks
+    ((keeps_there (65536 + 32 * bundles) seats host (led bundles seats host reached)).closed view is)
 
 -- the memory where nothing is pending
 memory_there : (limit seats : ℕ) (host : Host) → Led limit seats host → host.pending ≡ [] → host.handle.begun ≡ None

@@ -1,14 +1,14 @@
 -- From each state that a host can reach, its pending events can be made, and each call leads on.
-use Rattle.std.proofs.Common.{◌≡◌, ℕ, ◌+◌, ◌*◌, false, Some, List, [], ◌∷◌, ◌++◌, refl, ◌∙◌, sym, ap, subst}
+use Rattle.std.proofs.Common.{◌≡◌, ℕ, ◌+◌, ◌*◌, false, Some, None, List, [], ◌∷◌, ◌++◌, refl, ◌∙◌, sym, ap, subst}
 use Rattle.std.specs.Prelude.{All}
-use Rattle.std.proofs.lemmas.List.Elements.{All-nil, All-cons}
+use Rattle.std.proofs.lemmas.List.Elements.{All-nil, All-cons, All-head}
 use Rattle.nc_vet.specs.Chunk.{MarkedChunk, Piece, IsValid}
 use Rattle.nc_gens.specs.declared.view.KeeperNumbers.{KeeperNumbers}
 use Rattle.nc_gens.specs.Rule.{generation_raised}
-use Rattle.nc_gens.specs.Seen.{KeeperState}
+use Rattle.nc_gens.specs.Seen.{KeeperState, PassState}
 use Rattle.nc_list.specs.declared.chunk.Chunk.{Chunk}
 use Rattle.nc_region.specs.schedules.World.{World, first_world}
-use Rattle.nc_region.specs.schedules.Events.{Event, Retires, ThreadMay, after, world_after}
+use Rattle.nc_region.specs.schedules.Events.{Event, Retires, Looks, ThreadMay, after, world_after}
 use Rattle.nc_acts.specs.Log.{log_of_create}
 use Rattle.nc_region.specs.Patch.{AreBytesOf, log_of_modify}
 use Rattle.nc_region.specs.Region.{Region}
@@ -17,7 +17,7 @@ use Rattle.nc_calls.specs.Interleaving.{is_writers}
 use Rattle.nc_calls.specs.Calls.{KnowsNoMore, no_details, create_events, modify_events, delete_events}
 use Rattle.nc_calls.specs.Histories.{Creates, Patches}
 use Rattle.nc_calls.proofs.Offered.{created, modified, knows_raised}
-use Rattle.nc_handle.specs.RegionHandle.{RegionHandleState, HasLoaded, HasPatched, HasBegunDeletion, HasEndedDeletion}
+use Rattle.nc_handle.specs.RegionHandle.{RegionHandleState, HasLoaded, HasPatched, HasBegunDeletion, HasEndedDeletion, HasReclaimed, meetings}
 use Rattle.nc_handle.specs.Pending.{IsHandleCall, ChangesPages, Changes, Begins, Ends}
 use Rattle.nc_hosts.specs.Hosts.{Host, Runs, Makes, Restarts, Calls, Asks, IsNoLook, IsReached, Then}
 use Rattle.nc_hosts.proofs.Kept.{IsStore, rest_stores, stores_keep, stores_look_not, thread_keeps_keeper, same_keeper}
@@ -110,6 +110,22 @@ restarts bundles seats host c stops reached begun own =
     (deletion_stores (65536 + 32 * bundles) seats host c (led bundles seats host reached) begun)
     (rest_stores host.handle.region.marked.marks c.base c.length [] stops own))
 
+-- what a call left to be made when the deletion began can be made anew, whatever seats were given since
+pub anew : (bundles seats : ℕ) (host : Host) (old new : RegionHandleState) (c : Chunk) (stops : List Event) → IsReached bundles seats host
+    → host.handle.begun ≡ Some c → IsHandleCall seats old new stops → new.begun ≡ Some c → new.region ≡ host.handle.region
+    → IsReached bundles seats (record host { pending = stops })
+anew bundles seats host old new c stops reached begun (Changes was is call) at same =
+    absurd (let bad : None ≡ Some c = sym is ∙ at in cc)
+anew bundles seats host old new c stops reached begun (Begins d begins own) at same =
+    let is : Some d ≡ Some c = sym (ap (λ (h : RegionHandleState). h.begun) begins.others) ∙ at in
+    let one : d ≡ c = cc in
+    let region : old.region ≡ host.handle.region = sym (ap (λ (h : RegionHandleState). h.region) begins.others) ∙ same in
+    restarts bundles seats host c stops reached begun
+    (subst (λ (e : Chunk). stops ++ Retires e.base e.length ∷ [] ≡ delete_events host.handle.region.marked.marks e.base e.length) one
+    (subst (λ (r : Region). stops ++ Retires d.base d.length ∷ [] ≡ delete_events r.marked.marks d.base d.length) region own))
+anew bundles seats host old new c stops reached begun (Ends stamp is own) at same =
+    absurd (let bad : None ≡ Some c = sym (ap (λ (h : RegionHandleState). h.begun) is.others) ∙ at in cc)
+
 -- the last step of a deletion leads to a host that is reached
 pub ends : (bundles seats : ℕ) (host : Host) (new : RegionHandleState) (stamp : ℕ) (is : HasEndedDeletion host.handle new stamp)
     → IsReached bundles seats host → host.pending ≡ []
@@ -149,3 +165,23 @@ runs bundles seats host event reached thread may =
     subst (KnowsNoMore host.handle.region.keeper.numbers)
     (sym (same_keeper host.pending (after host.world event) host.world none (thread_keeps_keeper host.world event thread)))
     ((led bundles seats host reached).found none))
+
+-- a host after the first half of a reclaim
+abbrev met_host : (host : Host) (new : RegionHandleState) (count : ℕ) → HasReclaimed host.handle new count → Host
+met_host host new count is =
+    record { handle = record host.handle { region = is.met }; world = host.world; pending = meetings host.handle.passes }
+
+-- the first half of a reclaim leads to a host that is reached, also where every seat has been given
+pub reclaims : (bundles seats : ℕ) (host : Host) (new : RegionHandleState) (count : ℕ) (is : HasReclaimed host.handle new count)
+    → IsReached bundles seats host → host.pending ≡ [] → IsReached bundles seats (met_host host new count is)
+reclaims bundles seats host new count is reached none = go host.handle.passes refl
+  where
+    go : (passes : List PassState) → host.handle.passes ≡ passes → IsReached bundles seats (met_host host new count is)
+    go [] empty =
+        subst (λ (r : Region). IsReached bundles seats (record (met_host host new count is) { handle = record host.handle { region = r } }))
+        (sym (is.unmet empty))
+        (subst (λ (z : List Event). IsReached bundles seats (record host { pending = z })) (none ∙ sym (ap meetings empty)) reached)
+    go (p ∷ rest) some =
+        looks bundles seats host (record host.handle { region = is.met }) (meetings host.handle.passes) reached none
+        (Changes is.none is.none (is.meets seats))
+        (λ all. All-head IsNoLook (Looks p.seat) (Looks p.seat ∷ meetings rest) (subst (All IsNoLook) (ap meetings some) all))

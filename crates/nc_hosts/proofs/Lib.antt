@@ -7,3 +7,5 @@ mod Concluding
 mod Storing
 mod Going
 mod Running
+mod Turning
+mod Lives

@@ -3,7 +3,6 @@ use Rattle.std.proofs.Common.{◌≡◌, ℕ, ◌⊎◌, inl, inr, List, [], ◌
 use Rattle.std.specs.Prelude.{All}
 use Rattle.std.proofs.lemmas.List.Elements.{All-nil, All-cons, All-head, All-tail}
 use Rattle.nc_list.specs.declared.chunk.Chunk.{Chunk}
-use Rattle.nc_region.specs.schedules.Spans.{RetiredSpan}
 use Rattle.nc_region.specs.schedules.Events.{Event, Frees, Looks}
 use Rattle.nc_acts.specs.Log.{only_acts}
 use Rattle.nc_region.specs.Deletion.{unmarkings}
@@ -50,13 +49,14 @@ only_looks (x ∷ since) pending (k ∷ ks) frees is none some =
     let rest : since ++ pending ≡ map Looks ks ++ frees = cc in
     All-cons IsKeepers x since (subst IsKeepers (sym first) tt) (only_looks since pending ks frees rest none some)
 
--- once a span is freed, no look is to come
-pub frees_last : (since later : List Event) (span : RetiredSpan) (ks : List ℕ) (frees : List Event)
-    → since ++ Frees span ∷ later ≡ map Looks ks ++ frees → All IsNoLook frees → All IsNoLook (Frees span ∷ later)
-frees_last [] later span [] frees is none = subst (All IsNoLook) (sym is) none
-frees_last [] later span (k ∷ ks) frees is none = absurd (let first : Frees span ≡ Looks k = cc in cc)
-frees_last (x ∷ since) later span [] frees is none =
-    all_back IsNoLook (x ∷ since) (Frees span ∷ later) (subst (All IsNoLook) (sym is) none)
-frees_last (x ∷ since) later span (k ∷ ks) frees is none =
-    let rest : since ++ Frees span ∷ later ≡ map Looks ks ++ frees = cc in
-    frees_last since later span ks frees rest none
+-- once an event that is no look comes, no look is to come
+pub rest_looks_not : (since later : List Event) (event : Event) (ks : List ℕ) (frees : List Event)
+    → since ++ event ∷ later ≡ map Looks ks ++ frees → IsNoLook event → All IsNoLook frees → All IsNoLook (event ∷ later)
+rest_looks_not [] later event [] frees is no_look none = subst (All IsNoLook) (sym is) none
+rest_looks_not [] later event (k ∷ ks) frees is no_look none =
+    absurd (let first : event ≡ Looks k = cc in subst IsNoLook first no_look)
+rest_looks_not (x ∷ since) later event [] frees is no_look none =
+    all_back IsNoLook (x ∷ since) (event ∷ later) (subst (All IsNoLook) (sym is) none)
+rest_looks_not (x ∷ since) later event (k ∷ ks) frees is no_look none =
+    let rest : since ++ event ∷ later ≡ map Looks ks ++ frees = cc in
+    rest_looks_not since later event ks frees rest no_look none

@@ -3,9 +3,10 @@
 ghost use Rattle.std.specs.Prelude.{◌≡◌, ◌-◌, ◌⊎◌, ℕ, List, [], ◌∷◌, None, Some, replicate, slice_set};
 ghost use Rattle.nc_text.specs.Machine.{IsConfined};
 ghost use Rattle.nc_text.specs.MarkedText.{with_span};
+ghost use Rattle.nc_text.specs.Places.{InRegion};
 ghost use Rattle.nc_list.specs.declared.chunk.Chunk.{Chunk};
 ghost use Rattle.nc_region.specs.schedules.Spans.{RetiredSpan};
-ghost use Rattle.nc_region.specs.schedules.World.{NoneIsWithin};
+ghost use Rattle.nc_region.specs.schedules.World.{IsViewOf, NoneIsWithin};
 ghost use Rattle.nc_region.specs.schedules.Events.{Event};
 ghost use Rattle.nc_calls.specs.Calls.{StandsFor};
 ghost use Rattle.nc_calls.specs.Histories.{AllStand};
@@ -24,6 +25,8 @@ ghost use Rattle.nc_hosts.specs.Hosts.{Host, IsHostStep, IsReached};
 /// - if nothing is pending and a deletion is under way, the memory has the region's bytes, but F4 in the chunk's span;
 /// - a step changes no byte of the memory, or it makes the first pending event, a store, which writes its byte at its place and changes
 ///   no other;
+/// - a store that is pending next is in the region;
+/// - every view of the host's memory is confined, also between two stores;
 /// - the text of the handle's region is confined.
 ///
 /// A host (`specs/Hosts`) makes the pending events one by one and in order, and makes no call that may change the region before it has
@@ -36,7 +39,8 @@ ghost use Rattle.nc_hosts.specs.Hosts.{Host, IsHostStep, IsReached};
 ///
 /// - At first the memory is all stops, the host has serialized since they were stored, and all threads are outside.
 /// - A thread inside moves only as the machine does in some view, and by no masked jump or call to the limit or above.
-/// - A thread enters only at bundle starts and while its seat hasn't left. Its pass checks in and leaves only while it is outside.
+/// - A thread enters only while it is outside, at bundle starts and while its seat hasn't left. Its pass checks in and leaves only while it
+///   is outside.
 /// - The keeper has the world's generation and a bound for each of its seats, and finds no word to be greater than it is.
 /// - The host makes the pending events in order, each once, and its stores and serializations reach execution in that order. Only a
 ///   deletion's events may be made again, all of them and from the first one on.
@@ -54,5 +58,9 @@ pub fn law_of_hosts()
     ensures stores { (seats : ℕ) (old new : Host) → IsHostStep seats old new → (new.world.marked.bytes ≡ old.world.marked.bytes)
         ⊎ ((at : ℕ) × (byte : ℕ) × (old.pending ≡ Event.Puts at byte ∷ new.pending)
         × (new.world.marked.bytes ≡ slice_set old.world.marked.bytes (at - 0x10000) byte)) }
+    ensures lies { (bundles seats : ℕ) (host : Host) (at byte : ℕ) (later : List Event) → IsReached bundles seats host
+        → host.pending ≡ Event.Puts at byte ∷ later → InRegion host.world.marked.bytes at }
+    ensures views { (bundles seats : ℕ) (host : Host) (view : List ℕ) → IsReached bundles seats host → IsViewOf host.world view
+        → IsConfined view }
     ensures confined { (bundles seats : ℕ) (host : Host) → IsReached bundles seats host → IsConfined host.handle.region.marked.bytes }
 {}

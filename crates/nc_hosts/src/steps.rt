@@ -7,7 +7,7 @@ ghost use Rattle.nc_region.specs.schedules.Events.{Event, ThreadMay, after};
 ghost use Rattle.nc_region.specs.Patch.{AreBytesOf};
 ghost use Rattle.nc_calls.specs.Interleaving.{is_writers};
 ghost use Rattle.nc_calls.specs.Calls.{create_events, modify_events, delete_events};
-ghost use Rattle.nc_handle.specs.RegionHandle.{RegionHandleState, HasLoaded, HasPatched, HasBegunDeletion, HasEndedDeletion};
+ghost use Rattle.nc_handle.specs.RegionHandle.{RegionHandleState, HasLoaded, HasPatched, HasBegunDeletion, HasEndedDeletion, HasReclaimed, meetings};
 ghost use Rattle.nc_handle.specs.Pending.{IsHandleCall, ChangesPages};
 ghost use Rattle.nc_hosts.specs.Hosts.{Host, IsNoLook, IsReached};
 
@@ -15,8 +15,9 @@ ghost use Rattle.nc_hosts.specs.Hosts.{Host, IsNoLook, IsReached};
 ///
 /// - the first pending event, unless it is a look at a seat's word, whose answer only a processor gives;
 /// - if nothing is pending, each accepted creation, patch and call of a deletion, after which its events are pending;
-/// - if nothing is pending, each other accepted call after which a look is pending, such as each call of a reclaim;
-/// - while a deletion is under way, its events made anew from the first one on;
+/// - if nothing is pending, each other accepted call after which a look is pending, such as the second half of a reclaim;
+/// - if nothing is pending, the first half of a reclaim, in which the keeper meets the seats that nobody was given;
+/// - while a deletion is under way, its events made anew from the first one on, such as those that were pending after its first call;
 /// - each call that leaves the region as it is, and each refused call, also while events are pending;
 /// - each event of a thread that it may do.
 ///
@@ -40,6 +41,9 @@ pub fn law_of_reaching()
         → host.handle.begun ≡ Some c
         → stops ++ Event.Retires c.base c.length ∷ [] ≡ delete_events host.handle.region.marked.marks c.base c.length
         → IsReached bundles seats (record host { pending = stops }) }
+    ensures anew { (bundles seats : ℕ) (host : Host) (old new : RegionHandleState) (c : Chunk) (stops : List Event)
+        → IsReached bundles seats host → host.handle.begun ≡ Some c → IsHandleCall seats old new stops → new.begun ≡ Some c
+        → new.region ≡ host.handle.region → IsReached bundles seats (record host { pending = stops }) }
     ensures ends { (bundles seats : ℕ) (host : Host) (new : RegionHandleState) (stamp : ℕ) (is : HasEndedDeletion host.handle new stamp)
         → IsReached bundles seats host → host.pending ≡ []
         → IsReached bundles seats (record {
@@ -50,6 +54,13 @@ pub fn law_of_reaching()
     ensures looks { (bundles seats : ℕ) (host : Host) (new : RegionHandleState) (own : List Event) → IsReached bundles seats host
         → host.pending ≡ [] → IsHandleCall seats host.handle new own → ¬ All IsNoLook own
         → IsReached bundles seats (record { handle = new; world = host.world; pending = own }) }
+    ensures reclaims { (bundles seats : ℕ) (host : Host) (new : RegionHandleState) (count : ℕ) (is : HasReclaimed host.handle new count)
+        → IsReached bundles seats host → host.pending ≡ []
+        → IsReached bundles seats (record {
+          handle = record host.handle { region = is.met };
+          world = host.world;
+          pending = meetings host.handle.passes;
+        }) }
     ensures asks { (bundles seats : ℕ) (host : Host) (new : RegionHandleState) → IsReached bundles seats host → new.begun ≡ host.handle.begun
         → new.region ≡ record host.handle.region { made = new.region.made } → IsReached bundles seats (record host { handle = new }) }
     ensures fails { (bundles seats : ℕ) (host : Host) (new : RegionHandleState) → IsReached bundles seats host → ChangesPages host.handle new

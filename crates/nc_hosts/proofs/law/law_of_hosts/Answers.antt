@@ -1,4 +1,4 @@
-use Rattle.nc_hosts.proofs.Concluding.{stands, fetch_whole, frees, memory, stopped, confined}
+use Rattle.nc_hosts.proofs.Concluding.{stands, fetch_whole, frees, lies, views, memory, stopped, confined}
 use Rattle.nc_hosts.proofs.Storing.{stores}
 use Rattle.nc_hosts.proofs.law.law_of_hosts.Goals as goal
 
@@ -10,6 +10,12 @@ returns-clause-whole c = fetch_whole
 
 pub returns-clause-freed : goal.returns-clause-freed
 returns-clause-freed c = frees
+
+pub returns-clause-lies : goal.returns-clause-lies
+returns-clause-lies c = lies
+
+pub returns-clause-views : goal.returns-clause-views
+returns-clause-views c = views
 
 pub returns-clause-memory : goal.returns-clause-memory
 returns-clause-memory c = memory

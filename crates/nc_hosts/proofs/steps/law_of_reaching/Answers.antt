@@ -1,4 +1,4 @@
-use Rattle.nc_hosts.proofs.Going.{makes_next, loads, patches, begins, restarts, ends, looks, asks, fails, runs}
+use Rattle.nc_hosts.proofs.Going.{makes_next, loads, patches, begins, restarts, anew, ends, looks, reclaims, asks, fails, runs}
 use Rattle.nc_hosts.proofs.steps.law_of_reaching.Goals as goal
 
 pub returns-clause-makes : goal.returns-clause-makes
@@ -16,11 +16,17 @@ returns-clause-begins c = begins
 pub returns-clause-restarts : goal.returns-clause-restarts
 returns-clause-restarts c = restarts
 
+pub returns-clause-anew : goal.returns-clause-anew
+returns-clause-anew c = anew
+
 pub returns-clause-ends : goal.returns-clause-ends
 returns-clause-ends c = ends
 
 pub returns-clause-looks : goal.returns-clause-looks
 returns-clause-looks c = looks
+
+pub returns-clause-reclaims : goal.returns-clause-reclaims
+returns-clause-reclaims c = reclaims
 
 pub returns-clause-asks : goal.returns-clause-asks
 returns-clause-asks c = asks
