@@ -34,15 +34,27 @@ def differing(name, sums):
     return said
 
 
+def found(name, built, folder):
+    """What one run of each way doesn't agree on."""
+    try:
+        return differing(name, {way: [made for _, made in run(name, way, one, folder, 1)] for way, one in built.items()})
+    except Fault as fault:
+        return [str(fault)]
+
+
 def same_sums(name, built, folder):
     """Whether one run of each way makes the same. Prints a line."""
-    try:
-        said = differing(name, {way: [made for _, made in run(name, way, one, folder, 1)] for way, one in built.items()})
-    except Fault as fault:
-        said = [str(fault)]
+    said = found(name, built, folder)
     told = "DIFFERS: " + " | ".join(said) if said else "same sums"
     print("%s %s by %s: %s" % (name, PEERS[name].version(), ", ".join(built), told), flush=True)
     return not said
+
+
+def tells(name, built, planted, folder):
+    """Whether a library is told from one with a planted fault. Prints a line."""
+    said = found(name, {"without": built, "with": planted}, folder)
+    print("%s with a fault: %s" % (name, "found" if said else "NOT FOUND"), flush=True)
+    return bool(said)
 
 
 def measured(name, built, folder, passes):

@@ -20,9 +20,11 @@ MET_BY = {
 }
 
 IMPORT = re.compile(r"^\s*(?:ghost |pub )*use Rattle\.(nc_\w+)\.specs\.([\w.]+?)(?:\.\{([^}]*)\}| as (\w+));?", re.M)
+LIBRARY = re.compile(r"^\s*(?:pub )?use (?!Rattle\.nc_)[\w.]+?\.\{([^}]*)\}", re.M)
 START = re.compile(r"^(?:(?:abbrev|unfoldable) )?(?:pub )?(?:(record|data) )?([A-Za-z_][\w']*)(?: |$)")
 TYPE = re.compile(r"^(?:pub(?:\(crate\))? )?(?:struct|enum|const|static) (\w+)")
 WORD = re.compile(r"(?<![\w.])[A-Za-z_][\w']*(?:\.[A-Za-z_][\w']*)*")
+WHOLE = r"(?<![\w.'])%s(?![\w'])"
 LABEL = re.compile(r"(?<=[{;])\s*\w+ =(?= )")
 BOUND = re.compile(r"\(([^():]*) :")
 EQUATION = re.compile(r"^[A-Za-z_][\w']* ([^=:]+) =", re.M)
@@ -36,6 +38,12 @@ def counted(lines):
     return [line for line in kept if line.strip() and not line.strip().startswith("#[")]
 
 
+def is_cited(name, text):
+    """Whether a text has a name, or each part of a sign, in whose name ◌ stands for an argument."""
+    parts = filter(None, name.split("◌"))
+    return all(re.search(WHOLE % part if part.isidentifier() else re.escape(part), text) for part in parts)
+
+
 class File:
     """The definitions of one file, by name, with the comment above each and its place; the comment at its head; and what it imports."""
 
@@ -44,6 +52,7 @@ class File:
         self.crate, self.path, self.parts, self.owner, self.comments, self.places = crate, path, {}, {}, {}, {}
         self.about = " ".join(line.strip("- ") for line in re.match(r"(--.*\n)*", text).group().splitlines())
         (self.cut_types if path.startswith("src/") else self.cut_definitions)(text)
+        self.library = {name for names in LIBRARY.findall(text) for name in map(str.strip, names.split(","))}
         self.imports, self.modules = {}, {}
         for source, module, names, alias in IMPORT.findall(text):
             if alias:
@@ -99,6 +108,11 @@ class File:
         equations = [re.sub(r"\{\w+\} ", "", line).split(" =")[0].split()[1:] for line in lines if line.startswith(name + " ")]
         same = equations and all(words == equations[0] for words in equations) and all(map(NAME.fullmatch, equations[0]))
         return equations[0] if same else []
+
+    def library_names(self, lines):
+        """Whatever these lines cite of the base library."""
+        text = "\n".join(lines)
+        return [name.partition(" ")[0] for name in self.library if is_cited(name.rpartition(" ")[2], text)]
 
     def names(self, lines, but=()):
         """Whatever these lines cite of this project: crate, file and name. A module's short name may also be a variable's."""
