@@ -1,6 +1,5 @@
 /* Boxes on the same memory: a thread compiles, two execute, one deletes; each box has a stack, limits and a kill of its own. */
 #define _GNU_SOURCE
-
 #include "codes.h"
 
 #include <pthread.h>
@@ -8,11 +7,16 @@
 #include <stdio.h>
 #include <stdlib.h>
 #include <string.h>
+#include <sys/mman.h>
+#include <sys/syscall.h>
+#include <time.h>
+#include <unistd.h>
 
 #define MEMORY_LEN 0x200000u
 #define STACK_LEN 0x8000u
 #define RUNNERS 2u
 #define ROUNDS 500u
+#define MEETS 50u
 #define RESTS NCS_CALLBACK(4)
 
 static NcsModule *module;
@@ -148,11 +152,22 @@ static void try_limits(void) {
 
 static int is_over;
 static uint32_t resets;
+static __thread int rests_in_resets;
 
-/* It never yields, so that where processors are few it is mostly interrupted in a reset, and not between two. */
+/* The library empties memory by this call. A thread that resets rests there, so that another one meets its resets on any machine. */
+int madvise(void *at, size_t len, int advice) {
+    const struct timespec a_moment = {0, 20000};
+    if (rests_in_resets) {
+        (void)nanosleep(&a_moment, NULL);
+    }
+    return (int)syscall(SYS_madvise, at, len, advice);
+}
+
 static void *reset_often(void *box) {
+    rests_in_resets = 1;
     while (!__atomic_load_n(&is_over, __ATOMIC_SEQ_CST)) {
         __atomic_fetch_add(&resets, (uint32_t)ncs_reset(box), __ATOMIC_SEQ_CST);
+        (void)sched_yield();
     }
     return NULL;
 }
@@ -164,21 +179,15 @@ static int has_returned(NcsBox *box) {
     return end.how == NCS_RETURNED;
 }
 
-static unsigned processors(void) {
-    cpu_set_t set;
-    return sched_getaffinity(0, sizeof set, &set) == 0 ? (unsigned)CPU_COUNT(&set) : 1;
-}
-
-/* Boxes are made, called and freed beside one that another thread resets. On one processor they hardly ever meet a reset. */
+/* Boxes are made, called and freed beside one that another thread resets. */
 static void try_resets(void) {
     NcsBox *box = new_box(LONG);
-    const uint32_t met = processors() > 1 ? ROUNDS : 0;
     pthread_t thread;
     uint32_t returned = 0, k;
     if (pthread_create(&thread, NULL, reset_often, box) != 0) {
         abort();
     }
-    for (k = 0; k < ROUNDS || returned == 0 || k - returned < met || __atomic_load_n(&resets, __ATOMIC_SEQ_CST) < ROUNDS; k++) {
+    for (k = 0; returned < MEETS || k - returned < MEETS || __atomic_load_n(&resets, __ATOMIC_SEQ_CST) < MEETS; k++) {
         NcsBox *other = ncs_box_beside(box, (NcsAt){MEMORY_LEN}, 2, LONG, NULL);
         returned += (uint32_t)has_returned(other);
         CHECK(ncs_free(other));
