@@ -59,17 +59,17 @@ pub call_stays : (limit seats : ℕ) (before : List Event) (old : Region) (turn 
     → ThreadsMay (world_after (first_world limit seats) before) turn.events
     → KnowsNoMore turn.region.keeper.numbers (world_after (first_world limit seats) (before ++ turn.events)).keeper
     → IsCall seats old turn.region (writers turn.events) → Stays limit seats (before ++ turn.events) turn.region
-call_stays limit seats before old turn s threads found (Creates v valid lim is own) =
+call_stays limit seats before old turn s threads found (Creates v valid lim is made tried own) =
     turn_stays limit seats before turn.events old turn.region s
-    (created limit seats before turn.events old turn.region v s.led s.region valid lim is own threads)
+    (created limit seats before turn.events old turn.region v made s.led s.region valid lim is tried own threads)
     (still_created old turn.region v s.region valid lim is)
-call_stays limit seats before old turn s threads found (Patches at bytes news lawful b is own) =
+call_stays limit seats before old turn s threads found (Patches at bytes news lawful b is made tried own) =
     turn_stays limit seats before turn.events old turn.region s
-    (modified limit seats before turn.events old turn.region at bytes news s.led s.region lawful b is own threads)
+    (modified limit seats before turn.events old turn.region at bytes news made s.led s.region lawful b is tried own threads)
     (still_patched old turn.region at bytes news s.region lawful b is)
-call_stays limit seats before old turn s threads found (Deletes base stamp is made begun own) =
+call_stays limit seats before old turn s threads found (Deletes base stamp is stops made stamped begun own) =
     turn_stays limit seats before turn.events old turn.region s
-    (deleted limit seats before turn.events old turn.region base stamp made s.led s.region is begun own threads)
+    (deleted limit seats before turn.events old turn.region base stamp stops made s.led s.region is stamped begun own threads)
     (still_deleted old turn.region base stamp s.region is)
 call_stays limit seats before old turn s threads found (Reclaims count is own) =
     turn_stays limit seats before turn.events old turn.region s

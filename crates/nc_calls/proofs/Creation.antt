@@ -1,7 +1,6 @@
 -- The acts of a creation are allowed events.
-use Rattle.std.proofs.Common.{◌≡◌, ◌≢◌, ℕ, ◌+◌, ◌-◌, ◌%◌, ◌<◌, ◌≤◌, ◌⊎◌, All, List, [], ◌∷◌, ◌++◌, length, get_or, set, take, drop}
+use Rattle.std.proofs.Common.{◌≡◌, ◌≢◌, ℕ, ◌+◌, ◌-◌, ◌%◌, ◌<◌, ◌≤◌, ◌⊎◌, All, List, [], ◌∷◌, length, get_or, set, take, drop}
 use Rattle.std.proofs.Common.{true, None, Some, inl, inr, arith, refl, ◌∙◌, sym, ap, subst}
-use Rattle.std.specs.Prelude.{Contains}
 use Rattle.std.specs.List.{insert}
 use Rattle.std.proofs.lemmas.Bool.{false≢true}
 use Rattle.std.proofs.lemmas.Bool.Decides.{eqb_tells}
@@ -18,27 +17,21 @@ use Rattle.nc_vet.specs.Chunk.{MarkedChunk, IsValid}
 use Rattle.nc_list.specs.declared.chunk.Chunk.{Chunk}
 use Rattle.nc_region.specs.schedules.Spans.{RetiredSpan, IsShut}
 use Rattle.nc_region.specs.schedules.World.{World}
-use Rattle.nc_region.specs.schedules.Events.{Event, Marks, Serializes}
+use Rattle.nc_region.specs.schedules.Events.{Marks}
 use Rattle.nc_region.proofs.Offered.{Keeps, only_as_it_stands}
-use Rattle.nc_acts.specs.declared.acts.Act.TheVariants.{MarkSpan}
-use Rattle.nc_acts.specs.Acts.{is_inside, is_start, puts_where}
+use Rattle.nc_acts.specs.Acts.{is_inside, is_start}
 use Rattle.nc_acts.specs.Chunks.{HasGoodSpan, IsClosedChunk, IsUnused, with_chunk}
-use Rattle.nc_text.specs.Puts.{HasPut}
 use Rattle.nc_acts.proofs.Offered.{byte_at_other}
 use Rattle.nc_region.specs.Region.{IsRegion, FitsAt, live_chunk}
-use Rattle.nc_region.proofs.Offered.{IsFinalBut, final_all, final_but_starts, each_map, each_append, unused_if_apart, region_with_chunk, some_same}
+use Rattle.nc_region.proofs.Offered.{IsFinalBut, each_map, each_append, unused_if_apart, region_with_chunk, some_same}
 use Rattle.nc_region.proofs.Offered.{Joins, chunk_joins, chunk_keeps, valid_chunk_is_closed, Before, Within, Behind}
-use Rattle.nc_region.proofs.Offered.{place_of, unused_is_start, unused_at_start, is_inside_false, is_start_false, start_or_not, span_within, before_span}
-use Rattle.nc_calls.specs.Calls.{no_details, create_events}
+use Rattle.nc_region.proofs.Offered.{place_of, unused_is_start, unused_at_start, is_inside_false, start_or_not, before_span}
 use Rattle.nc_calls.specs.Views.{ViewsKeep, IsFree}
-use Rattle.nc_calls.proofs.Entries.{events_of, create_is}
 use Rattle.nc_calls.proofs.Good.{text_of, Good, KeepsInstruction, good_by_places, stop_ends}
 use Rattle.nc_calls.proofs.OnePut.{good_put_unread, byte_there}
-use Rattle.nc_calls.proofs.PutsWhole.{put_in_both, whole_put_unread, whole_put_marked}
+use Rattle.nc_calls.proofs.PutsWhole.{put_in_both, whole_put_unread, whole_put_marked, whole_put_same}
 use Rattle.nc_calls.proofs.StaysWhole.{PutsWhole, whole_serialized}
-use Rattle.nc_calls.proofs.Parting.{Kept, region_good, region_stopped}
-use Rattle.nc_calls.proofs.Putting.{with_text, serialized, Views, Leads, Reaches, leads_one, leads_more, serialization_leads, serialized_views, MayLay, lay_all}
-use Rattle.nc_calls.proofs.RetiredSpans.{AreSpansOf, retired_insert}
+use Rattle.nc_calls.proofs.Putting.{serialized, Views, Leads, leads_one, MayLay}
 
 -- every view is good where a call begins
 pub start_good : (w : World) (chunks : List Chunk) → Keeps w → ViewsKeep w chunks
@@ -57,9 +50,9 @@ in_one_bundle text marks now i closed m is =
 -- ---- the bytes that are no bundle starts
 
 -- the text is good, and stops stand at the bundle starts of the span
-record Filling (w : World) (base len : ℕ) (view : List ℕ) : Type 0 where
-  good : Good view w.marked.marks w.retired
-  stops : (at : ℕ) → base ≤ at → at < base + len → IsBundleStart at → byte_at view at ≡ 244
+pub record Filling (w : World) (base len : ℕ) (view : List ℕ) : Type 0 where
+  pub good : Good view w.marked.marks w.retired
+  pub stops : (at : ℕ) → base ≤ at → at < base + len → IsBundleStart at → byte_at view at ≡ 244
 
 -- while the span is filled, no instruction has a place of it that is no bundle start
 filling_clear : (w : World) (base len : ℕ) (view : List ℕ) (at : ℕ) → HasGoodSpan base (limit_of w.marked.bytes) len
@@ -85,7 +78,7 @@ filling_clear w base len view at placed unused f low high not now i k m is lt sa
     zero_more n k e = omega (arith, e)
 
 -- all but the bundle starts may be put
-may_lay_inside : (w : World) (base : ℕ) (code : List ℕ) → HasGoodSpan base (limit_of w.marked.bytes) (length code)
+pub may_lay_inside : (w : World) (base : ℕ) (code : List ℕ) → HasGoodSpan base (limit_of w.marked.bytes) (length code)
     → IsUnused w.marked base (length code) → MayLay w is_inside base code (Filling w base (length code))
 may_lay_inside w base code placed unused =
     record {
@@ -116,7 +109,7 @@ fits_free chunks base len k at fit low high =
     (each_map (λ (c : Chunk). base + len ≤ c.base) _ (λ c h live inside. omega (arith, h, inside.0, high)) (drop k chunks) fit.2))
 
 -- where a creation begins, each view is as while its span is filled (`Filling`)
-start_filling : (w : World) (chunks : List Chunk) (base len k : ℕ) → Keeps w → ViewsKeep w chunks → IsUnused w.marked base len
+pub start_filling : (w : World) (chunks : List Chunk) (base len k : ℕ) → Keeps w → ViewsKeep w chunks → IsUnused w.marked base len
     → 65536 ≤ base → FitsAt base len chunks k → Views (Filling w base len) w.marked.bytes w.earlier
 start_filling w chunks base len k keeps views unused above fit = λ view v.
     record {
@@ -132,12 +125,12 @@ start_filling w chunks base len k keeps views unused above fit = λ view v.
 -- ---- the bundle starts
 
 -- the text is the final one, but for stops at bundle starts
-record IsNearly (final view : List ℕ) : Type 0 where
-  as_long : length view ≡ length final
-  each : (at : ℕ) → 65536 ≤ at → (byte_at view at ≡ byte_at final at) ⊎ ((byte_at view at ≡ 244) × IsBundleStart at)
+pub record IsNearly (final view : List ℕ) : Type 0 where
+  pub as_long : length view ≡ length final
+  pub each : (at : ℕ) → 65536 ≤ at → (byte_at view at ≡ byte_at final at) ⊎ ((byte_at view at ≡ 244) × IsBundleStart at)
 
 -- a text that is a good final one, but for stops at bundle starts, is good
-nearly_good : (final view : List ℕ) (marks : List Mark) (spans : List RetiredSpan) → Good final marks spans → IsNearly final view
+pub nearly_good : (final view : List ℕ) (marks : List Mark) (spans : List RetiredSpan) → Good final marks spans → IsNearly final view
     → Good view marks spans
 nearly_good final view marks spans good n =
     good_by_places final view marks spans good n.as_long (λ now m.
@@ -157,7 +150,7 @@ nearly_good final view marks spans good n =
         ]
 
 -- the text without the bundle starts is nearly the final one
-nearly_first : (final mid : List ℕ) (base len : ℕ) → IsFinalBut final mid base (base + len) → IsNearly final mid
+pub nearly_first : (final mid : List ℕ) (base len : ℕ) → IsFinalBut final mid base (base + len) → IsNearly final mid
 nearly_first final mid base len f =
     record {
       as_long = f.as_long;
@@ -225,56 +218,54 @@ whole_start w final view text at byte good inside within start is n t =
           (omega (arith, inside.0)) (λ other. omega (arith, other, start, bundle, lt, some.1))
     ])
 
+-- the final text has a chunk's bytes in its span
+abbrev pub HasCode : List ℕ → ℕ → List ℕ → Type 0
+HasCode final base code = (at : ℕ) → base ≤ at → at < base + length code → get_or code (at - base) 0 ≡ byte_at final at
+
+-- a byte of the chunk stands in the final text
+code_there : (final : List ℕ) (base : ℕ) (code : List ℕ) → HasCode final base code → (count : ℕ) → count < length code
+    → get_or code count 0 ≡ byte_at final (base + count)
+code_there final base code has count lt =
+    let e : base + count - base ≡ count = omega arith in
+    ap (λ (n : ℕ). get_or code n 0) (sym e) ∙ has (base + count) (omega arith) (omega (arith, lt))
+
 -- the bundle starts may be put
-may_lay_starts : (w : World) (final : List ℕ) (base : ℕ) (code : List ℕ) → 65536 ≤ base → Good final w.marked.marks w.retired
-    → ((at : ℕ) → base ≤ at → at < base + length code → get_or code (at - base) 0 ≡ byte_at final at)
-    → MayLay w is_start base code (IsNearly final)
-may_lay_starts w final base code above good code_is =
+pub may_lay_starts : (w : World) (final : List ℕ) (base : ℕ) (code : List ℕ) → 65536 ≤ base → Good final w.marked.marks w.retired
+    → HasCode final base code → MayLay w is_start base code (IsNearly final)
+may_lay_starts w final base code above good has =
     record {
       low = above;
       good = λ view n. nearly_good final view w.marked.marks w.retired good n;
       put = λ view count lt chosen inside n.
-          nearly_put final view (base + count) (get_or code count 0) inside (byte_is count lt) n;
+          nearly_put final view (base + count) (get_or code count 0) inside (code_there final base code has count lt) n;
       whole = λ view text count lt chosen inside within n t.
           whole_start w final view text (base + count) (get_or code count 0) good inside within (start_is (base + count) chosen)
-          (byte_is count lt) n t;
+          (code_there final base code has count lt) n t;
     }
   where
-    byte_is : (count : ℕ) → count < length code → get_or code count 0 ≡ byte_at final (base + count)
-    byte_is count lt =
-        let e : base + count - base ≡ count = omega arith in
-        ap (λ (n : ℕ). get_or code n 0) (sym e) ∙ code_is (base + count) (omega arith) (omega (arith, lt))
-
     start_is : (at : ℕ) → is_start at ≡ true → IsBundleStart at
     start_is at chosen = elim (start_or_not at) [ inl start ↦ start.1 | inr inside ↦ absurd (false≢true (sym inside.0 ∙ chosen)) ]
 
--- some of the bundle starts put over a text that lacks them all
-final_from_puts : (final mid now : List ℕ) (base : ℕ) (bytes : List ℕ) (count : ℕ) → count ≤ length bytes
-    → ((at : ℕ) → base ≤ at → at < base + length bytes → get_or bytes (at - base) 0 ≡ byte_at final at)
-    → IsFinalBut final mid base (base + length bytes) → HasPut is_start base bytes count mid now
-    → IsFinalBut final now (base + count) (base + length bytes)
-final_from_puts final mid now base bytes count le code f has =
+-- all but the bundle starts may be put again
+pub may_lay_again : (w : World) (final : List ℕ) (base : ℕ) (code : List ℕ) → 65536 ≤ base → Good final w.marked.marks w.retired
+    → HasCode final base code → MayLay w is_inside base code (IsNearly final)
+may_lay_again w final base code above good has =
     record {
-      as_long = has.as_long ∙ f.as_long;
-      stops = λ at a b start. has.above at a ∙ f.stops at (omega arith) b start;
-      before = λ at low lt.
-          elim (place_of base count at) [
-            | Before l ↦ has.below at low l ∙ f.before at low l
-            | Within a b ↦
-                elim (start_or_not at) [
-                  | inl start ↦ has.put at a b start.0 ∙ code at a (omega (arith, b, le))
-                  | inr inside ↦ has.passed at a inside.0 ∙ f.inside at low inside.1
-                ]
-            | Behind p ↦ absurd (omega (arith, p, lt))
-          ];
-      behind = λ at past. has.above at (omega (arith, past, le)) ∙ f.behind at past;
-      inside = λ at low not.
-          elim (place_of base count at) [
-            | Before l ↦ has.below at low l ∙ f.inside at low not
-            | Within a b ↦ has.passed at a (is_start_false at not) ∙ f.inside at low not
-            | Behind p ↦ has.passed at (omega (arith, p)) (is_start_false at not) ∙ f.inside at low not
-          ];
+      low = above;
+      good = λ view n. nearly_good final view w.marked.marks w.retired good n;
+      put = λ view count lt chosen inside n.
+          nearly_put final view (base + count) (get_or code count 0) inside (code_there final base code has count lt) n;
+      whole = λ view text count lt chosen inside within n t.
+          whole_put_same w.marked.marks view text (base + count) (get_or code count 0)
+          (stands view (base + count) chosen inside.0 n ∙ sym (code_there final base code has count lt));
     }
+  where
+    stands : (view : List ℕ) (at : ℕ) → is_inside at ≡ true → 65536 ≤ at → IsNearly final view → byte_at view at ≡ byte_at final at
+    stands view at chosen low n =
+        elim (n.each at low) [
+          | inl same ↦ same
+          | inr stop ↦ absurd (false≢true (sym (is_inside_false at stop.1) ∙ chosen))
+        ]
 
 -- a text with a chunk that joins it is a text (`IsText`)
 final_text : (marked : MarkedText) (base : ℕ) (code : List ℕ) (marks : List Mark) → IsText marked → Joins marked base code marks
@@ -292,7 +283,7 @@ final_text marked base code marks whole j =
     }
 
 -- a valid chunk fits into a region's text
-chunk_fits : (marked : MarkedText) (chunks : List Chunk) (v : MarkedChunk) (k : ℕ) → IsRegion marked chunks → IsValid v
+pub chunk_fits : (marked : MarkedText) (chunks : List Chunk) (v : MarkedChunk) (k : ℕ) → IsRegion marked chunks → IsValid v
     → v.limit ≡ limit_of marked.bytes → FitsAt v.base (length v.code) chunks k → Joins marked v.base v.code v.marks
 chunk_fits marked chunks v k region valid limit fit =
     let chunk : IsClosedChunk v.base (limit_of marked.bytes) v.code v.marks =
@@ -327,19 +318,19 @@ created_region marked chunks v k region valid limit fit =
     tt (final_text marked v.base v.code v.marks region.whole j)
 
 -- what is known where a chunk is created in a world
-record Creates (w : World) (chunks : List Chunk) (k base : ℕ) (code : List ℕ) (marks : List Mark) : Type 0 where
-  keeps : Keeps w
-  views : ViewsKeep w chunks
-  fit : FitsAt base (length code) chunks k
-  joins : Joins w.marked base code marks
-  final : Good (with_chunk w.marked base code marks).bytes (with_chunk w.marked base code marks).marks w.retired
+pub record Creates (w : World) (chunks : List Chunk) (k base : ℕ) (code : List ℕ) (marks : List Mark) : Type 0 where
+  pub keeps : Keeps w
+  pub views : ViewsKeep w chunks
+  pub fit : FitsAt base (length code) chunks k
+  pub joins : Joins w.marked base code marks
+  pub final : Good (with_chunk w.marked base code marks).bytes (with_chunk w.marked base code marks).marks w.retired
 
 -- the world in which the chunk is marked and its bundle starts aren't put
-abbrev marked_world : World → ℕ → List ℕ → List Mark → List ℕ → World
+abbrev pub marked_world : World → ℕ → List ℕ → List Mark → List ℕ → World
 marked_world w base code marks mid = record (serialized w mid) { marked = text_of mid (with_chunk w.marked base code marks).marks }
 
 -- the marks may be set
-marking_leads : (w : World) (chunks : List Chunk) (k base : ℕ) (code : List ℕ) (marks : List Mark) (mid : List ℕ)
+pub marking_leads : (w : World) (chunks : List Chunk) (k base : ℕ) (code : List ℕ) (marks : List Mark) (mid : List ℕ)
     → Creates w chunks k base code marks → length mid ≡ length w.marked.bytes
     → IsNearly (with_chunk w.marked base code marks).bytes mid
     → Leads (serialized w mid) (Marks base marks ∷ []) (marked_world w base code marks mid)
@@ -354,77 +345,3 @@ marking_leads w chunks k base code marks mid c long nearly =
           × All (IsShut z (with_chunk w.marked base code marks).marks) w.retired) (sym (only_as_it_stands mid view v)) (good.closed, good.shut),
     )
     (λ whole. whole_serialized (with_chunk w.marked base code marks).marks mid)
-
--- the chunk's acts lead to the text with the chunk, and every view is nearly that text
-creation_leads : (w : World) (chunks : List Chunk) (k base : ℕ) (code : List ℕ) (marks : List Mark) → Creates w chunks k base code marks
-    → Reaches w (events_of (record no_details { marks = marks }) (puts_where is_inside base code)
-    ++ (Serializes ∷ events_of (record no_details { marks = marks }) (MarkSpan base (length code) ∷ puts_where is_start base code)))
-    (record w { marked = with_chunk w.marked base code marks }) (IsNearly (with_chunk w.marked base code marks).bytes)
-creation_leads w chunks k base code marks c =
-    let placed = c.joins.chunk.placed in
-    let final = (with_chunk w.marked base code marks).bytes in
-    let fits : base + length code ≤ 65536 + length w.marked.bytes = omega (arith, placed.high) in
-    let a = lay_all w (record no_details { marks = marks }) is_inside base code w.marked.bytes w.earlier
-    (Filling w base (length code)) (may_lay_inside w base code placed c.joins.unused) fits
-    (start_filling w chunks base (length code) k c.keeps c.views c.joins.unused placed.low c.fit) in
-    let first = final_but_starts w.marked a.bytes base code placed c.joins.unused a.has in
-    let nearly : IsNearly (with_chunk w.marked base code marks).bytes a.bytes =
-    nearly_first (with_chunk w.marked base code marks).bytes a.bytes base (length code) first in
-    let code_is : (at : ℕ) → base ≤ at → at < base + length code → get_or code (at - base) 0 ≡ byte_at
-    (with_chunk w.marked base code marks).bytes at = λ at low high. sym
-    (span_within w.marked.bytes base code at 0 placed.low fits low high) in
-    let w2 = marked_world w base code marks a.bytes in
-    let b = lay_all (marked_world w base code marks a.bytes) (record no_details { marks = marks }) is_start base code a.bytes []
-    (IsNearly (with_chunk w.marked base code marks).bytes)
-    (may_lay_starts (marked_world w base code marks a.bytes) (with_chunk w.marked base code marks).bytes base code placed.low c.final code_is)
-    (omega (arith, fits, a.has.as_long)) (serialized_views (IsNearly (with_chunk w.marked base code marks).bytes) a.bytes nearly) in
-    let same : b.bytes ≡ (with_chunk w.marked base code marks).bytes =
-    final_all (with_chunk w.marked base code marks).bytes b.bytes (base + length code)
-    (final_from_puts (with_chunk w.marked base code marks).bytes a.bytes b.bytes base code (length code)
-    (omega arith) code_is first b.has) in
-    let last : Leads (marked_world w base code marks a.bytes)
-    (events_of (record no_details { marks = marks }) (puts_where is_start base code))
-    (record w { marked = with_chunk w.marked base code marks; earlier = b.earlier }) =
-    subst (λ (z : List ℕ). Leads (marked_world w base code marks a.bytes)
-    (events_of (record no_details { marks = marks }) (puts_where is_start base code))
-    (record w { marked = text_of z (with_chunk w.marked base code marks).marks; earlier = b.earlier })) same b.leads in
-    record {
-      earlier = b.earlier;
-      leads =
-          leads_more w (with_text w a.bytes a.earlier) (record w { marked = with_chunk w.marked base code marks; earlier = b.earlier }) _ _
-          a.leads
-          (leads_more (with_text w a.bytes a.earlier) (serialized w a.bytes)
-          (record w { marked = with_chunk w.marked base code marks; earlier = b.earlier }) (Serializes ∷ []) _
-          (serialization_leads w a.bytes a.earlier)
-          (leads_more (serialized w a.bytes) (marked_world w base code marks a.bytes)
-          (record w { marked = with_chunk w.marked base code marks; earlier = b.earlier }) (Marks base marks ∷ []) _
-          (marking_leads w chunks k base code marks a.bytes c a.has.as_long nearly) last));
-      views = subst (λ (z : List ℕ). Views (IsNearly (with_chunk w.marked base code marks).bytes) z b.earlier) same b.views;
-    }
-
--- a valid chunk is created in a world that has a region's text and spans
-pub create_leads : (w : World) (chunks : List Chunk) (v : MarkedChunk) (k : ℕ) → Keeps w → ViewsKeep w chunks → IsRegion w.marked chunks
-    → AreSpansOf w.retired chunks → IsValid v → v.limit ≡ limit_of w.marked.bytes → FitsAt v.base (length v.code) chunks k
-    → Reaches w (create_events v) (record w { marked = with_chunk w.marked v.base v.code v.marks })
-    (Kept (with_chunk w.marked v.base v.code v.marks).marks (insert chunks k (live_chunk v)))
-create_leads w chunks v k keeps views region are valid limit fit =
-    let j = chunk_fits w.marked chunks v k region valid limit fit in
-    let after = created_region w.marked chunks v k region valid limit fit in
-    let final = region_good (with_chunk w.marked v.base v.code v.marks) (insert chunks k (live_chunk v)) w.retired after
-    (λ span has. subst (λ (z : List RetiredSpan). Contains z span) (sym (retired_insert chunks k (live_chunk v) tt)) (are span has)) in
-    let stopped = region_stopped (with_chunk w.marked v.base v.code v.marks) (insert chunks k (live_chunk v)) after in
-    let r = creation_leads w chunks k v.base v.code v.marks
-    (record { keeps = keeps; views = views; fit = fit; joins = j; final = final }) in
-    record {
-      earlier = r.earlier;
-      leads = subst (λ (z : List Event). Leads w z (record w { marked = with_chunk w.marked v.base v.code v.marks; earlier = r.earlier }))
-          (sym (create_is v)) r.leads;
-      views = λ view is.
-          let n = r.views view is in
-          record {
-            parted = (nearly_good (with_chunk w.marked v.base v.code v.marks).bytes view
-                (with_chunk w.marked v.base v.code v.marks).marks w.retired final n).parted;
-            stopped = λ now m free.
-                elim (n.each now.place m.0) [ inl same ↦ same ∙ stopped now m free | inr stop ↦ stop.0 ];
-          };
-    }

@@ -60,6 +60,20 @@ delete_is marks base len =
     (puts_where (is_marked_at marks) base (replicate len 244)) ++ (Serializes ∷ z))
     (acts_then (record no_details { base = base; len = len }) (puts_where (is_unmarked_at marks) base (replicate len 244)) (Did Bump ∷ []))
 
+-- the events of a deletion up to its stamp
+abbrev pub stops_of : List Mark → ℕ → ℕ → List Event
+stops_of marks base len =
+    events_of (record no_details { base = base; len = len }) (puts_where (is_marked_at marks) base (replicate len 244))
+    ++ (Serializes ∷ events_of (record no_details { base = base; len = len }) (puts_where (is_unmarked_at marks) base (replicate len 244)))
+
+-- the events of a deletion are those up to its stamp, and the stamp
+pub stops_then : (marks : List Mark) (base len : ℕ) → stops_of marks base len ++ Retires base len ∷ [] ≡ delete_events marks base len
+stops_then marks base len =
+    append_assoc (events_of (record no_details { base = base; len = len }) (puts_where (is_marked_at marks) base (replicate len 244)))
+    (Serializes ∷ events_of (record no_details { base = base; len = len }) (puts_where (is_unmarked_at marks) base (replicate len 244)))
+    (Retires base len ∷ [])
+    ∙ sym (delete_is marks base len)
+
 -- one instruction of a patch
 abbrev pub instruction_events : ℕ → List ℕ → List Event
 instruction_events at [] = []

@@ -54,7 +54,7 @@ step_back old text marks now next closed long m kept step =
     step_of old now next e.i e.inside e.is (subst (λ (limit : ℕ). Leads limit e.i now next) (ap (λ (n : ℕ). 65536 + n) long) leads)
 
 -- a stop that stayed is one still
-stop_stays : (old text : List ℕ) (marks : List Mark) (now : State) → IsClosed old marks → IsMarked marks now
+pub stop_stays : (old text : List ℕ) (marks : List Mark) (now : State) → IsClosed old marks → IsMarked marks now
     → KeepsInstruction old text now.place → byte_at old now.place ≡ 244 → byte_at text now.place ≡ 244
 stop_stays old text marks now closed m kept stop =
     let e = executes old now m.0 (closed.safe now m) in

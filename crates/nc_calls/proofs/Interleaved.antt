@@ -1,26 +1,51 @@
 -- Events of threads between those of the writer.
-use Rattle.std.proofs.Common.{◌≡◌, true, List, [], ◌∷◌, refl, ◌∙◌, sym, ap, subst}
+use Rattle.std.proofs.Common.{◌≡◌, true, List, [], ◌∷◌, ◌++◌, refl, ◌∙◌, sym, ap, subst}
 use Rattle.std.specs.Prelude.{⊤}
 use Rattle.nc_region.specs.schedules.World.{World, Seat}
 use Rattle.nc_region.specs.schedules.Events.{Event, Steps, Enters, Exits, Takes, Sees, Stores, Leaves, Puts, Serializes, Marks, Bumps, Retires, Frees}
 use Rattle.nc_region.specs.schedules.Events.{Looks}
 use Rattle.nc_region.specs.schedules.Events.{IsAllowed, after, world_after, AreAllowed}
 use Rattle.nc_calls.specs.Interleaving.{is_writers, writers, ThreadsMay}
+use Rattle.nc_calls.specs.Histories.{AreAttempts, NoneYet, OneMore}
 use Rattle.nc_calls.proofs.StaysWhole.{StaysWhole, whole_first}
 
 -- the world with these seats
 abbrev pub seated : World → List Seat → World
 seated w seats = record w { seats = seats }
 
--- each of the events is a put, a serialization or a marking, or raises the generation
+-- the event is a put, a serialization or a marking, or raises the generation
+abbrev pub IsPlain : Event → Type 0
+IsPlain (Puts at byte) = ⊤
+IsPlain Serializes = ⊤
+IsPlain (Marks at marks) = ⊤
+IsPlain Bumps = ⊤
+IsPlain (Retires base len) = ⊤
+IsPlain event = ⊥
+
+-- each of the events is plain
 abbrev pub ArePlain : List Event → Type 0
 ArePlain [] = ⊤
-ArePlain (Puts at byte ∷ events) = ArePlain events
-ArePlain (Serializes ∷ events) = ArePlain events
-ArePlain (Marks at marks ∷ events) = ArePlain events
-ArePlain (Bumps ∷ events) = ArePlain events
-ArePlain (Retires base len ∷ events) = ArePlain events
-ArePlain (event ∷ events) = ⊥
+ArePlain (event ∷ events) = IsPlain event × ArePlain events
+
+-- the first of some plain events are plain
+pub plain_front : (events later : List Event) → ArePlain (events ++ later) → ArePlain events
+plain_front [] later plain = tt
+plain_front (event ∷ events) later plain = (plain.0, plain_front events later plain.1)
+
+-- plain events before others
+plain_append : (events later : List Event) → ArePlain events → ArePlain later → ArePlain (events ++ later)
+plain_append [] later first plain = plain
+plain_append (event ∷ events) later first plain = (first.0, plain_append events later first.1 plain)
+
+-- attempts at plain events are plain
+pub plain_attempts : (events made : List Event) → AreAttempts events made → ArePlain events → ArePlain made
+plain_attempts events [] NoneYet plain = tt
+plain_attempts events _ (OneMore {earlier} first part rest same) plain =
+    plain_append earlier part (plain_attempts events earlier first plain) (plain_front part rest (subst ArePlain (sym same) plain))
+
+-- attempts at plain events are plain before plain ones
+pub plain_again : (events made later : List Event) → AreAttempts events made → ArePlain events → ArePlain later → ArePlain (made ++ later)
+plain_again events made later attempts plain more = plain_append made later (plain_attempts events made attempts plain) more
 
 -- Events that are allowed, and after which the world is the one that the writer's events leave, but for the seats. If what views have at
 -- marked places stood there whole after each of the writer's events, it did after every event.
@@ -80,16 +105,16 @@ interleave w seats (Leaves k ∷ events) plain allowed threads =
     thread_more w seats _ (Leaves k) events (threads.0 refl) refl refl (interleave w _ events plain allowed threads.1)
 interleave w seats (Puts at byte ∷ events) plain allowed threads =
     writer_more w seats (Puts at byte) events refl allowed.0 refl refl
-    (interleave (after w (Puts at byte)) seats events plain allowed.1 threads.1)
+    (interleave (after w (Puts at byte)) seats events plain.1 allowed.1 threads.1)
 interleave w seats (Serializes ∷ events) plain allowed threads =
-    writer_more w seats Serializes events refl allowed.0 refl refl (interleave (after w Serializes) seats events plain allowed.1 threads.1)
+    writer_more w seats Serializes events refl allowed.0 refl refl (interleave (after w Serializes) seats events plain.1 allowed.1 threads.1)
 interleave w seats (Marks at marks ∷ events) plain allowed threads =
     writer_more w seats (Marks at marks) events refl allowed.0 refl refl
-    (interleave (after w (Marks at marks)) seats events plain allowed.1 threads.1)
+    (interleave (after w (Marks at marks)) seats events plain.1 allowed.1 threads.1)
 interleave w seats (Bumps ∷ events) plain allowed threads =
-    writer_more w seats Bumps events refl allowed.0 refl refl (interleave (after w Bumps) seats events plain allowed.1 threads.1)
+    writer_more w seats Bumps events refl allowed.0 refl refl (interleave (after w Bumps) seats events plain.1 allowed.1 threads.1)
 interleave w seats (Retires base len ∷ events) plain allowed threads =
     writer_more w seats (Retires base len) events refl allowed.0 refl refl
-    (interleave (after w (Retires base len)) seats events plain allowed.1 threads.1)
-interleave w seats (Frees span ∷ events) plain allowed threads = absurd plain
-interleave w seats (Looks k ∷ events) plain allowed threads = absurd plain
+    (interleave (after w (Retires base len)) seats events plain.1 allowed.1 threads.1)
+interleave w seats (Frees span ∷ events) plain allowed threads = absurd plain.0
+interleave w seats (Looks k ∷ events) plain allowed threads = absurd plain.0

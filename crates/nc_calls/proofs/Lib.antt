@@ -8,10 +8,16 @@ pub mod Interleaved
 pub mod Entries
 pub mod Turning
 pub mod Putting
+pub mod Fronts
 pub mod Creation
+pub mod CreationAgain
 pub mod Deletion
 pub mod Attempts
 pub mod Patching
+pub mod Between
+pub mod Agreeing
+pub mod PatchAgain
+pub mod Trying
 pub mod Knowing
 pub mod OneMoreCall
 pub mod Modified

@@ -22,6 +22,7 @@ use Rattle.nc_calls.specs.Interleaving.{IsKeepers}
 use Rattle.nc_calls.specs.Calls.{Details, no_details, events_of_log}
 use Rattle.nc_calls.specs.Histories.{IsRefusal, OfCreation, OfPatch, OfDeletion, LogsRefusal}
 use Rattle.nc_calls.specs.Histories.{NoneYet, IsCall, Creates, Patches, Deletes, Reclaims, UsesKeeper, Refuses, Keeps, LogsCall}
+use Rattle.nc_calls.proofs.Entries.{stops_of, stops_then}
 use Rattle.nc_calls.proofs.Refusals.{same_but_pages, refusal_same}
 
 -- a call whose events are those of its log
@@ -55,7 +56,8 @@ pub creates : {T E : Type 0} (answer : Result T E) (seats : ℕ) (old new : Regi
     → OnOk answer ((v.limit ≡ limit_of old.marked.bytes) × ¬ Meets v.base (length v.code) old.chunks)
     → OnOk answer (LogsCall seats (record no_details { marks = v.marks }) old new)
 creates (Ok x) seats old new v valid is log free =
-    logs_call seats (record no_details { marks = v.marks }) old new (log_of_create v.base v.code) log (Creates v valid free.0 is refl)
+    logs_call seats (record no_details { marks = v.marks }) old new (log_of_create v.base v.code) log
+    (Creates v valid free.0 is [] NoneYet refl)
 creates (Err e) seats old new v valid is log free = tt
 
 -- a refused creation is logged as a refusal and as a call
@@ -74,7 +76,7 @@ pub patches : {T E : Type 0} (answer : Result T E) (seats : ℕ) (old new : Regi
 patches (Ok x) seats old new at bytes lawful is log same =
     let run = lawful.1.2.0.run in
     logs_call seats no_details old new (log_of_modify old.marked.bytes at run.news) (log run.news run.bytes)
-    (Patches at bytes run.news lawful run.bytes is refl)
+    (Patches at bytes run.news lawful run.bytes is [] NoneYet refl)
 patches (Err e) seats old new at bytes lawful is log same = keeps_logged seats old new same
 
 -- a refused patch is logged as a refusal
@@ -93,7 +95,8 @@ deletes (Ok stamp) seats old new base is =
       (is.index, there.0, there.1),
       is.base_is,
       logs_call seats (record no_details { base = base; len = is.chunk.length }) old new
-          (log_of_delete old.marked.marks base is.chunk.length) is.log (Deletes base stamp is [] NoneYet refl),
+          (log_of_delete old.marked.marks base is.chunk.length) is.log
+          (Deletes base stamp is (stops_of old.marked.marks base is.chunk.length) [] (stops_then old.marked.marks base is.chunk.length) NoneYet refl),
     )
 deletes (Err e) seats old new base is = tt
 

@@ -2,6 +2,8 @@
 -- to. The other files are private.
 pub use Rattle.nc_calls.proofs.Attempts.{IsPart, OfMarked, OfOthers, is_part}
 pub use Rattle.nc_calls.proofs.Entries.{events_of, log_append}
+pub use Rattle.nc_calls.proofs.Fronts.{AreFirstPuts}
+pub use Rattle.nc_calls.proofs.Trying.{attempts_again, attempts_none}
 pub use Rattle.nc_calls.proofs.OneMoreCall.{Grows, goes_on, created, deleted}
 pub use Rattle.nc_calls.proofs.Modified.{modified}
 pub use Rattle.nc_calls.proofs.Reclaimed.{reclaimed}

@@ -1,6 +1,6 @@
 -- Schedules that have led to a region, and one call more.
 use Rattle.std.proofs.Common.{◌≡◌, ℕ, ◌+◌, ◌-◌, ◌≤◌, Bool, List, [], ◌∷◌, ◌++◌, set, replicate, arith}
-use Rattle.std.proofs.Common.{◌∙◌, sym, ap, subst, append-nil, append_assoc}
+use Rattle.std.proofs.Common.{◌∙◌, sym, ap, subst, append-nil}
 use Rattle.std.specs.Prelude.{Contains, ◌↔◌}
 use Rattle.nc_decode.specs.declared.instruction.Mark.{Mark}
 use Rattle.nc_text.specs.Places.{limit_of}
@@ -22,11 +22,11 @@ use Rattle.nc_region.specs.Region.{Region, IsLive, IsRegion, IsCreated, live_chu
 use Rattle.nc_region.specs.Deletion.{IsDeleted}
 use Rattle.nc_region.proofs.Offered.{same_code, listed_there}
 use Rattle.nc_calls.specs.Interleaving.{writers, ThreadsMay}
-use Rattle.nc_calls.specs.Calls.{KnowsNoMore, StandsFor, HasLedTo, Details, no_details, create_events, delete_events}
-use Rattle.nc_calls.specs.Histories.{AreAttempts, NoneYet, OneMore}
+use Rattle.nc_calls.specs.Calls.{KnowsNoMore, StandsFor, HasLedTo, Details, create_events, delete_events}
+use Rattle.nc_calls.specs.Histories.{AreAttempts}
 use Rattle.nc_calls.specs.Views.{ViewsKeep}
-use Rattle.nc_calls.proofs.Creation.{create_leads}
-use Rattle.nc_calls.proofs.Attempts.{IsPart, OfMarked, OfOthers, is_part, delete_leads}
+use Rattle.nc_calls.proofs.CreationAgain.{create_leads}
+use Rattle.nc_calls.proofs.Attempts.{delete_leads}
 use Rattle.nc_calls.proofs.Deletion.{stopped}
 use Rattle.nc_calls.proofs.Entries.{events_of, create_is, delete_is}
 use Rattle.nc_calls.proofs.Knowing.{knows_raised}
@@ -35,12 +35,12 @@ use Rattle.nc_calls.proofs.Putting.{Leads, Reaches, Views, leads_none}
 use Rattle.nc_calls.proofs.RetiredSpans.{retired_insert, same_spans_retired}
 use Rattle.nc_calls.proofs.Turning.{puts_keep}
 use Rattle.nc_calls.proofs.StaysWhole.{IsWholeIn, StaysWhole}
-use Rattle.nc_calls.proofs.Interleaved.{ArePlain, interleave, seated}
+use Rattle.nc_calls.proofs.Interleaved.{ArePlain, plain_front, plain_again, interleave, seated}
 
 -- puts before plain events are plain with them
 pub plain_puts : (d : Details) (chosen : ℕ → Bool) (at : ℕ) (bytes : List ℕ) (more : List Event) → ArePlain more
     → ArePlain (events_of d (puts_where chosen at bytes) ++ more)
-plain_puts = puts_keep ArePlain (λ at byte more plain. plain) (λ more plain. plain)
+plain_puts = puts_keep ArePlain (λ at byte more plain. (tt, plain)) (λ more plain. (tt, plain))
 
 -- the events of a creation are plain
 create_plain : (v : MarkedChunk) → ArePlain (create_events v)
@@ -50,10 +50,15 @@ create_plain v =
     subst ArePlain (sym (create_is v))
     (plain_puts d is_inside v.base v.code
     (Serializes ∷ Marks v.base v.marks ∷ events_of (record { marks = v.marks; base = 0; len = 0; seats = 0; spans = [] })
-    (puts_where is_start v.base v.code))
-    (subst ArePlain (append-nil (events_of (record { marks = v.marks; base = 0; len = 0; seats = 0; spans = [] })
-    (puts_where is_start v.base v.code)))
-    (plain_puts (record { marks = v.marks; base = 0; len = 0; seats = 0; spans = [] }) is_start v.base v.code [] tt)))
+    (puts_where is_start v.base v.code)) (
+      tt,
+      (
+        tt,
+        subst ArePlain (append-nil (events_of (record { marks = v.marks; base = 0; len = 0; seats = 0; spans = [] })
+            (puts_where is_start v.base v.code)))
+            (plain_puts (record { marks = v.marks; base = 0; len = 0; seats = 0; spans = [] }) is_start v.base v.code [] tt),
+      ),
+    ))
 
 -- the events of a deletion are plain
 delete_plain : (marks : List Mark) (base len : ℕ) → ArePlain (delete_events marks base len)
@@ -63,31 +68,7 @@ delete_plain marks base len =
     (plain_puts d (is_marked_at marks) base (replicate len 244)
     (Serializes ∷ (events_of (record { marks = []; base = base; len = len; seats = 0; spans = [] })
     (puts_where (is_unmarked_at marks) base (replicate len 244)) ++ Retires base len ∷ []))
-    (plain_puts d (is_unmarked_at marks) base (replicate len 244) (Retires base len ∷ []) tt))
-
--- an attempt at a deletion before plain events
-part_plain : (marks : List Mark) (base len : ℕ) (part more : List Event) → IsPart marks base len part → ArePlain more → ArePlain (part ++ more)
-part_plain marks base len part more (OfMarked n le is) plain =
-    subst (λ (z : List Event). ArePlain (z ++ more)) (sym is)
-    (plain_puts (record no_details { base = base; len = len }) (is_marked_at marks) base (replicate n 244) more plain)
-part_plain marks base len part more (OfOthers n le is) plain =
-    let d : Details = record { marks = []; base = base; len = len; seats = 0; spans = [] } in
-    let others : List Event = events_of (record no_details { base = base; len = len })
-    (puts_where (is_unmarked_at marks) base (replicate n 244)) in
-    subst (λ (z : List Event). ArePlain (z ++ more)) (sym is)
-    (subst ArePlain (sym (append_assoc (events_of (record no_details { base = base; len = len })
-    (puts_where (is_marked_at marks) base (replicate len 244))) (Serializes ∷ others) more))
-    (plain_puts d (is_marked_at marks) base (replicate len 244) (Serializes ∷ (others ++ more))
-    (plain_puts d (is_unmarked_at marks) base (replicate n 244) more plain)))
-
--- any number of attempts at a deletion are plain before plain events
-begun_plain : (marks : List Mark) (base len : ℕ) (made more : List Event) → AreAttempts marks base len made → ArePlain more
-    → ArePlain (made ++ more)
-begun_plain marks base len [] more NoneYet plain = plain
-begun_plain marks base len _ more (OneMore {earlier} first part rest own) plain =
-    subst ArePlain (sym (append_assoc earlier part more))
-    (begun_plain marks base len earlier (part ++ more) first
-    (part_plain marks base len part more (is_part marks base len part rest own) plain))
+    (tt, plain_puts d (is_unmarked_at marks) base (replicate len 244) (Retires base len ∷ []) (tt, tt)))
 
 -- where a call's views keep what they have to, those of the world do, whoever sits in it
 pub views_kept : (w : World) (chunks : List Chunk) (seats : List Seat) → Views (Kept w.marked.marks chunks) w.marked.bytes w.earlier
@@ -172,27 +153,28 @@ goes_on limit seats before events old new h others is threads =
     (record { marked = h.stands.marked; keeper = h.stands.keeper; spans = h.stands.spans }))
     (subst (λ (r : Region). r.keeper.numbers.generation ≤ last_generation) (sym others) h.in_range)
 
--- the events of a creation lead to a world that stands for the new region
-pub created : (limit seats : ℕ) (before events : List Event) (old new : Region) (v : MarkedChunk)
+-- the events of a creation, after attempts at it, lead to a world that stands for the new region
+pub created : (limit seats : ℕ) (before events : List Event) (old new : Region) (v : MarkedChunk) (made : List Event)
     → HasLedTo limit seats before old → IsRegion old.marked old.chunks → IsValid v → v.limit ≡ limit_of old.marked.bytes
-    → IsCreated old new v → writers events ≡ create_events v
+    → IsCreated old new v → AreAttempts (create_events v) made → writers events ≡ made ++ create_events v
     → ThreadsMay (world_after (first_world limit seats) before) events → Grows limit seats before events new
-created limit seats before events old new v h region valid lim is own threads =
+created limit seats before events old new v made h region valid lim is attempts own threads =
     let w = world_after (first_world limit seats) before in
     let k = is.chunks.0 in
     let here = h.stands.marked in
     let keeper : new.keeper ≡ old.keeper = ap (λ (r : Region). r.keeper) is.others in
-    let l = create_leads w old.chunks v k (kept_there limit seats before old h) h.views
+    let l = create_leads w old.chunks v k made (kept_there limit seats before old h) h.views
     (subst (λ (m : MarkedText). IsRegion m old.chunks) (sym here) region)
     (λ span has. (h.stands.spans span).0 has) valid
-    (lim ∙ ap (λ (m : MarkedText). limit_of m.bytes) (sym here)) is.chunks.1 in
-    let reached = subst (λ (z : List Chunk). Reaches (world_after (first_world limit seats) before) (create_events v)
+    (lim ∙ ap (λ (m : MarkedText). limit_of m.bytes) (sym here)) is.chunks.1 attempts in
+    let reached = subst (λ (z : List Chunk). Reaches (world_after (first_world limit seats) before) (made ++ create_events v)
     (record (world_after (first_world limit seats) before) {
       marked = with_chunk (world_after (first_world limit seats) before).marked v.base v.code v.marks;
     }) (Kept (with_chunk (world_after (first_world limit seats) before).marked v.base v.code v.marks).marks z)) (sym is.chunks.2) l in
     let spans : retired_spans new.chunks ≡ retired_spans old.chunks =
     ap retired_spans is.chunks.2 ∙ retired_insert old.chunks k (live_chunk v) tt in
-    grown_beside limit seats before events (create_events v) old new _ h own (create_plain v) reached threads
+    grown_beside limit seats before events (made ++ create_events v) old new _ h own
+    (plain_again (create_events v) made (create_events v) attempts (create_plain v) (create_plain v)) reached threads
     (record {
       marked =
           ap (λ (m : MarkedText). let x : MarkedText = record {
@@ -212,23 +194,27 @@ created limit seats before events old new v h region valid lim is own threads =
     (subst (λ (x : KeeperState). x.numbers.generation ≤ last_generation) (sym keeper) h.in_range)
 
 -- the events of a deletion, after unfinished attempts at it, lead to the new region
-pub deleted : (limit seats : ℕ) (before events : List Event) (old new : Region) (base stamp : ℕ) (made : List Event)
+pub deleted : (limit seats : ℕ) (before events : List Event) (old new : Region) (base stamp : ℕ) (stops made : List Event)
     → HasLedTo limit seats before old → IsRegion old.marked old.chunks → (is : IsDeleted old new base stamp)
-    → AreAttempts old.marked.marks base is.chunk.length made
+    → stops ++ Retires base is.chunk.length ∷ [] ≡ delete_events old.marked.marks base is.chunk.length → AreAttempts stops made
     → writers events ≡ made ++ delete_events old.marked.marks base is.chunk.length
     → ThreadsMay (world_after (first_world limit seats) before) events → Grows limit seats before events new
-deleted limit seats before events old new base stamp made h region is attempts own threads =
+deleted limit seats before events old new base stamp stops made h region is stamped attempts own threads =
     let w = world_after (first_world limit seats) before in
     let c = is.chunk in
     let here = h.stands.marked in
     let there = listed_there old.chunks is.index is.chunk is.listed in
     let live : IsLive is.chunk.state = subst IsLive (sym is.live) tt in
-    let begun : AreAttempts w.marked.marks is.chunk.base is.chunk.length made =
-    subst (λ (m : MarkedText). AreAttempts m.marks is.chunk.base is.chunk.length made) (sym here)
-    (subst (λ (b : ℕ). AreAttempts old.marked.marks b is.chunk.length made) (sym is.base_is) attempts) in
-    let l = delete_leads w old.chunks is.index is.chunk made (kept_there limit seats before old h) h.views
+    let ends : stops ++ Retires is.chunk.base is.chunk.length ∷ [] ≡ delete_events w.marked.marks is.chunk.base is.chunk.length =
+    subst (λ (m : MarkedText). stops ++ Retires is.chunk.base is.chunk.length ∷ [] ≡ delete_events m.marks is.chunk.base is.chunk.length)
+    (sym here)
+    (subst (λ (b : ℕ). stops ++ Retires b is.chunk.length ∷ [] ≡ delete_events old.marked.marks b is.chunk.length) (sym is.base_is)
+    stamped) in
+    let plain : ArePlain (delete_events w.marked.marks is.chunk.base is.chunk.length) =
+    delete_plain w.marked.marks is.chunk.base is.chunk.length in
+    let l = delete_leads w old.chunks is.index is.chunk stops made (kept_there limit seats before old h) h.views
     (subst (λ (m : MarkedText). IsRegion m old.chunks) (sym here) region)
-    (λ span has. (h.stands.spans span).0 has) there.0 there.1 live begun in
+    (λ span has. (h.stands.spans span).0 has) there.0 there.1 live ends attempts in
     let own_is : writers events ≡ made ++ delete_events w.marked.marks is.chunk.base is.chunk.length =
     own ∙ (ap (λ (b : ℕ). made ++ delete_events old.marked.marks b is.chunk.length) (sym is.base_is)
     ∙ ap (λ (m : MarkedText). made ++ delete_events m.marks is.chunk.base is.chunk.length) (sym here)) in
@@ -238,8 +224,8 @@ deleted limit seats before events old new base stamp made h region is attempts o
     is.chunks ∙ ap (λ (n : ℕ). set old.chunks is.index (record is.chunk { state = Retired n })) stamp_is in
     let keeper : new.keeper.numbers ≡ generation_raised old.keeper.numbers = ap (λ (x : KeeperState). x.numbers) is.keeper in
     grown_beside limit seats before events (made ++ delete_events w.marked.marks is.chunk.base is.chunk.length) old new _ h own_is
-    (begun_plain w.marked.marks is.chunk.base is.chunk.length made (delete_events w.marked.marks is.chunk.base is.chunk.length) begun
-    (delete_plain w.marked.marks is.chunk.base is.chunk.length))
+    (plain_again stops made (delete_events w.marked.marks is.chunk.base is.chunk.length) attempts
+    (plain_front stops (Retires is.chunk.base is.chunk.length ∷ []) (subst ArePlain (sym ends) plain)) plain)
     (subst (λ (z : List Chunk). Reaches (world_after (first_world limit seats) before)
     (made ++ delete_events (world_after (first_world limit seats) before).marked.marks is.chunk.base is.chunk.length)
     (after (record (world_after (first_world limit seats) before) {

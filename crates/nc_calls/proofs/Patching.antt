@@ -19,27 +19,25 @@ use Rattle.nc_vet.proofs.Offered.{same_pieces}
 use Rattle.nc_list.specs.declared.chunk.Chunk.{Chunk}
 use Rattle.nc_region.specs.schedules.Spans.{RetiredSpan}
 use Rattle.nc_region.specs.schedules.World.{World}
-use Rattle.nc_region.specs.schedules.Events.{Event, Puts, Serializes}
+use Rattle.nc_region.specs.schedules.Events.{Puts, Serializes}
 use Rattle.nc_region.proofs.Offered.{as_it_stands, only_as_it_stands}
 use Rattle.nc_acts.specs.Acts.{is_mark, puts_where}
 use Rattle.nc_acts.proofs.Offered.{byte_at_other}
-use Rattle.nc_region.specs.Patch.{AreBytesOf, IsHeldBy, IsPatch, any_place, stands_there}
+use Rattle.nc_region.specs.Patch.{AreBytesOf, IsHeldBy, IsPatch, any_place}
 use Rattle.nc_region.specs.machinery.PatchSteps.{Begins, IsReplacing, CanPatch}
 use Rattle.nc_region.specs.Region.{Region, IsLive, IsInChunk, IsRegion}
 use Rattle.nc_region.proofs.Offered.{Changes, changed, changed_holds, changed_text, changes_replace, region_patched}
-use Rattle.nc_region.proofs.Offered.{patch_final, single_span, span_behind, lies, turn, next_patch, spans_join, stands_same, same_stands}
+use Rattle.nc_region.proofs.Offered.{patch_final, single_span, lies, turn, next_patch, spans_join}
 use Rattle.nc_region.proofs.Offered.{stands_with, some_same, span_none, each_get}
 use Rattle.nc_calls.specs.Calls.{no_details}
 use Rattle.nc_calls.specs.Views.{IsFree, AreStopped}
 use Rattle.nc_calls.proofs.Deletion.{marked_state}
-use Rattle.nc_calls.proofs.Entries.{events_of, instruction_events, patch_events}
+use Rattle.nc_calls.proofs.Entries.{events_of, instruction_events}
 use Rattle.nc_calls.proofs.Good.{text_of, Good, marked_inside, stop_ends}
 use Rattle.nc_calls.proofs.OnePut.{good_put_marked, good_put_unread, byte_there, not_unmarked}
-use Rattle.nc_calls.proofs.Parting.{region_good, region_stopped}
 use Rattle.nc_calls.proofs.PutsWhole.{whole_put_unread, whole_put_marked, whole_put_single, whole_put_stop}
 use Rattle.nc_calls.proofs.StaysWhole.{PutsWhole}
-use Rattle.nc_calls.proofs.Putting.{with_text, serialized, Views, Leads, Reaches, leads_none, leads_more, put_leads, serialization_leads, serialized_views, MayLay, lay_all}
-use Rattle.nc_calls.proofs.RetiredSpans.{AreSpansOf}
+use Rattle.nc_calls.proofs.Putting.{with_text, serialized, Views, Leads, Reaches, leads_more, put_leads, serialization_leads, serialized_views, MayLay, lay_all}
 
 -- what every view keeps from one instruction to the next
 pub record SoundBy (marks : List Mark) (spans : List RetiredSpan) (chunks : List Chunk) (view : List ℕ) : Type 0 where
@@ -68,16 +66,16 @@ patch_ends old at bytes region lawful =
     omega (arith, lawful.0.1, held.2.0, held.2.1, l.start, l.whole)
 
 -- An instruction is replaced in a world: at a marked place of a live chunk, by one of the same length that ends in it.
-record Replaces (w : World) (chunks : List Chunk) (at : ℕ) (new : List ℕ) : Type 0 where
-  replacing : IsReplacing w.marked at new
-  final : Sound w chunks (changed w.marked at new).bytes
-  masked : Option ℕ
-  marked : IsMarked w.marked.marks (state at masked)
-  len : (i : Instr) → instruction_at (changed w.marked at new).bytes at ≡ Some i → i.len ≡ length new
-  held : (place : ℕ) → IsFree chunks place → at ≤ place → place < at + length new → ⊥
+pub record Replaces (w : World) (chunks : List Chunk) (at : ℕ) (new : List ℕ) : Type 0 where
+  pub replacing : IsReplacing w.marked at new
+  pub final : Sound w chunks (changed w.marked at new).bytes
+  pub masked : Option ℕ
+  pub marked : IsMarked w.marked.marks (state at masked)
+  pub len : (i : Instr) → instruction_at (changed w.marked at new).bytes at ≡ Some i → i.len ≡ length new
+  pub held : (place : ℕ) → IsFree chunks place → at ≤ place → place < at + length new → ⊥
 
 -- a put in the span leaves the stops outside of live chunks
-still_stopped : (w : World) (chunks : List Chunk) (at : ℕ) (new view : List ℕ) (here byte : ℕ) → Replaces w chunks at new
+pub still_stopped : (w : World) (chunks : List Chunk) (at : ℕ) (new view : List ℕ) (here byte : ℕ) → Replaces w chunks at new
     → at ≤ here → here < at + length new → AreStopped view w.marked.marks chunks
     → AreStopped (set view (here - 65536) byte) w.marked.marks chunks
 still_stopped w chunks at new view here byte r low high stopped = λ now m free.
@@ -86,7 +84,7 @@ still_stopped w chunks at new view here byte r low high stopped = λ now m free.
     ∙ stopped now m free
 
 -- a stop may be put at the first byte
-stop_put : (w : World) (chunks : List Chunk) (at : ℕ) (new view : List ℕ) → Replaces w chunks at new → InRegion view at
+pub stop_put : (w : World) (chunks : List Chunk) (at : ℕ) (new view : List ℕ) → Replaces w chunks at new → InRegion view at
     → Sound w chunks view → Sound w chunks (set view (at - 65536) 244)
 stop_put w chunks at new view r inside s =
     record {
@@ -159,9 +157,9 @@ single_leads w chunks at byte r views =
 -- ---- several bytes
 
 -- what every view keeps while the further bytes are put
-record Open (w : World) (chunks : List Chunk) (at : ℕ) (view : List ℕ) : Type 0 where
-  sound : Sound w chunks view
-  stop : byte_at view at ≡ 244
+pub record Open (w : World) (chunks : List Chunk) (at : ℕ) (view : List ℕ) : Type 0 where
+  pub sound : Sound w chunks view
+  pub stop : byte_at view at ≡ 244
 
 -- no marked place lies inside the instruction
 none_inside : (w : World) (chunks : List Chunk) (at : ℕ) (new : List ℕ) → Replaces w chunks at new → (now : State)
@@ -194,7 +192,7 @@ open_clear w chunks at new view here r o low high now i k m is lt same =
     ]
 
 -- the further bytes may be put
-may_lay_rest : (w : World) (chunks : List Chunk) (at first : ℕ) (rest : List ℕ) → Replaces w chunks at (first ∷ rest)
+pub may_lay_rest : (w : World) (chunks : List Chunk) (at first : ℕ) (rest : List ℕ) → Replaces w chunks at (first ∷ rest)
     → MayLay w any_place (at + 1) rest (Open w chunks at)
 may_lay_rest w chunks at first rest r =
     record {
@@ -268,25 +266,12 @@ longer_leads w chunks at first rest r views =
     }
 
 -- the events of a new instruction lead to the world with it in place
-instruction_leads : (w : World) (chunks : List Chunk) (at : ℕ) (new : List ℕ) → Replaces w chunks at new
+pub instruction_leads : (w : World) (chunks : List Chunk) (at : ℕ) (new : List ℕ) → Replaces w chunks at new
     → Views (λ view. Sound w chunks view) w.marked.bytes w.earlier
     → Reaches w (instruction_events at new) (record w { marked = changed w.marked at new }) (λ view. Sound w chunks view)
 instruction_leads w chunks at [] r views = absurd (omega (arith, r.replacing.some))
 instruction_leads w chunks at (byte ∷ []) r views = single_leads w chunks at byte r views
 instruction_leads w chunks at (byte ∷ next ∷ rest) r views = longer_leads w chunks at byte (next ∷ rest) r views
-
--- a new instruction, put or left as it stands, leads to the world with it in place
-turn_leads : (w : World) (chunks : List Chunk) (at : ℕ) (new : List ℕ) → Replaces w chunks at new
-    → Views (λ view. Sound w chunks view) w.marked.bytes w.earlier → (b : Bool) → stands_there w.marked.bytes at new ≡ b
-    → Reaches w (cond b [] (instruction_events at new)) (record w { marked = changed w.marked at new }) (λ view. Sound w chunks view)
-turn_leads w chunks at new r views true is =
-    let same : w.marked.bytes ≡ (changed w.marked at new).bytes = stands_same w.marked.bytes at new r.replacing.low r.replacing.high is in
-    record {
-      earlier = w.earlier;
-      leads = subst (λ (z : List ℕ). Leads w [] (with_text w z w.earlier)) same (leads_none w);
-      views = subst (λ (z : List ℕ). Views (λ view. Sound w chunks view) z w.earlier) same views;
-    }
-turn_leads w chunks at new r views false is = instruction_leads w chunks at new r views
 
 -- bytes are instructions in one way
 same_news : (bytes : List ℕ) (xs ys : List Piece) → AreBytesOf bytes xs → AreBytesOf bytes ys → xs ≡ ys
@@ -323,37 +308,27 @@ new_stands marked c at before after o n x =
     first_of : (p q : Piece) (xs ys : List Piece) → p ∷ xs ≡ q ∷ ys → p ≡ q
     first_of p q xs ys e = cc
 
--- what is put from a place on is the same over a text that agrees from there on
-same_events : (a b : List ℕ) (at : ℕ) (ns : List Piece) → ((k : ℕ) → at ≤ k → byte_at a k ≡ byte_at b k)
-    → patch_events a at ns ≡ patch_events b at ns
-same_events a b at [] h = refl
-same_events a b at (n ∷ ns) h =
-    ap (λ (z : Bool). cond z [] (instruction_events at n.bytes) ++ patch_events a (at + length n.bytes) ns)
-    (same_stands a b at n.bytes h)
-    ∙ ap (λ (z : List Event). cond (stands_there b at n.bytes) [] (instruction_events at n.bytes) ++ z)
-    (same_events a b (at + length n.bytes) ns (λ k le. h k (omega (arith, le))))
-
 -- a place of a live chunk isn't free
-held_place : (chunks : List Chunk) (c : Chunk) (place : ℕ) → Contains chunks c → IsLive c.state → IsInChunk c place
+pub held_place : (chunks : List Chunk) (c : Chunk) (place : ℕ) → Contains chunks c → IsLive c.state → IsInChunk c place
     → IsFree chunks place → ⊥
 held_place chunks c place has live inside free =
     subst (λ (d : Chunk). IsLive d.state → IsInChunk d place → ⊥) has.2
     (each_get (λ (d : Chunk). IsLive d.state → IsInChunk d place → ⊥) chunks has.0 c has.1 free) live inside
 
 -- what is known of the first instruction of a patch, and of what is left of it
-record Starts (marked : MarkedText) (chunks : List Chunk) (c : Chunk) (at : ℕ) (new : List ℕ) (n : Piece) (ns : List Piece) : Type 0 where
-  replacing : IsReplacing marked at n.bytes
-  region : IsRegion (changed marked at n.bytes) chunks
-  here : ((masked : Option ℕ) × IsMarked marked.marks (state at masked))
+pub record Starts (marked : MarkedText) (chunks : List Chunk) (c : Chunk) (at : ℕ) (new : List ℕ) (n : Piece) (ns : List Piece) : Type 0 where
+  pub replacing : IsReplacing marked at n.bytes
+  pub region : IsRegion (changed marked at n.bytes) chunks
+  pub here : ((masked : Option ℕ) × IsMarked marked.marks (state at masked))
       × ((i : Instr) → instruction_at (changed marked at n.bytes).bytes at ≡ Some i → i.len ≡ length n.bytes)
-  bytes_rest : AreBytesOf (code_of ns) ns
-  patch_rest : CanPatch (changed marked at n.bytes) c (at + length n.bytes) (code_of ns)
-  long : length new ≡ length n.bytes + length (code_of ns)
-  text : with_span (with_span marked.bytes (at - 65536) n.bytes) (at + length n.bytes - 65536) (code_of ns)
+  pub bytes_rest : AreBytesOf (code_of ns) ns
+  pub patch_rest : CanPatch (changed marked at n.bytes) c (at + length n.bytes) (code_of ns)
+  pub long : length new ≡ length n.bytes + length (code_of ns)
+  pub text : with_span (with_span marked.bytes (at - 65536) n.bytes) (at + length n.bytes - 65536) (code_of ns)
       ≡ with_span marked.bytes (at - 65536) new
 
 -- a patch by some instructions starts with the first
-starts : (marked : MarkedText) (chunks : List Chunk) (c : Chunk) (at : ℕ) (new : List ℕ) (n : Piece) (ns : List Piece)
+pub starts : (marked : MarkedText) (chunks : List Chunk) (c : Chunk) (at : ℕ) (new : List ℕ) (n : Piece) (ns : List Piece)
     → IsRegion marked chunks → Contains chunks c → IsLive c.state → c.base ≤ at → CanPatch marked c at new → AreBytesOf new (n ∷ ns)
     → at + length new ≤ c.base + c.length → Starts marked chunks c at new n ns
 starts marked chunks c at new n ns region has live from patch b ends =
@@ -403,47 +378,3 @@ patched_region (n ∷ ns) marked chunks c at new region has live from patch b en
     subst (λ (z : List ℕ). IsRegion (text_of z marked.marks) chunks) s.text
     (patched_region ns (changed marked at n.bytes) chunks c (at + length n.bytes) (code_of ns) s.region has live (omega (arith, from))
     s.patch_rest s.bytes_rest (omega (arith, ends, s.long)))
-
--- the events of a patch's instructions lead to the world with the patch in place
-pub patch_leads : (news : List Piece) (w : World) (chunks : List Chunk) (c : Chunk) (at : ℕ) (new : List ℕ) → IsRegion w.marked chunks
-    → AreSpansOf w.retired chunks → Contains chunks c → IsLive c.state → c.base ≤ at → CanPatch w.marked c at new → AreBytesOf new news
-    → at + length new ≤ c.base + c.length → Views (λ view. Sound w chunks view) w.marked.bytes w.earlier
-    → Reaches w (patch_events w.marked.bytes at news) (record w { marked = changed w.marked at new }) (λ view. Sound w chunks view)
-patch_leads [] w chunks c at new region are has live from patch b ends views =
-    record {
-      earlier = w.earlier;
-      leads = subst (λ (z : List ℕ). Leads w [] (with_text w z w.earlier)) (no_patch w.marked at new b) (leads_none w);
-      views = subst (λ (z : List ℕ). Views (λ view. Sound w chunks view) z w.earlier) (no_patch w.marked at new b) views;
-    }
-patch_leads (n ∷ ns) w chunks c at new region are has live from patch b ends views =
-    let s = starts w.marked chunks c at new n ns region has live from patch b ends in
-    let replaces : Replaces w chunks at n.bytes = record {
-      replacing = s.replacing;
-      final = record {
-        good = region_good (changed w.marked at n.bytes) chunks w.retired s.region are;
-        stopped = region_stopped (changed w.marked at n.bytes) chunks s.region;
-      };
-      masked = s.here.0.0;
-      marked = s.here.0.1;
-      len = s.here.1;
-      held = λ place free low high. held_place chunks c place has live
-          (omega (arith, from, low), omega (arith, high, ends, s.long)) free;
-    } in
-    let first = turn_leads w chunks at n.bytes replaces views (stands_there w.marked.bytes at n.bytes) refl in
-    let others = patch_leads ns (record w { marked = changed w.marked at n.bytes; earlier = first.earlier }) chunks c (at + length n.bytes)
-    (code_of ns) s.region are has live (omega (arith, from)) s.patch_rest s.bytes_rest (omega (arith, ends, s.long)) first.views in
-    let same : patch_events w.marked.bytes (at + length n.bytes) ns ≡ patch_events (with_span w.marked.bytes (at - 65536) n.bytes)
-    (at + length n.bytes) ns =
-    same_events w.marked.bytes (with_span w.marked.bytes (at - 65536) n.bytes) (at + length n.bytes) ns
-    (λ k le. sym (span_behind w.marked.bytes at n.bytes k 0 s.replacing.low s.replacing.high le)) in
-    record {
-      earlier = others.earlier;
-      leads = leads_more w (record w { marked = changed w.marked at n.bytes; earlier = first.earlier })
-          (record w { marked = changed w.marked at new; earlier = others.earlier }) _ _ first.leads
-          (subst (λ (z : List Event). Leads (record w { marked = changed w.marked at n.bytes; earlier = first.earlier }) z
-          (record w { marked = changed w.marked at new; earlier = others.earlier })) (sym same)
-          (subst (λ (z : List ℕ). Leads (record w { marked = changed w.marked at n.bytes; earlier = first.earlier })
-          (patch_events (with_span w.marked.bytes (at - 65536) n.bytes) (at + length n.bytes) ns)
-          (with_text w z others.earlier)) s.text others.leads));
-      views = subst (λ (z : List ℕ). Views (λ view. Sound w chunks view) z others.earlier) s.text others.views;
-    }

@@ -1,8 +1,8 @@
 -- Puts through which what views have at marked places stays what stood there whole.
-use Rattle.std.proofs.Common.{◌≡◌, ◌≢◌, ℕ, ◌+◌, ◌-◌, ◌<◌, ◌≤◌, List, set, Some, inl, inr, arith, ◌∙◌, sym, subst, ⊎_elim}
+use Rattle.std.proofs.Common.{◌≡◌, ◌≢◌, ℕ, ◌+◌, ◌-◌, ◌<◌, ◌≤◌, List, set, Some, inl, inr, arith, ◌∙◌, sym, ap, subst, ⊎_elim}
 use Rattle.std.proofs.lemmas.Bool.{cases_lt}
 use Rattle.std.proofs.lemmas.Bool.Decides.{eqb_tells}
-use Rattle.std.proofs.lemmas.List.{length-set}
+use Rattle.std.proofs.lemmas.List.{length-set, set-get_or}
 use Rattle.nc_decode.specs.declared.instruction.Instr.{Instr}
 use Rattle.nc_decode.specs.declared.instruction.Mark.{Mark}
 use Rattle.nc_text.specs.Places.{InRegion, byte_at, instruction_at}
@@ -38,6 +38,16 @@ pub whole_put_unread : (marks : List Mark) (spans : List RetiredSpan) (view text
     → PutsWhole marks view text at byte
 whole_put_unread marks spans view text at byte good low clear = λ now i m is.
     inl (was_there marks spans view at byte now i good low m (λ j k there lt. clear now j k m there lt) is)
+
+-- a byte is put that is there already
+pub whole_put_same : (marks : List Mark) (view text : List ℕ) (at byte : ℕ) → byte_at view at ≡ byte → PutsWhole marks view text at byte
+whole_put_same marks view text at byte there = λ now i m is.
+    let same : set view (at - 65536) byte ≡ view =
+    ap (λ (b : ℕ). set view (at - 65536) b) (sym there) ∙ set-get_or view (at - 65536) 0 in
+    inl (
+      subst (λ (z : List ℕ). instruction_at z now.place ≡ Some i) same is,
+      λ k lt. ap (λ (z : List ℕ). byte_at z (now.place + k)) same,
+    )
 
 -- a byte is put at a marked place, and the rest of the instruction that it begins is in the text as in the view
 pub whole_put_marked : (marks : List Mark) (spans : List RetiredSpan) (view text : List ℕ) (there : State) (byte : ℕ)

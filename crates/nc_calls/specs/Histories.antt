@@ -1,7 +1,6 @@
 -- Histories of a region: its calls one after the other, interleaved with events of threads between any two acts; and the
 -- states in which threads may be.
 use Rattle.std.specs.Prelude.{◌≡◌, ℕ, ◌≤◌, ⊤, List, [], ◌∷◌, ◌++◌, All, IfSome}
-use Rattle.nc_decode.specs.declared.instruction.Mark.{Mark}
 use Rattle.nc_decode.specs.Bundles.{IsLawfulLimit}
 use Rattle.nc_vet.specs.Chunk.{MarkedChunk, Piece, IsValid}
 use Rattle.nc_text.specs.Places.{limit_of}
@@ -30,24 +29,25 @@ pub data IsRefusal (old new : Region) (own : List Event) : Type 0 where
       → IsRefusal old new own
   OfDeletion : (base : ℕ) (fault : DeleteFault) → MayRefuseDelete old base fault → new ≡ old → own ≡ [] → IsRefusal old new own
 
--- Unfinished attempts at a deletion with these marks, one after the other. Each is a prefix, possibly empty, of the
--- deletion's events, and ends before the stamp.
-pub data AreAttempts (marks : List Mark) (base len : ℕ) : List Event → Type 0 where
-  NoneYet : AreAttempts marks base len []
-  OneMore : {earlier : List Event} → AreAttempts marks base len earlier → (part rest : List Event)
-      → part ++ (rest ++ Retires base len ∷ []) ≡ delete_events marks base len → AreAttempts marks base len (earlier ++ part)
+-- Attempts at these events, one after the other. Each is a prefix of them, possibly empty or all of them.
+pub data AreAttempts (events : List Event) : List Event → Type 0 where
+  NoneYet : AreAttempts events []
+  OneMore : {earlier : List Event} → AreAttempts events earlier → (part rest : List Event) → part ++ rest ≡ events
+      → AreAttempts events (earlier ++ part)
 
 -- A call of a region, as its contract describes it: the region that it leaves, and its own events. `Creates`, `Patches`,
--- `Deletes` and `Reclaims` are the accepted calls, with the events of their logs, a deletion's after any unfinished attempts.
--- `UsesKeeper` uses the keeper by itself. `Refuses` is a refused call. `Keeps` is any other call without an event that
--- leaves the region as it was, except that pages may have been made. A call that only reads is one.
+-- `Deletes` and `Reclaims` are the accepted calls, with the events of their logs. Those of a creation, a patch or a deletion come after
+-- any attempts at them; an attempt at a deletion ends before the stamp. `UsesKeeper` uses the keeper by itself. `Refuses` is a refused
+-- call. `Keeps` is any other call without an event that leaves the region as it was, except that pages may have been made. A call that
+-- only reads is one.
 pub data IsCall (seats : ℕ) (old new : Region) (own : List Event) : Type 0 where
-  Creates : (v : MarkedChunk) → IsValid v → v.limit ≡ limit_of old.marked.bytes → IsCreated old new v → own ≡ create_events v
-      → IsCall seats old new own
+  Creates : (v : MarkedChunk) → IsValid v → v.limit ≡ limit_of old.marked.bytes → IsCreated old new v → (attempts : List Event)
+      → AreAttempts (create_events v) attempts → own ≡ attempts ++ create_events v → IsCall seats old new own
   Patches : (at : ℕ) (bytes : List ℕ) (news : List Piece) → IsPatch old at bytes → AreBytesOf bytes news → IsModified old new at bytes
-      → own ≡ modify_events old.marked.bytes at news → IsCall seats old new own
-  Deletes : (base stamp : ℕ) (is : IsDeleted old new base stamp) (attempts : List Event)
-      → AreAttempts old.marked.marks base is.chunk.length attempts
+      → (attempts : List Event) → AreAttempts (modify_events old.marked.bytes at news) attempts
+      → own ≡ attempts ++ modify_events old.marked.bytes at news → IsCall seats old new own
+  Deletes : (base stamp : ℕ) (is : IsDeleted old new base stamp) (stops attempts : List Event)
+      → stops ++ Retires base is.chunk.length ∷ [] ≡ delete_events old.marked.marks base is.chunk.length → AreAttempts stops attempts
       → own ≡ attempts ++ delete_events old.marked.marks base is.chunk.length → IsCall seats old new own
   Reclaims : (count : ℕ) → IsReclaimed old new count
       → own ≡ reclaim_events seats (least_number new.keeper.numbers) old.chunks → IsCall seats old new own

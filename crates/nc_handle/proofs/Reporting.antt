@@ -20,7 +20,7 @@ use Rattle.nc_region.specs.Quiet.{retired_spans}
 use Rattle.nc_region.specs.Deletion.{freed, unmarkings}
 use Rattle.nc_region.specs.Region.{IsCreated}
 use Rattle.nc_calls.specs.Calls.{Details, no_details, span_from, reclaim_events, events_of_entry, events_of_log, delete_events}
-use Rattle.nc_calls.specs.Histories.{Creates, Patches, Reclaims}
+use Rattle.nc_calls.specs.Histories.{NoneYet, Creates, Patches, Reclaims}
 use Rattle.nc_calls.proofs.Offered.{log_append}
 use Rattle.nc_entries.specs.declared.act.NcAct.{NcAct}
 use Rattle.nc_entries.specs.Shown.{entry_of}
@@ -159,7 +159,7 @@ pub loads : (old new : RegionHandleState) (v : MarkedChunk) (lent now : List NcA
 loads old new v lent now count valid limit is none others reported =
     reported_due old new v lent now count (log_of_create v.base v.code) reported
     (λ seats. Changes none (still_none old new others none)
-    (Creates v valid limit is (due_log v (record no_details { marks = v.marks }) (log_of_create v.base v.code) (create_all v))))
+    (Creates v valid limit is [] NoneYet (due_log v (record no_details { marks = v.marks }) (log_of_create v.base v.code) (create_all v))))
 
 -- the entries reported for a patch are its pending events
 pub patches : (old new : RegionHandleState) (at : ℕ) (bytes : List ℕ) (lent now : List NcAct) (count : ℕ) (v : MarkedChunk)
@@ -171,7 +171,7 @@ patches old new at bytes lent now count v lawful is none others reported =
     let run = lawful.1.2.0.run in
     reported_due old new v lent now count (log_of_modify old.region.marked.bytes at run.news) (reported run.news run.bytes)
     (λ seats. Changes none (still_none old new others none)
-    (Patches at bytes run.news lawful run.bytes is
+    (Patches at bytes run.news lawful run.bytes is [] NoneYet
     (due_log v no_details (log_of_modify old.region.marked.bytes at run.news)
     (patch_all v no_details old.region.marked.bytes at run.news))))
 

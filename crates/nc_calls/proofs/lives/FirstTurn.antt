@@ -22,7 +22,7 @@ use Rattle.nc_region.specs.Region.{Region, IsCreated, live_chunk}
 use Rattle.nc_region.proofs.Offered.{after_append, start_or_not, is_inside_false}
 use Rattle.nc_calls.specs.Interleaving.{writers, ThreadsMay}
 use Rattle.nc_calls.specs.Calls.{Details, no_details, create_events}
-use Rattle.nc_calls.specs.Histories.{Creates, Turn, IsTurn}
+use Rattle.nc_calls.specs.Histories.{NoneYet, Creates, Turn, IsTurn}
 use Rattle.nc_calls.specs.Example.{first_region, PutsSome, start_of, CreatesAround}
 use Rattle.nc_calls.proofs.Entries.{events_of}
 use Rattle.nc_calls.proofs.Knowing.{knows_as_much}
@@ -165,7 +165,7 @@ pub creation_is_turn : (v : MarkedChunk) (keeper : KeeperState) (created : Regio
     → IsCreated (first_region v.limit (fresh keeper)) created v
     → IsTurn v.limit 1 [] (first_region v.limit (fresh keeper)) (creation_turn v created)
 creation_is_turn v keeper created valid is = record {
-  call = Creates v valid (same_limit v valid) is (own_created v);
+  call = Creates v valid (same_limit v valid) is [] NoneYet (own_created v);
   threads = may_enter v valid;
   keeper = knows_as_much created.keeper.numbers (world_after (first_world v.limit 1) (creation_events v)).keeper
       (ap (λ (x : World). x.keeper) (stage_created v).is ∙ sym (ap (λ (r : Region). r.keeper.numbers) is.others));

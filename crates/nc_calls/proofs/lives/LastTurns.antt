@@ -22,6 +22,7 @@ use Rattle.nc_calls.specs.Interleaving.{writers, ThreadsMay}
 use Rattle.nc_calls.specs.Calls.{delete_events, reclaim_events}
 use Rattle.nc_calls.specs.Histories.{NoneYet, Deletes, Reclaims, Turn, IsTurn, AreTurns}
 use Rattle.nc_calls.specs.Example.{ThreadIsIn, start_of, last_of}
+use Rattle.nc_calls.proofs.Entries.{stops_of, stops_then}
 use Rattle.nc_calls.proofs.Knowing.{knows_as_much}
 use Rattle.nc_calls.proofs.lives.TextEvents.{own_before, may_before, delete_front, delete_parts, delete_front_text}
 use Rattle.nc_calls.proofs.lives.OneSeat.{Stage, stage_of_text, seat_in, stage_gone, own_gone, may_go}
@@ -133,7 +134,8 @@ deletion_is_turn : (v : MarkedChunk) (keeper : KeeperState) (marked : MarkedText
 deletion_is_turn v keeper marked made logged before path b joined =
     let w = world_after (first_world v.limit 1) before in
     record {
-      call = Deletes v.base 1 (deletes_of v keeper marked made logged) [] NoneYet
+      call = Deletes v.base 1 (deletes_of v keeper marked made logged)
+          (stops_of marked.marks v.base (length v.code)) [] (stops_then marked.marks v.base (length v.code)) NoneYet
           (own_gone path (delete_events marked.marks v.base (length v.code)) ∙ own_deleted marked.marks v.base (length v.code));
       threads = may_go v.limit (first_keeper_numbers 1) marked.bytes (start_of v) w path (delete_events marked.marks v.base (length v.code))
           b.stage b.text_is joined

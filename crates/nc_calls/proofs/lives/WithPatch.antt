@@ -17,7 +17,7 @@ use Rattle.nc_region.specs.Patch.{IsPatch, log_of_modify}
 use Rattle.nc_region.proofs.Offered.{after_append}
 use Rattle.nc_region.proofs.Offered.{modified_region, modified_exists}
 use Rattle.nc_calls.specs.Calls.{modify_events}
-use Rattle.nc_calls.specs.Histories.{Patches, Turn, IsTurn}
+use Rattle.nc_calls.specs.Histories.{NoneYet, Patches, Turn, IsTurn}
 use Rattle.nc_calls.specs.Example.{first_region, start_of, PatchesAt}
 use Rattle.nc_calls.proofs.AllTurns.{text_at_end}
 use Rattle.nc_calls.proofs.Knowing.{knows_as_much}
@@ -85,7 +85,7 @@ patch_is_turn v keeper created at bytes is lawful =
     let p = patches_at created at bytes lawful in
     record {
       call = Patches at bytes lawful.1.2.0.run.news lawful lawful.1.2.0.run.bytes
-          (modified_exists created at bytes lawful.1.2.0.run.news)
+          (modified_exists created at bytes lawful.1.2.0.run.news) [] NoneYet
           (own_of_text (modify_events created.marked.bytes at lawful.1.2.0.run.news)
           (modify_text created.marked.bytes at lawful.1.2.0.run.news));
       threads = may_of_text (world_after (first_world v.limit 1) (creation_events v))

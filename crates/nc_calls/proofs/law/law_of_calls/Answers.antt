@@ -1,6 +1,7 @@
 use Rattle.std.proofs.Common.{[]}
 use Rattle.nc_region.proofs.Offered.{safe_after}
 use Rattle.nc_calls.specs.Histories.{NoneYet}
+use Rattle.nc_calls.proofs.Entries.{stops_of, stops_then}
 use Rattle.nc_calls.proofs.Keeping.{begins, keeper}
 use Rattle.nc_calls.proofs.OneMoreCall.{goes_on, created, deleted}
 use Rattle.nc_calls.proofs.Modified.{modified}
@@ -21,11 +22,12 @@ returns-clause-refused c = refused_same
 
 pub returns-clause-created : goal.returns-clause-created
 returns-clause-created c = λ limit seats before events old new v h region valid lim is own threads.
-    (created limit seats before events old new v h region valid lim is own threads).led
+    (created limit seats before events old new v [] h region valid lim is NoneYet own threads).led
 
 pub returns-clause-deleted : goal.returns-clause-deleted
 returns-clause-deleted c = λ limit seats before events old new base stamp h region is own threads.
-    (deleted limit seats before events old new base stamp [] h region is NoneYet own threads).led
+    (deleted limit seats before events old new base stamp (stops_of old.marked.marks base is.chunk.length) [] h region is
+    (stops_then old.marked.marks base is.chunk.length) NoneYet own threads).led
 
 pub returns-clause-reclaimed : goal.returns-clause-reclaimed
 returns-clause-reclaimed c = λ limit seats before events old new count h region is own threads found.
@@ -33,7 +35,7 @@ returns-clause-reclaimed c = λ limit seats before events old new count h region
 
 pub returns-clause-modified : goal.returns-clause-modified
 returns-clause-modified c = λ limit seats before events old new at bytes news h region lawful b is own threads.
-    (modified limit seats before events old new at bytes news h region lawful b is own threads).led
+    (modified limit seats before events old new at bytes news [] h region lawful b is NoneYet own threads).led
 
 pub returns-clause-keeper : goal.returns-clause-keeper
 returns-clause-keeper c = λ limit seats before events old new h marked chunks own threads found range.
