@@ -22,7 +22,7 @@ use Rattle.nc_region.specs.Quiet.{retired_spans}
 use Rattle.nc_region.specs.Region.{Region, IsRegion}
 use Rattle.nc_calls.specs.Interleaving.{writers, IsKeepers, ThreadsMay}
 use Rattle.nc_calls.specs.Calls.{KnowsNoMore, StandsFor, HasLedTo, no_details, events_of_log, delete_events, reclaim_events}
-use Rattle.nc_calls.specs.Histories.{AreAttempts, IsRefusal, IsCall, Creates, Patches, Deletes, Reclaims, UsesKeeper, Refuses, Keeps, AllStand}
+use Rattle.nc_calls.specs.Histories.{IsRefusal, IsCall, Creates, Patches, Deletes, Reclaims, UsesKeeper, Refuses, Keeps, AllStand}
 use Rattle.nc_calls.proofs.Offered.{goes_on, created, deleted}
 use Rattle.nc_calls.proofs.Offered.{refused}
 use Rattle.nc_calls.proofs.Offered.{keeper_interleaved}
@@ -39,7 +39,7 @@ use Rattle.nc_region.proofs.Offered.{deleted_region}
 use Rattle.nc_hosts.proofs.Deleting.{deleted_there}
 use Rattle.nc_hosts.proofs.Interleaving.{IsWriters, writers_own, threads_append, threads_none, one_writers}
 use Rattle.nc_hosts.proofs.Looked.{looks_or_not, frees_no_look, only_looks, rest_looks_not}
-use Rattle.nc_hosts.proofs.Reaching.{Phase, Calling, Deleting, Led, finished, led}
+use Rattle.nc_hosts.proofs.Reaching.{Attempting, Phase, Calling, Deleting, Led, finished, led}
 
 -- all events so far are allowed, and leave instructions whole, and those pending too, unless a look is still pending
 data Goes (w : World) (so_far pending : List Event) : Type 0 where
@@ -112,15 +112,15 @@ call_goes : (limit seats : ℕ) (before since pending : List Event) (from region
     → writers (since ++ pending) ≡ writers since ++ pending
     → (All IsNoLook pending → KnowsNoMore region.keeper.numbers (world_after (first_world limit seats) (before ++ (since ++ pending))).keeper)
     → IsCall seats from region (writers since ++ pending) → Goes (first_world limit seats) (before ++ since) pending
-call_goes limit seats before since pending from region stays some threads own found (Creates v valid lim is same) =
+call_goes limit seats before since pending from region stays some threads own found (Creates v valid lim is made tried same) =
     led_goes limit seats before since pending from region stays
-    (created limit seats before (since ++ pending) from region v stays.led stays.region valid lim is (own ∙ same) threads)
-call_goes limit seats before since pending from region stays some threads own found (Patches at bytes news lawful b is same) =
+    (created limit seats before (since ++ pending) from region v made stays.led stays.region valid lim is tried (own ∙ same) threads)
+call_goes limit seats before since pending from region stays some threads own found (Patches at bytes news lawful b is made tried same) =
     led_goes limit seats before since pending from region stays
-    (modified limit seats before (since ++ pending) from region at bytes news stays.led stays.region lawful b is (own ∙ same) threads)
-call_goes limit seats before since pending from region stays some threads own found (Deletes base stamp is made begun same) =
+    (modified limit seats before (since ++ pending) from region at bytes news made stays.led stays.region lawful b is tried (own ∙ same) threads)
+call_goes limit seats before since pending from region stays some threads own found (Deletes base stamp is stops made stamped tried same) =
     led_goes limit seats before since pending from region stays
-    (deleted limit seats before (since ++ pending) from region base stamp made stays.led stays.region is begun (own ∙ same) threads)
+    (deleted limit seats before (since ++ pending) from region base stamp stops made stays.led stays.region is stamped tried (own ∙ same) threads)
 call_goes limit seats before since pending from region stays some threads own found (Reclaims count is same) =
     reclaim_goes limit seats before since pending from region count stays some threads own is same found
 call_goes limit seats before since pending from region stays some threads own found (UsesKeeper marked chunks all range) =
@@ -137,20 +137,22 @@ call_goes limit seats before since pending from region stays some threads own fo
     (goes_on limit seats before (since ++ pending) from region stays.led is (own ∙ same) threads)
 
 -- a deletion, once its stamp is drawn
-deletion_led : (limit seats : ℕ) (before since pending made last : List Event) (from : Region) (c : Chunk)
+deletion_led : (limit seats : ℕ) (before since called pending : List Event) (from : Region) (c : Chunk)
     (live : IsLiveAt from.chunks c.base c) → Stays limit seats before from → ThreadsMay (world_after (first_world limit seats) before) since
     → All IsWriters pending → from.keeper.numbers.generation < 4611686018427387904
-    → AreAttempts from.marked.marks c.base c.length made → writers since ≡ made ++ last
-    → last ++ (pending ++ Retires c.base c.length ∷ []) ≡ delete_events from.marked.marks c.base c.length
+    → called ++ Retires c.base c.length ∷ [] ≡ delete_events from.marked.marks c.base c.length → Attempting called (writers since) pending
     → Grows limit seats before (since ++ (pending ++ Retires c.base c.length ∷ [])) (deleted_region from live.0.0 c)
-deletion_led limit seats before since pending made last from c live stays threads plain room first own_is last_is =
+deletion_led limit seats before since called pending from c live stays threads plain room ends a =
     let all : All IsWriters (pending ++ Retires c.base c.length ∷ []) =
     All-append IsWriters pending (Retires c.base c.length ∷ []) plain (one_writers (Retires c.base c.length) refl) in
     deleted limit seats before (since ++ (pending ++ Retires c.base c.length ∷ [])) from (deleted_region from live.0.0 c) c.base
-    (from.keeper.numbers.generation + 1) made stays.led stays.region (deleted_there from c live room) first
+    (from.keeper.numbers.generation + 1) called a.made stays.led stays.region (deleted_there from c live room) ends a.tried
     (writers_own since (pending ++ Retires c.base c.length ∷ []) all
-    ∙ (ap (λ (z : List Event). z ++ (pending ++ Retires c.base c.length ∷ [])) own_is
-    ∙ (append_assoc made last (pending ++ Retires c.base c.length ∷ []) ∙ ap (λ (z : List Event). made ++ z) last_is)))
+    ∙ (ap (λ (z : List Event). z ++ (pending ++ Retires c.base c.length ∷ [])) a.own_is
+    ∙ (append_assoc a.made a.last (pending ++ Retires c.base c.length ∷ [])
+    ∙ ap (λ (z : List Event). a.made ++ z)
+    (sym (append_assoc a.last pending (Retires c.base c.length ∷ []))
+    ∙ (ap (λ (z : List Event). z ++ Retires c.base c.length ∷ []) a.last_is ∙ ends)))))
     (threads_append (world_after (first_world limit seats) before) since (pending ++ Retires c.base c.length ∷ []) threads
     (threads_none (world_after (world_after (first_world limit seats) before) since) (pending ++ Retires c.base c.length ∷ []) all))
 
@@ -158,9 +160,9 @@ deletion_led limit seats before since pending made last from c live stays thread
 goes : (limit seats : ℕ) (host : Host) (l : Led limit seats host) → Goes (first_world limit seats) (l.before ++ l.since) host.pending
 goes limit seats host l = go l.phase
   where
-    go : Phase seats l.from (writers l.since) host.handle.begun host.handle.region host.pending
+    go : Phase seats l.from (writers l.since) host.handle.begun host.handle.region host.called host.pending
         → Goes (first_world limit seats) (l.before ++ l.since) host.pending
-    go (Calling called idle pages call) =
+    go (Calling called idle pages call again) =
         call_goes limit seats l.before l.since host.pending l.from called l.stays l.threads
         (threads_append (world_after (first_world limit seats) l.before) l.since host.pending l.threads
         (threads_none (world_after (world_after (first_world limit seats) l.before) l.since) host.pending l.plain))
@@ -172,9 +174,8 @@ goes limit seats host l = go l.phase
         ∙ (sym (after_append (first_world limit seats) (l.before ++ l.since) host.pending)
         ∙ ap (world_after (first_world limit seats)) (append_assoc l.before l.since host.pending))) (l.found none)))
         call
-    go (Deleting c is at live room made last first own_is last_is) =
-        let g = deletion_led limit seats l.before l.since host.pending made last l.from c live l.stays l.threads l.plain room first own_is
-        last_is in
+    go (Deleting c is at live room ends a) =
+        let g = deletion_led limit seats l.before l.since host.called host.pending l.from c live l.stays l.threads l.plain room ends a in
         let parts : l.before ++ (l.since ++ (host.pending ++ Retires c.base c.length ∷ [])) ≡
         ((l.before ++ l.since) ++ host.pending) ++ Retires c.base c.length ∷ [] =
         sym (append_assoc l.before l.since (host.pending ++ Retires c.base c.length ∷ []))
@@ -299,14 +300,13 @@ stopped_there : (limit seats : ℕ) (host : Host) (c : Chunk) → Led limit seat
     → host.world.marked ≡ stops_in host.handle.region.marked c
 stopped_there limit seats host c l none begun = go l.phase
   where
-    go : Phase seats l.from (writers l.since) host.handle.begun host.handle.region host.pending
+    go : Phase seats l.from (writers l.since) host.handle.begun host.handle.region host.called host.pending
         → host.world.marked ≡ stops_in host.handle.region.marked c
-    go (Calling called idle pages call) = absurd (let bad : None ≡ Some c = sym idle ∙ begun in cc)
-    go (Deleting d is at live room made last first own_is last_is) =
+    go (Calling called idle pages call again) = absurd (let bad : None ≡ Some c = sym idle ∙ begun in cc)
+    go (Deleting d is at live room ends a) =
         let here : Some d ≡ Some c = sym is ∙ begun in
         let same : d ≡ c = cc in
-        let h = (deletion_led limit seats l.before l.since host.pending made last l.from d live l.stays l.threads l.plain room first own_is
-        last_is).led in
+        let h = (deletion_led limit seats l.before l.since host.called host.pending l.from d live l.stays l.threads l.plain room ends a).led in
         let stamped : world_after (first_world limit seats) (l.before ++ (l.since ++ (host.pending ++ Retires d.base d.length ∷ [])))
         ≡ world_after host.world (Retires d.base d.length ∷ []) =
         ap (λ (z : List Event). world_after (first_world limit seats) (l.before ++ (l.since ++ (z ++ Retires d.base d.length ∷ [])))) none
@@ -325,9 +325,9 @@ stopped bundles seats host c reached none begun =
 -- a call leaves a region
 call_region : (seats : ℕ) (old new : Region) (own : List Event) → IsRegion old.marked old.chunks → IsCall seats old new own
     → IsRegion new.marked new.chunks
-call_region seats old new own region (Creates v valid lim is same) = still_created old new v region valid lim is
-call_region seats old new own region (Patches at bytes news lawful b is same) = still_patched old new at bytes news region lawful b is
-call_region seats old new own region (Deletes base stamp is made begun same) = still_deleted old new base stamp region is
+call_region seats old new own region (Creates v valid lim is made tried same) = still_created old new v region valid lim is
+call_region seats old new own region (Patches at bytes news lawful b is made tried same) = still_patched old new at bytes news region lawful b is
+call_region seats old new own region (Deletes base stamp is stops made stamped tried same) = still_deleted old new base stamp region is
 call_region seats old new own region (Reclaims count is same) = still_reclaimed old new count region is
 call_region seats old new own region (UsesKeeper marked chunks all range) = same_region old new marked chunks region
 call_region seats old new own region (Refuses is) =
@@ -340,12 +340,12 @@ call_region seats old new own region (Keeps is same) =
 region_there : (limit seats : ℕ) (host : Host) → Led limit seats host → IsRegion host.handle.region.marked host.handle.region.chunks
 region_there limit seats host l = go l.phase
   where
-    go : Phase seats l.from (writers l.since) host.handle.begun host.handle.region host.pending
+    go : Phase seats l.from (writers l.since) host.handle.begun host.handle.region host.called host.pending
         → IsRegion host.handle.region.marked host.handle.region.chunks
-    go (Calling called idle pages call) =
+    go (Calling called idle pages call again) =
         same_region called host.handle.region (ap (λ (r : Region). r.marked) pages) (ap (λ (r : Region). r.chunks) pages)
         (call_region seats l.from called (writers l.since ++ host.pending) l.stays.region call)
-    go (Deleting c is at live room made last first own_is last_is) =
+    go (Deleting c is at live room ends a) =
         same_region l.from host.handle.region (ap (λ (r : Region). r.marked) at) (ap (λ (r : Region). r.chunks) at) l.stays.region
 
 pub is_region : (bundles seats : ℕ) (host : Host) → IsReached bundles seats host → IsRegion host.handle.region.marked host.handle.region.chunks

@@ -4,7 +4,6 @@ use Rattle.std.specs.Prelude.{All}
 use Rattle.std.specs.List.{range_with_len}
 use Rattle.std.proofs.lemmas.List.{append-nil, take_at}
 use Rattle.std.proofs.lemmas.List.Elements.{All-nil, All-cons, All-head, All-tail, All-append, All-take, All-weaker, filter-append}
-use Rattle.nc_decode.specs.declared.instruction.Mark.{Mark}
 use Rattle.nc_region.specs.schedules.World.{World}
 use Rattle.nc_region.specs.schedules.Events.{Event, Steps, Enters, Exits, Takes, Sees, Stores, Leaves, Puts, Serializes, Marks, Bumps, Retires, Frees}
 use Rattle.nc_region.specs.schedules.Events.{Looks, after, world_after}
@@ -18,7 +17,7 @@ use Rattle.nc_region.specs.Patch.{log_of_modify}
 use Rattle.nc_region.specs.Deletion.{freed, unmarkings}
 use Rattle.nc_region.specs.Quiet.{retired_spans}
 use Rattle.nc_calls.specs.Interleaving.{is_writers, writers, IsKeepers, ThreadsMay}
-use Rattle.nc_calls.specs.Calls.{Details, no_details, events_of_entry, events_of_log, delete_events}
+use Rattle.nc_calls.specs.Calls.{Details, no_details, events_of_entry, events_of_log, create_events, modify_events, delete_events}
 use Rattle.nc_calls.proofs.Offered.{refusal_silent}
 use Rattle.nc_calls.specs.Histories.{AreAttempts, NoneYet, OneMore, IsCall, Creates, Patches, Deletes, Reclaims, UsesKeeper, Refuses, Keeps}
 
@@ -120,25 +119,32 @@ keepers_writers (Sees n) k = absurd k
 keepers_writers (Stores n) k = absurd k
 keepers_writers (Leaves n) k = absurd k
 
--- the events of unfinished attempts at a deletion are all the writer's
-begun_writers : (marks : List Mark) (base len : ℕ) (made : List Event) → AreAttempts marks base len made → All IsWriters made
-begun_writers marks base len [] NoneYet = All-nil IsWriters
-begun_writers marks base len _ (OneMore {earlier} first part rest own) =
-    All-append IsWriters earlier part (begun_writers marks base len earlier first)
-    (all_front IsWriters part (rest ++ Retires base len ∷ [])
-    (subst (All IsWriters) (sym own) (log_writers (record no_details { base = base; len = len }) (log_of_delete marks base len))))
+-- attempts at events that are all the writer's
+attempts_writers : (events made : List Event) → AreAttempts events made → All IsWriters events → All IsWriters made
+attempts_writers events [] NoneYet all = All-nil IsWriters
+attempts_writers events _ (OneMore {earlier} first part rest same) all =
+    All-append IsWriters earlier part (attempts_writers events earlier first all)
+    (all_front IsWriters part rest (subst (All IsWriters) (sym same) all))
+
+-- events that are all the writer's, after attempts at some of them
+tried_writers : (events made own : List Event) → AreAttempts events made → All IsWriters events → All IsWriters own → All IsWriters (made ++ own)
+tried_writers events made own tried all more = All-append IsWriters made own (attempts_writers events made tried all) more
 
 -- the events of a call are all the writer's
 pub call_writers : (seats : ℕ) (old new : Region) (own : List Event) → IsCall seats old new own → All IsWriters own
-call_writers seats old new own (Creates v valid lim is same) =
-    subst (All IsWriters) (sym same) (log_writers (record no_details { marks = v.marks }) (log_of_create v.base v.code))
-call_writers seats old new own (Patches at bytes news lawful b is same) =
-    subst (All IsWriters) (sym same) (log_writers no_details (log_of_modify old.marked.bytes at news))
-call_writers seats old new own (Deletes base stamp is made begun same) =
+call_writers seats old new own (Creates v valid lim is made tried same) =
+    let all : All IsWriters (create_events v) = log_writers (record no_details { marks = v.marks }) (log_of_create v.base v.code) in
+    subst (All IsWriters) (sym same) (tried_writers (create_events v) made (create_events v) tried all all)
+call_writers seats old new own (Patches at bytes news lawful b is made tried same) =
+    let events : List Event = modify_events old.marked.bytes at news in
+    let all : All IsWriters (modify_events old.marked.bytes at news) = log_writers no_details (log_of_modify old.marked.bytes at news) in
+    subst (All IsWriters) (sym same) (tried_writers events made events tried all all)
+call_writers seats old new own (Deletes base stamp is stops made stamped tried same) =
+    let all : All IsWriters (delete_events old.marked.marks base is.chunk.length) =
+    log_writers (record no_details { base = base; len = is.chunk.length }) (log_of_delete old.marked.marks base is.chunk.length) in
     subst (All IsWriters) (sym same)
-    (All-append IsWriters made (delete_events old.marked.marks base is.chunk.length)
-    (begun_writers old.marked.marks base is.chunk.length made begun)
-    (log_writers (record no_details { base = base; len = is.chunk.length }) (log_of_delete old.marked.marks base is.chunk.length)))
+    (tried_writers stops made (delete_events old.marked.marks base is.chunk.length) tried
+    (all_front IsWriters stops (Retires base is.chunk.length ∷ []) (subst (All IsWriters) (sym stamped) all)) all)
 call_writers seats old new own (Reclaims count is same) =
     subst (All IsWriters) (sym same)
     (log_writers (record no_details { seats = seats; spans = retired_spans old.chunks })

@@ -1,6 +1,6 @@
--- What leaves the numbers of the world's keeper as they are: events of threads, and the stores and serializations of a deletion.
+-- What leaves the numbers of the world's keeper as they are: events of threads, and those that a host makes, as a deletion's.
 use Rattle.std.proofs.Common.{◌≡◌, ℕ, ◌+◌, Bool, true, false, cond, List, [], ◌∷◌, ◌++◌, replicate, refl, ◌∙◌, sym, ap, subst, append_assoc}
-use Rattle.std.specs.Prelude.{⊤, All}
+use Rattle.std.specs.Prelude.{All}
 use Rattle.std.proofs.lemmas.List.Elements.{All-nil, All-cons, All-head, All-tail, All-append, All-weaker}
 use Rattle.nc_decode.specs.declared.instruction.Mark.{Mark}
 use Rattle.nc_region.specs.schedules.World.{World}
@@ -12,70 +12,62 @@ use Rattle.nc_gens.specs.Rule.{generation_raised}
 use Rattle.nc_calls.specs.Interleaving.{is_writers}
 use Rattle.nc_calls.specs.Calls.{Details, no_details, delete_events}
 use Rattle.nc_calls.proofs.Offered.{IsPart, OfMarked, OfOthers, is_part, events_of}
-use Rattle.nc_hosts.specs.Hosts.{IsNoLook}
+use Rattle.nc_hosts.specs.Hosts.{IsHosts, IsNoLook}
 use Rattle.nc_hosts.proofs.Looked.{all_back}
 use Rattle.nc_hosts.proofs.Interleaving.{thread_seats}
 
--- the event is a store or a serialization
-abbrev pub IsStore : Event → Type 0
-IsStore (Puts at byte) = ⊤
-IsStore Serializes = ⊤
-IsStore event = ⊥
-
--- puts at chosen places are stores
-puts_store : (d : Details) (chosen : ℕ → Bool) (at : ℕ) (bytes : List ℕ) → All IsStore (events_of d (puts_where chosen at bytes))
-puts_store d chosen at [] = All-nil IsStore
-puts_store d chosen at (byte ∷ rest) = go (chosen at) (puts_store d chosen (at + 1) rest)
+-- a host makes puts at chosen places
+puts_hosts : (d : Details) (chosen : ℕ → Bool) (at : ℕ) (bytes : List ℕ) → All IsHosts (events_of d (puts_where chosen at bytes))
+puts_hosts d chosen at [] = All-nil IsHosts
+puts_hosts d chosen at (byte ∷ rest) = go (chosen at) (puts_hosts d chosen (at + 1) rest)
   where
-    go : (b : Bool) → All IsStore (events_of d (puts_where chosen (at + 1) rest))
-        → All IsStore (events_of d (cond b (Put at byte ∷ puts_where chosen (at + 1) rest) (puts_where chosen (at + 1) rest)))
-    go true all = All-cons IsStore (Puts at byte) (events_of d (puts_where chosen (at + 1) rest)) tt all
+    go : (b : Bool) → All IsHosts (events_of d (puts_where chosen (at + 1) rest))
+        → All IsHosts (events_of d (cond b (Put at byte ∷ puts_where chosen (at + 1) rest) (puts_where chosen (at + 1) rest)))
+    go true all = All-cons IsHosts (Puts at byte) (events_of d (puts_where chosen (at + 1) rest)) tt all
     go false all = all
 
--- the first events of a deletion are stores
-part_stores : (marks : List Mark) (base len : ℕ) (part : List Event) → IsPart marks base len part → All IsStore part
-part_stores marks base len part (OfMarked n le is) =
-    subst (All IsStore) (sym is) (puts_store (record no_details { base = base; len = len }) (is_marked_at marks) base (replicate n 244))
-part_stores marks base len part (OfOthers n le is) =
+-- a host makes the first events of a deletion
+part_hosts : (marks : List Mark) (base len : ℕ) (part : List Event) → IsPart marks base len part → All IsHosts part
+part_hosts marks base len part (OfMarked f) =
+    subst (All IsHosts) (sym f.own) (puts_hosts (record no_details { base = base; len = len }) (is_marked_at marks) base f.some)
+part_hosts marks base len part (OfOthers others f is) =
     let d : Details = record { marks = []; base = base; len = len; seats = 0; spans = [] } in
-    let others : List Event = events_of (record no_details { base = base; len = len })
-    (puts_where (is_unmarked_at marks) base (replicate n 244)) in
-    subst (All IsStore) (sym is)
-    (All-append IsStore (events_of (record no_details { base = base; len = len }) (puts_where (is_marked_at marks) base (replicate len 244)))
-    (Serializes ∷ others) (puts_store d (is_marked_at marks) base (replicate len 244))
-    (All-cons IsStore Serializes others tt (puts_store d (is_unmarked_at marks) base (replicate n 244))))
+    subst (All IsHosts) (sym is)
+    (All-append IsHosts (events_of (record no_details { base = base; len = len }) (puts_where (is_marked_at marks) base (replicate len 244)))
+    (Serializes ∷ others) (puts_hosts d (is_marked_at marks) base (replicate len 244))
+    (All-cons IsHosts Serializes others tt (subst (All IsHosts) (sym f.own) (puts_hosts d (is_unmarked_at marks) base f.some))))
 
--- the events that are left of a deletion before its retiring are stores
-pub rest_stores : (marks : List Mark) (base len : ℕ) (first rest : List Event)
-    → first ++ (rest ++ Retires base len ∷ []) ≡ delete_events marks base len → All IsStore rest
-rest_stores marks base len first rest is =
-    all_back IsStore first rest
-    (part_stores marks base len (first ++ rest)
+-- a host makes the events that are left of a deletion before its retiring
+pub rest_hosts : (marks : List Mark) (base len : ℕ) (first rest : List Event)
+    → first ++ (rest ++ Retires base len ∷ []) ≡ delete_events marks base len → All IsHosts rest
+rest_hosts marks base len first rest is =
+    all_back IsHosts first rest
+    (part_hosts marks base len (first ++ rest)
     (is_part marks base len (first ++ rest) [] (append_assoc first rest (Retires base len ∷ []) ∙ is)))
 
--- stores leave the keeper's numbers as they are
-pub stores_keep : (w : World) (events : List Event) → All IsStore events → (world_after w events).keeper ≡ w.keeper
-stores_keep w [] all = refl
-stores_keep w (Puts at byte ∷ events) all = stores_keep (after w (Puts at byte)) events (All-tail IsStore (Puts at byte) events all)
-stores_keep w (Serializes ∷ events) all = stores_keep (after w Serializes) events (All-tail IsStore Serializes events all)
-stores_keep w (Steps k next ∷ events) all = absurd (All-head IsStore (Steps k next) events all)
-stores_keep w (Enters k at ∷ events) all = absurd (All-head IsStore (Enters k at) events all)
-stores_keep w (Exits k ∷ events) all = absurd (All-head IsStore (Exits k) events all)
-stores_keep w (Takes k ∷ events) all = absurd (All-head IsStore (Takes k) events all)
-stores_keep w (Sees k ∷ events) all = absurd (All-head IsStore (Sees k) events all)
-stores_keep w (Stores k ∷ events) all = absurd (All-head IsStore (Stores k) events all)
-stores_keep w (Leaves k ∷ events) all = absurd (All-head IsStore (Leaves k) events all)
-stores_keep w (Marks at marks ∷ events) all = absurd (All-head IsStore (Marks at marks) events all)
-stores_keep w (Bumps ∷ events) all = absurd (All-head IsStore Bumps events all)
-stores_keep w (Retires base len ∷ events) all = absurd (All-head IsStore (Retires base len) events all)
-stores_keep w (Frees span ∷ events) all = absurd (All-head IsStore (Frees span) events all)
-stores_keep w (Looks k ∷ events) all = absurd (All-head IsStore (Looks k) events all)
+-- what a host makes leaves the keeper's numbers as they are
+pub hosts_keep : (w : World) (events : List Event) → All IsHosts events → (world_after w events).keeper ≡ w.keeper
+hosts_keep w [] all = refl
+hosts_keep w (Puts at byte ∷ events) all = hosts_keep (after w (Puts at byte)) events (All-tail IsHosts (Puts at byte) events all)
+hosts_keep w (Serializes ∷ events) all = hosts_keep (after w Serializes) events (All-tail IsHosts Serializes events all)
+hosts_keep w (Steps k next ∷ events) all = absurd (All-head IsHosts (Steps k next) events all)
+hosts_keep w (Enters k at ∷ events) all = absurd (All-head IsHosts (Enters k at) events all)
+hosts_keep w (Exits k ∷ events) all = absurd (All-head IsHosts (Exits k) events all)
+hosts_keep w (Takes k ∷ events) all = absurd (All-head IsHosts (Takes k) events all)
+hosts_keep w (Sees k ∷ events) all = absurd (All-head IsHosts (Sees k) events all)
+hosts_keep w (Stores k ∷ events) all = absurd (All-head IsHosts (Stores k) events all)
+hosts_keep w (Leaves k ∷ events) all = absurd (All-head IsHosts (Leaves k) events all)
+hosts_keep w (Marks at marks ∷ events) all = hosts_keep (after w (Marks at marks)) events (All-tail IsHosts (Marks at marks) events all)
+hosts_keep w (Bumps ∷ events) all = absurd (All-head IsHosts Bumps events all)
+hosts_keep w (Retires base len ∷ events) all = absurd (All-head IsHosts (Retires base len) events all)
+hosts_keep w (Frees span ∷ events) all = absurd (All-head IsHosts (Frees span) events all)
+hosts_keep w (Looks k ∷ events) all = absurd (All-head IsHosts (Looks k) events all)
 
--- stores are no looks
-pub stores_look_not : (events : List Event) → All IsStore events → All IsNoLook events
-stores_look_not events all = All-weaker IsStore IsNoLook no_look events all
+-- a host makes no looks
+pub hosts_look_not : (events : List Event) → All IsHosts events → All IsNoLook events
+hosts_look_not events all = All-weaker IsHosts IsNoLook no_look events all
   where
-    no_look : (event : Event) → IsStore event → IsNoLook event
+    no_look : (event : Event) → IsHosts event → IsNoLook event
     no_look (Puts at byte) is = tt
     no_look Serializes is = tt
     no_look (Steps k next) is = tt

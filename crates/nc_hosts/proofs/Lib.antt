@@ -2,6 +2,7 @@ mod Deleting
 mod Interleaving
 mod Looked
 mod Kept
+mod Again
 mod Reaching
 mod Concluding
 mod Storing

@@ -13,6 +13,7 @@ use Rattle.nc_region.specs.schedules.Events.{Exits, Takes, Stores, Frees, Looks,
 use Rattle.nc_region.proofs.Offered.{after_append}
 use Rattle.nc_region.specs.Region.{Region, IsCreated}
 use Rattle.nc_region.specs.Deletion.{IsDeleted}
+use Rattle.nc_calls.specs.Interleaving.{writers}
 use Rattle.nc_calls.specs.Histories.{Turn, IsTurn}
 use Rattle.nc_calls.specs.Example.{first_region, start_of, ThreadIsIn, IsLife}
 use Rattle.nc_calls.proofs.Offered.{lives}
@@ -75,19 +76,22 @@ goes_through bundles first v creation at is life =
       handle = record first { region = creation.region };
       world = world_after start creation.events;
       pending = [];
+      called = writers creation.events;
     } in
     let deleted : Host = record {
       handle = record first { region = deletion.region };
       world = world_after (world_after start creation.events) deletion.events;
       pending = [];
+      called = writers deletion.events;
     } in
     let last : Host = record {
       handle = record first { region = reclaim.region };
       world = world_after (world_after (world_after start creation.events) deletion.events) (Exits 0 ∷ Takes 0 ∷ Stores 0 ∷ Looks 0 ∷ []);
       pending = Frees (span_of v) ∷ [];
+      called = writers reclaim.events;
     } in
     let creates : GoesOn bundles 1 (new_host bundles 1 first) created =
-    turns bundles 1 (new_host bundles 1 first) [] creation.events [] creation (First is refl refl) refl is.begun refl one
+    turns bundles 1 (new_host bundles 1 first) [] creation.events [] creation (First is refl refl refl) refl is.begun refl one
     (sym (append-nil creation.events)) in
     let deletes : GoesOn bundles 1 created deleted =
     turns bundles 1 created creation.events deletion.events [] deletion

@@ -3,13 +3,13 @@ use Rattle.std.proofs.Common.{◌≡◌, ℕ, ◌+◌, ◌*◌, ◌<◌, false, 
 use Rattle.std.proofs.Common.{subst}
 use Rattle.std.specs.Prelude.{All}
 use Rattle.std.proofs.lemmas.List.{append-nil, append_assoc}
-use Rattle.std.proofs.lemmas.List.Elements.{All-nil, All-head, All-tail}
+use Rattle.std.proofs.lemmas.List.Elements.{All-nil, All-head, All-tail, All-weaker}
 use Rattle.nc_text.specs.MarkedText.{MarkedText, unused_text}
 use Rattle.nc_gens.specs.Rule.{first_keeper_numbers}
 use Rattle.nc_gens.specs.Seen.{KeeperState}
 use Rattle.nc_list.specs.declared.chunk.Chunk.{Chunk}
 use Rattle.nc_region.specs.schedules.World.{World, first_world}
-use Rattle.nc_region.specs.schedules.Events.{Event, Retires, ThreadMay, after, world_after}
+use Rattle.nc_region.specs.schedules.Events.{Event, Puts, Serializes, Marks, Retires, ThreadMay, after, world_after}
 use Rattle.nc_region.proofs.Offered.{after_append, region_of_new}
 use Rattle.nc_region.specs.Region.{Region, IsRegion}
 use Rattle.nc_region.specs.Deletion.{IsDeleted}
@@ -18,26 +18,36 @@ use Rattle.nc_calls.specs.Calls.{HasLedTo, no_details, delete_events}
 use Rattle.nc_calls.specs.Histories.{AreAttempts, NoneYet, OneMore, IsCall, Deletes, Keeps}
 use Rattle.nc_calls.proofs.Offered.{begins_unused}
 use Rattle.nc_acts.specs.Log.{log_of_delete}
-use Rattle.nc_handle.specs.RegionHandle.{RegionHandleState, IsLiveAt, IsFirst, HasBegunDeletion, HasEndedDeletion}
+use Rattle.nc_handle.specs.RegionHandle.{RegionHandleState, IsLiveAt, IsFirst, HasEndedDeletion}
 use Rattle.nc_handle.specs.Pending.{IsHandleCall, Changes, Begins, Ends}
 use Rattle.nc_calls.specs.Calls.{KnowsNoMore}
-use Rattle.nc_hosts.specs.Hosts.{Host, IsHostStep, Runs, Makes, Restarts, Calls, Asks, IsNoLook, HasFound, IsReached, First, Then}
+use Rattle.nc_hosts.specs.Hosts.{Host, IsHostStep, Runs, Makes, Restarts, Calls, Asks, IsHosts, IsNoLook, HasFound, IsReached, First, Then}
 use Rattle.nc_calls.proofs.Offered.{Stays, same_region, goes_on, call_stays}
 use Rattle.nc_calls.proofs.Offered.{whole_serialized, knows_as_much}
-use Rattle.nc_hosts.proofs.Kept.{IsStore, rest_stores}
+use Rattle.nc_hosts.proofs.Again.{call_again}
 use Rattle.nc_hosts.proofs.Interleaving.{IsWriters, all_front, one_writers, writers_thread, writers_own, threads_append, threads_none}
+use Rattle.nc_hosts.proofs.Looked.{all_back}
 use Rattle.nc_hosts.proofs.Interleaving.{log_writers, call_writers}
 
--- The events that there are before a call of a region ends are those of that call so far, whose rest is pending. Or they are unfinished
--- attempts at a deletion, and the last one so far, whose rest up to the stamp is pending.
-pub data Phase (seats : ℕ) (from : Region) (own : List Event) (begun : Option Chunk) (region : Region) (pending : List Event) : Type 0 where
-  Calling : (called : Region) → begun ≡ None → region ≡ record called { made = region.made } → IsCall seats from called (own ++ pending)
-      → Phase seats from own begun region pending
+-- The events so far are attempts at those of the last call, and the last attempt so far, whose rest is pending.
+pub record Attempting (called own pending : List Event) : Type 0 where
+  pub made : List Event
+  pub last : List Event
+  pub tried : AreAttempts called made
+  pub own_is : own ≡ made ++ last
+  pub last_is : last ++ pending ≡ called
+
+-- The events that there are before a call of a region ends are those of that call so far, whose rest is pending. If a host makes all of
+-- its events, they are attempts. Or they are attempts at a deletion before its stamp.
+pub data Phase (seats : ℕ) (from : Region) (own : List Event) (begun : Option Chunk) (region : Region) (called pending : List Event)
+    : Type 0 where
+  Calling : (whole : Region) → begun ≡ None → region ≡ record whole { made = region.made } → IsCall seats from whole (own ++ pending)
+      → (All IsHosts called → IsCall seats from whole called × Attempting called own pending)
+      → Phase seats from own begun region called pending
   Deleting : (c : Chunk) → begun ≡ Some c → region ≡ from → IsLiveAt from.chunks c.base c
-      → from.keeper.numbers.generation < 4611686018427387904 → (made last : List Event)
-      → AreAttempts from.marked.marks c.base c.length made → own ≡ made ++ last
-      → last ++ (pending ++ Retires c.base c.length ∷ []) ≡ delete_events from.marked.marks c.base c.length
-      → Phase seats from own begun region pending
+      → from.keeper.numbers.generation < 4611686018427387904
+      → called ++ Retires c.base c.length ∷ [] ≡ delete_events from.marked.marks c.base c.length → Attempting called own pending
+      → Phase seats from own begun region called pending
 
 -- the events before the last call began, and since then
 pub record Led (limit seats : ℕ) (host : Host) : Type 0 where
@@ -49,7 +59,7 @@ pub record Led (limit seats : ℕ) (host : Host) : Type 0 where
   pub threads : ThreadsMay (world_after (first_world limit seats) before) since
   pub plain : All IsWriters host.pending
   pub found : HasFound host
-  pub phase : Phase seats from (writers since) host.handle.begun host.handle.region host.pending
+  pub phase : Phase seats from (writers since) host.handle.begun host.handle.region host.called host.pending
 
 -- the world after one more event is that after all events
 led_after : (limit seats : ℕ) (before since : List Event) (w : World) (event : Event)
@@ -65,18 +75,43 @@ led_there : (limit seats : ℕ) (before since : List Event) (w : World) → w �
     → w ≡ world_after (world_after (first_world limit seats) before) since
 led_there limit seats before since w is = is ∙ after_append (first_world limit seats) before since
 
+-- one event of an attempt is made
+attempting_made : (called own pending rest : List Event) (event : Event) → pending ≡ event ∷ rest → Attempting called own pending
+    → Attempting called (own ++ event ∷ []) rest
+attempting_made called own pending rest event is a =
+    record {
+      made = a.made;
+      last = a.last ++ event ∷ [];
+      tried = a.tried;
+      own_is = ap (λ (z : List Event). z ++ event ∷ []) a.own_is ∙ append_assoc a.made a.last (event ∷ []);
+      last_is = append_assoc a.last (event ∷ []) rest ∙ (ap (λ (z : List Event). a.last ++ z) (sym is) ∙ a.last_is);
+    }
+
+-- one more attempt begins
+attempting_anew : (called own pending : List Event) → Attempting called own pending → Attempting called own called
+attempting_anew called own pending a =
+    record {
+      made = a.made ++ a.last;
+      last = [];
+      tried = OneMore a.tried a.last pending a.last_is;
+      own_is = a.own_is ∙ sym (append-nil (a.made ++ a.last));
+      last_is = refl;
+    }
+
+-- the first attempt begins
+attempting_first : (called : List Event) → Attempting called [] called
+attempting_first called = record { made = []; last = []; tried = NoneYet; own_is = refl; last_is = refl }
+
 -- one event of a phase that was pending is made
 phase_made : (seats : ℕ) (from : Region) (own : List Event) (begun : Option Chunk) (region : Region) (event : Event)
-    (pending rest : List Event) → pending ≡ event ∷ rest → Phase seats from own begun region pending
-    → Phase seats from (own ++ event ∷ []) begun region rest
-phase_made seats from own begun region event pending rest is (Calling called none pages call) =
-    Calling called none pages (subst (IsCall seats from called)
+    (called pending rest : List Event) → pending ≡ event ∷ rest → Phase seats from own begun region called pending
+    → Phase seats from (own ++ event ∷ []) begun region called rest
+phase_made seats from own begun region event called pending rest is (Calling whole none pages call again) =
+    Calling whole none pages (subst (IsCall seats from whole)
     (ap (λ (z : List Event). own ++ z) is ∙ sym (append_assoc own (event ∷ []) rest)) call)
-phase_made seats from own begun region event pending rest is (Deleting c at same live room made last first own_is last_is) =
-    Deleting c at same live room made (last ++ event ∷ []) first
-    (ap (λ (z : List Event). z ++ event ∷ []) own_is ∙ append_assoc made last (event ∷ []))
-    (append_assoc last (event ∷ []) (rest ++ Retires c.base c.length ∷ [])
-    ∙ (ap (λ (z : List Event). last ++ (z ++ Retires c.base c.length ∷ [])) (sym is) ∙ last_is))
+    (λ hosts. ((again hosts).0, attempting_made called own pending rest event is (again hosts).1))
+phase_made seats from own begun region event called pending rest is (Deleting c at same live room ends a) =
+    Deleting c at same live room ends (attempting_made called own pending rest event is a)
 
 -- a host is led over a thread's event
 led_runs : (limit seats : ℕ) (old : Host) (event : Event) → Led limit seats old → is_writers event ≡ false → ThreadMay old.world event
@@ -92,7 +127,7 @@ led_runs limit seats old event l is may found =
           ((λ no. subst (λ (w : World). ThreadMay w event) (led_there limit seats l.before l.since old.world l.world) may), tt);
       plain = l.plain;
       found = found;
-      phase = subst (λ (own : List Event). Phase seats l.from own old.handle.begun old.handle.region old.pending)
+      phase = subst (λ (own : List Event). Phase seats l.from own old.handle.begun old.handle.region old.called old.pending)
           (sym (writers_thread l.since event is)) l.phase;
     }
 
@@ -115,37 +150,35 @@ led_makes limit seats old event rest l is found =
           (one_writers event (All-head IsWriters event rest plain)));
       plain = All-tail IsWriters event rest plain;
       found = found;
-      phase = subst (λ (own : List Event). Phase seats l.from own old.handle.begun old.handle.region rest) (sym own)
-          (phase_made seats l.from (writers l.since) old.handle.begun old.handle.region event old.pending rest is l.phase);
+      phase = subst (λ (own : List Event). Phase seats l.from own old.handle.begun old.handle.region old.called rest) (sym own)
+          (phase_made seats l.from (writers l.since) old.handle.begun old.handle.region event old.called old.pending rest is l.phase);
     }
 
--- a deletion that is under way could begin
-pub could_begin : (limit seats : ℕ) (host : Host) (c : Chunk) → Led limit seats host → host.handle.begun ≡ Some c
-    → HasBegunDeletion (record host.handle { begun = None }) host.handle c.base c
-could_begin limit seats host c l begun = go l.phase
+-- a host makes what is left of an attempt at events that it makes
+attempting_hosts : (called own pending : List Event) → Attempting called own pending → All IsHosts called → All IsHosts pending
+attempting_hosts called own pending a hosts = all_back IsHosts a.last pending (subst (All IsHosts) (sym a.last_is) hosts)
+
+-- where a host makes the events of the last call, it makes those pending
+pub pending_hosts : (limit seats : ℕ) (host : Host) → Led limit seats host → All IsHosts host.called → All IsHosts host.pending
+pending_hosts limit seats host l hosts = go l.phase
   where
-    go : Phase seats l.from (writers l.since) host.handle.begun host.handle.region host.pending
-        → HasBegunDeletion (record host.handle { begun = None }) host.handle c.base c
-    go (Calling called idle pages call) = absurd (let bad : None ≡ Some c = sym idle ∙ begun in cc)
-    go (Deleting d is at live room made last first own_is last_is) =
+    go : Phase seats l.from (writers l.since) host.handle.begun host.handle.region host.called host.pending → All IsHosts host.pending
+    go (Calling whole idle pages call again) = attempting_hosts host.called (writers l.since) host.pending (again hosts).1 hosts
+    go (Deleting c is at live room ends a) = attempting_hosts host.called (writers l.since) host.pending a hosts
+
+-- while a deletion is under way, the last call's events are those up to its stamp
+pub deletion_called : (limit seats : ℕ) (host : Host) (c : Chunk) → Led limit seats host → host.handle.begun ≡ Some c
+    → host.called ++ Retires c.base c.length ∷ [] ≡ delete_events host.handle.region.marked.marks c.base c.length
+deletion_called limit seats host c l begun = go l.phase
+  where
+    go : Phase seats l.from (writers l.since) host.handle.begun host.handle.region host.called host.pending
+        → host.called ++ Retires c.base c.length ∷ [] ≡ delete_events host.handle.region.marked.marks c.base c.length
+    go (Calling whole idle pages call again) = absurd (let bad : None ≡ Some c = sym idle ∙ begun in cc)
+    go (Deleting d is at live room ends a) =
         let here : Some d ≡ Some c = sym is ∙ begun in
         let same : d ≡ c = cc in
-        record {
-          live = subst (λ (e : Chunk). IsLiveAt host.handle.region.chunks e.base e) same
-              (subst (λ (r : Region). IsLiveAt r.chunks d.base d) (sym at) live);
-          room = subst (λ (r : Region). r.keeper.numbers.generation < 4611686018427387904) (sym at) room;
-          none = refl;
-          others = ap (λ (b : Option Chunk). record host.handle { begun = b }) begun;
-        }
-
--- while a deletion is under way, stores and serializations are pending
-pub deletion_stores : (limit seats : ℕ) (host : Host) (c : Chunk) → Led limit seats host → host.handle.begun ≡ Some c → All IsStore host.pending
-deletion_stores limit seats host c l begun = go l.phase
-  where
-    go : Phase seats l.from (writers l.since) host.handle.begun host.handle.region host.pending → All IsStore host.pending
-    go (Calling called idle pages call) = absurd (let bad : None ≡ Some c = sym idle ∙ begun in cc)
-    go (Deleting d is at live room made last first own_is last_is) =
-        rest_stores l.from.marked.marks d.base d.length last host.pending last_is
+        subst (λ (r : Region). host.called ++ Retires c.base c.length ∷ [] ≡ delete_events r.marked.marks c.base c.length) (sym at)
+        (subst (λ (e : Chunk). host.called ++ Retires e.base e.length ∷ [] ≡ delete_events l.from.marked.marks e.base e.length) same ends)
 
 -- pages that were made are no part of a world
 pages_stay : (limit seats : ℕ) (before : List Event) (old new : Region) → Stays limit seats before old
@@ -164,9 +197,9 @@ pub finished : (limit seats : ℕ) (host : Host) (l : Led limit seats host) → 
 finished limit seats host l none idle =
     go l.phase
   where
-    go : Phase seats l.from (writers l.since) host.handle.begun host.handle.region host.pending
+    go : Phase seats l.from (writers l.since) host.handle.begun host.handle.region host.called host.pending
         → Stays limit seats (l.before ++ l.since) host.handle.region
-    go (Calling called idle pages call) =
+    go (Calling called idle pages call again) =
         let own : writers l.since ++ host.pending ≡ writers l.since =
         ap (λ (z : List Event). writers l.since ++ z) none ∙ append-nil (writers l.since) in
         let now : KnowsNoMore host.handle.region.keeper.numbers host.world.keeper =
@@ -177,12 +210,12 @@ finished limit seats host l none idle =
         (subst (λ (w : World). KnowsNoMore called.keeper.numbers w.keeper) l.world
         (subst (λ (k : KeeperState). KnowsNoMore k.numbers host.world.keeper) (ap (λ (r : Region). r.keeper) pages) now))
         (subst (IsCall seats l.from called) own call)) pages
-    go (Deleting c is at live room made last first own_is last_is) = absurd (let bad : None ≡ Some c = sym idle ∙ is in cc)
+    go (Deleting c is at live room ends a) = absurd (let bad : None ≡ Some c = sym idle ∙ is in cc)
 
 -- a call that begins where the last one has ended
 led_anew : (limit seats : ℕ) (old new : Host) (l : Led limit seats old) → old.pending ≡ [] → old.handle.begun ≡ None
     → new.world ≡ old.world → HasFound new → All IsWriters new.pending
-    → Phase seats old.handle.region [] new.handle.begun new.handle.region new.pending → Led limit seats new
+    → Phase seats old.handle.region [] new.handle.begun new.handle.region new.called new.pending → Led limit seats new
 led_anew limit seats old new l none idle same found plain phase =
     record {
       before = l.before ++ l.since;
@@ -204,51 +237,65 @@ stops_plain pending r c own =
     (subst (All IsWriters) (sym own)
     (log_writers (record no_details { base = c.base; len = c.length }) (log_of_delete r.marked.marks c.base c.length)))
 
+-- a deletion with its stamp, after attempts at it
+deletes : (seats : ℕ) (from region : Region) (own : List Event) (base stamp : ℕ) (c : Chunk) (called made last : List Event) (r : Region)
+    → r ≡ from → (d : IsDeleted r region base stamp) → d.chunk ≡ c
+    → called ++ Retires base c.length ∷ [] ≡ delete_events from.marked.marks base c.length → AreAttempts called made → own ≡ made ++ last
+    → last ≡ called → IsCall seats from region (own ++ Retires base c.length ∷ [])
+deletes seats from region own base stamp c called made last r at d chunk ends tried own_is last_is =
+    let there : called ++ Retires base d.chunk.length ∷ [] ≡ delete_events r.marked.marks base d.chunk.length =
+    subst (λ (e : Chunk). called ++ Retires base e.length ∷ [] ≡ delete_events r.marked.marks base e.length) (sym chunk)
+    (subst (λ (q : Region). called ++ Retires base c.length ∷ [] ≡ delete_events q.marked.marks base c.length) (sym at) ends) in
+    subst (λ (q : Region). IsCall seats q region (own ++ Retires base c.length ∷ [])) at
+    (Deletes base stamp d called made there tried
+    (ap (λ (z : List Event). z ++ Retires base c.length ∷ []) own_is
+    ∙ (append_assoc made last (Retires base c.length ∷ [])
+    ∙ (ap (λ (z : List Event). made ++ (z ++ Retires base c.length ∷ [])) last_is
+    ∙ (ap (λ (e : Chunk). made ++ (called ++ Retires base e.length ∷ [])) (sym chunk)
+    ∙ ap (λ (z : List Event). made ++ z) there)))))
+
+-- a stamp is none of the events that a host makes
+stamp_not : (base len : ℕ) (called : List Event) → called ≡ Retires base len ∷ [] → ¬ All IsHosts called
+stamp_not base len called is hosts = All-head IsHosts (Retires base len) [] (subst (All IsHosts) is hosts)
+
 -- the last call of a deletion
-phase_ended : (seats : ℕ) (from : Region) (own : List Event) (old new : RegionHandleState) (pending later : List Event) (stamp : ℕ)
-    (is : HasEndedDeletion old new stamp) → pending ≡ [] → later ≡ Retires is.chunk.base is.chunk.length ∷ [] → Phase seats from own old.begun old.region pending
-    → Phase seats from own new.begun new.region later
-phase_ended seats from own old new pending later stamp is none stamped (Calling called idle pages call) =
+phase_ended : (seats : ℕ) (from : Region) (own : List Event) (old new : RegionHandleState) (called pending then later : List Event) (stamp : ℕ)
+    (is : HasEndedDeletion old new stamp) → pending ≡ [] → later ≡ Retires is.chunk.base is.chunk.length ∷ [] → then ≡ later
+    → Phase seats from own old.begun old.region called pending → Phase seats from own new.begun new.region then later
+phase_ended seats from own old new called pending then later stamp is none stamped same (Calling whole idle pages call again) =
     absurd (let bad : None ≡ Some is.chunk = sym idle ∙ is.begun in cc)
-phase_ended seats from own old new pending later stamp is none stamped (Deleting c begun at live room made last first own_is last_is) =
+phase_ended seats from own old new called pending then later stamp is none stamped same (Deleting c begun at live room ends a) =
     let here : Some c ≡ Some is.chunk = sym begun ∙ is.begun in
-    let same : c ≡ is.chunk = cc in
-    let deleted : IsDeleted from new.region is.chunk.base stamp =
-    subst (λ (r : Region). IsDeleted r new.region is.chunk.base stamp) at is.deleted in
+    let one : c ≡ is.chunk = cc in
     Calling new.region (ap (λ (h : RegionHandleState). h.begun) is.others) refl
-    (gone at is.deleted is.same
-    (subst (λ (d : Chunk). AreAttempts from.marked.marks d.base d.length made) same first)
-    (ap (λ (z : List Event). z ++ later) own_is
-    ∙ (append_assoc made last later
-    ∙ ap (λ (z : List Event). made ++ z)
-    (ap (λ (z : List Event). last ++ z) stamped
-    ∙ (ap (λ (z : List Event). last ++ (z ++ Retires is.chunk.base is.chunk.length ∷ [])) (sym none)
-    ∙ (ap (λ (d : Chunk). last ++ (pending ++ Retires d.base d.length ∷ [])) (sym same)
-    ∙ (last_is ∙ ap (λ (d : Chunk). delete_events from.marked.marks d.base d.length) same)))))))
-  where
-    gone : {r : Region} → r ≡ from → (d : IsDeleted r new.region is.chunk.base stamp) → d.chunk ≡ is.chunk
-        → AreAttempts from.marked.marks is.chunk.base is.chunk.length made
-        → own ++ later ≡ made ++ delete_events from.marked.marks is.chunk.base is.chunk.length
-        → IsCall seats from new.region (own ++ later)
-    gone {r} at d chunk first events =
-        subst (λ (q : Region). IsCall seats q new.region (own ++ later)) at
-        (Deletes is.chunk.base stamp d made
-        (subst (λ (q : Region). AreAttempts q.marked.marks is.chunk.base d.chunk.length made) (sym at)
-        (subst (λ (e : Chunk). AreAttempts from.marked.marks is.chunk.base e.length made) (sym chunk) first))
-        (events ∙ (ap (λ (q : Region). made ++ delete_events q.marked.marks is.chunk.base is.chunk.length) (sym at)
-        ∙ ap (λ (e : Chunk). made ++ delete_events r.marked.marks is.chunk.base e.length) (sym chunk))))
+    (subst (λ (z : List Event). IsCall seats from new.region (own ++ z)) (sym stamped)
+    (deletes seats from new.region own is.chunk.base stamp is.chunk called a.made a.last old.region at is.deleted is.same
+    (subst (λ (e : Chunk). called ++ Retires e.base e.length ∷ [] ≡ delete_events from.marked.marks e.base e.length) one ends)
+    a.tried a.own_is
+    (sym (append-nil a.last) ∙ (ap (λ (z : List Event). a.last ++ z) (sym none) ∙ a.last_is))))
+    (λ hosts. absurd (stamp_not is.chunk.base is.chunk.length then (same ∙ stamped) hosts))
+
+-- the events of a call are its first attempt
+phase_called : (seats : ℕ) (from whole : Region) (called pending : List Event) → called ≡ pending → IsCall seats from whole pending
+    → IsCall seats from whole called × Attempting called [] pending
+phase_called seats from whole called pending is call = (
+  subst (IsCall seats from whole) (sym is) call,
+  subst (Attempting called []) is (attempting_first called),
+)
 
 -- a host is led over a call
 led_calls : (limit seats : ℕ) (old new : Host) → Led limit seats old → old.pending ≡ [] → IsHandleCall seats old.handle new.handle new.pending
-    → new.world ≡ old.world → HasFound new → Led limit seats new
-led_calls limit seats old new l none (Changes idle then call) same found =
+    → new.world ≡ old.world → new.called ≡ new.pending → HasFound new → Led limit seats new
+led_calls limit seats old new l none (Changes idle then call) same called found =
     led_anew limit seats old new l none idle same found (call_writers seats old.handle.region new.handle.region new.pending call)
-    (Calling new.handle.region then refl call)
-led_calls limit seats old new l none (Begins c begun own) same found =
+    (Calling new.handle.region then refl call
+    (λ hosts. phase_called seats old.handle.region new.handle.region new.called new.pending called call))
+led_calls limit seats old new l none (Begins c begun own) same called found =
     led_anew limit seats old new l none begun.none same found (stops_plain new.pending old.handle.region c own)
     (Deleting c (ap (λ (h : RegionHandleState). h.begun) begun.others) (ap (λ (h : RegionHandleState). h.region) begun.others) begun.live begun.room
-    [] [] NoneYet refl own)
-led_calls limit seats old new l none (Ends stamp is stamped) same found =
+    (ap (λ (z : List Event). z ++ Retires c.base c.length ∷ []) called ∙ own)
+    (subst (Attempting new.called []) called (attempting_first new.called)))
+led_calls limit seats old new l none (Ends stamp is stamped) same called found =
     record {
       before = l.before;
       since = l.since;
@@ -258,7 +305,8 @@ led_calls limit seats old new l none (Ends stamp is stamped) same found =
       threads = l.threads;
       plain = subst (All IsWriters) (sym stamped) (one_writers (Retires is.chunk.base is.chunk.length) refl);
       found = found;
-      phase = phase_ended seats l.from (writers l.since) old.handle new.handle old.pending new.pending stamp is none stamped l.phase;
+      phase = phase_ended seats l.from (writers l.since) old.handle new.handle old.called old.pending new.called new.pending stamp is none stamped
+          called l.phase;
     }
 
 -- a call that leaves the region as it is, but for pages
@@ -267,8 +315,9 @@ led_asks : (limit seats : ℕ) (old : Host) (handle : RegionHandleState) → Led
     → Led limit seats (record old { handle = handle })
 led_asks limit seats old handle l begun region found = go l.phase
   where
-    go : Phase seats l.from (writers l.since) old.handle.begun old.handle.region old.pending → Led limit seats (record old { handle = handle })
-    go (Calling called idle pages call) =
+    go : Phase seats l.from (writers l.since) old.handle.begun old.handle.region old.called old.pending
+        → Led limit seats (record old { handle = handle })
+    go (Calling whole idle pages call again) =
         record {
           before = l.before;
           since = l.since;
@@ -278,9 +327,9 @@ led_asks limit seats old handle l begun region found = go l.phase
           threads = l.threads;
           plain = l.plain;
           found = found;
-          phase = Calling called (begun ∙ idle) (region ∙ ap (λ (r : Region). record r { made = handle.region.made }) pages) call;
+          phase = Calling whole (begun ∙ idle) (region ∙ ap (λ (r : Region). record r { made = handle.region.made }) pages) call again;
         }
-    go (Deleting c is at live room made last first own_is last_is) =
+    go (Deleting c is at live room ends a) =
         let from : handle.region ≡ record l.from { made = handle.region.made } =
         region ∙ ap (λ (r : Region). record r { made = handle.region.made }) at in
         record {
@@ -295,28 +344,36 @@ led_asks limit seats old handle l begun region found = go l.phase
           phase = Deleting c (begun ∙ is) refl
               (subst (λ (chunks : List Chunk). IsLiveAt chunks c.base c) (sym (ap (λ (r : Region). r.chunks) from)) live)
               (subst (λ (k : KeeperState). k.numbers.generation < 4611686018427387904) (sym (ap (λ (r : Region). r.keeper) from)) room)
-              made last
-              (subst (λ (m : MarkedText). AreAttempts m.marks c.base c.length made) (sym (ap (λ (r : Region). r.marked) from)) first)
-              own_is
-              (last_is ∙ ap (λ (m : MarkedText). delete_events m.marks c.base c.length) (sym (ap (λ (r : Region). r.marked) from)));
+              (ends ∙ ap (λ (m : MarkedText). delete_events m.marks c.base c.length) (sym (ap (λ (r : Region). r.marked) from))) a;
         }
 
--- what is pending after the first call of a deletion
-anew : (seats : ℕ) (handle : RegionHandleState) (pending : List Event) (c : Chunk) → handle.begun ≡ Some c
-    → IsHandleCall seats (record handle { begun = None }) handle pending
-    → pending ++ Retires c.base c.length ∷ [] ≡ delete_events handle.region.marked.marks c.base c.length
-anew seats handle pending c begun (Changes none then call) = absurd (let bad : None ≡ Some c = sym then ∙ begun in cc)
-anew seats handle pending c begun (Begins d is own) =
-    let here : Some d ≡ Some c = sym (ap (λ (h : RegionHandleState). h.begun) is.others) ∙ begun in
-    let same : d ≡ c = cc in
-    subst (λ (e : Chunk). pending ++ Retires e.base e.length ∷ [] ≡ delete_events handle.region.marked.marks e.base e.length) same own
-anew seats handle pending c begun (Ends stamp is stamped) = absurd (let bad : None ≡ Some is.chunk = is.begun in cc)
+-- what a host makes is the writer's
+hosts_writers : (events : List Event) → All IsHosts events → All IsWriters events
+hosts_writers events all = All-weaker IsHosts IsWriters hosts events all
+  where
+    hosts : (event : Event) → IsHosts event → IsWriters event
+    hosts (Puts at byte) is = refl
+    hosts Serializes is = refl
+    hosts (Marks at marks) is = refl
+    hosts _ is = absurd is
 
--- a deletion's events are to be made anew
-led_restarts : (limit seats : ℕ) (old : Host) (pending : List Event) (c : Chunk) → Led limit seats old → old.handle.begun ≡ Some c
-    → pending ++ Retires c.base c.length ∷ [] ≡ delete_events old.handle.region.marked.marks c.base c.length
-    → HasFound (record old { pending = pending }) → Led limit seats (record old { pending = pending })
-led_restarts limit seats old pending c l begun own found =
+-- the events of a phase are to be made anew
+phase_anew : (seats : ℕ) (from : Region) (own : List Event) (begun : Option Chunk) (region : Region) (called pending : List Event)
+    → All IsHosts called → Phase seats from own begun region called pending → Phase seats from own begun region called called
+phase_anew seats from own begun region called pending hosts (Calling whole idle pages call again) =
+    let a = again hosts in
+    let more : AreAttempts called (a.1.made ++ a.1.last) = OneMore a.1.tried a.1.last pending a.1.last_is in
+    Calling whole idle pages
+    (subst (λ (z : List Event). IsCall seats from whole (z ++ called)) (sym a.1.own_is)
+    (call_again seats from whole called (a.1.made ++ a.1.last) a.0 hosts more))
+    (λ all. (a.0, attempting_anew called own pending a.1))
+phase_anew seats from own begun region called pending hosts (Deleting c is at live room ends a) =
+    Deleting c is at live room ends (attempting_anew called own pending a)
+
+-- the last call's events are to be made anew
+led_restarts : (limit seats : ℕ) (old : Host) → Led limit seats old → All IsHosts old.called → HasFound (record old { pending = old.called })
+    → Led limit seats (record old { pending = old.called })
+led_restarts limit seats old l hosts found =
     record {
       before = l.before;
       since = l.since;
@@ -324,22 +381,10 @@ led_restarts limit seats old pending c l begun own found =
       stays = l.stays;
       world = l.world;
       threads = l.threads;
-      plain = stops_plain pending old.handle.region c own;
+      plain = hosts_writers old.called hosts;
       found = found;
-      phase = go l.phase;
+      phase = phase_anew seats l.from (writers l.since) old.handle.begun old.handle.region old.called old.pending hosts l.phase;
     }
-  where
-    go : Phase seats l.from (writers l.since) old.handle.begun old.handle.region old.pending
-        → Phase seats l.from (writers l.since) old.handle.begun old.handle.region pending
-    go (Calling called idle pages call) = absurd (let bad : None ≡ Some c = sym idle ∙ begun in cc)
-    go (Deleting d is at live room made last first own_is last_is) =
-        let here : Some d ≡ Some c = sym is ∙ begun in
-        let same : d ≡ c = cc in
-        Deleting d is at live room (made ++ last) [] (OneMore first last old.pending last_is)
-        (own_is ∙ sym (append-nil (made ++ last)))
-        (ap (λ (e : Chunk). pending ++ Retires e.base e.length ∷ []) same
-        ∙ (own ∙ (ap (λ (r : Region). delete_events r.marked.marks c.base c.length) at
-        ∙ ap (λ (e : Chunk). delete_events l.from.marked.marks e.base e.length) (sym same))))
 
 -- a host is led over a step
 led_step : (limit seats : ℕ) (old new : Host) → Led limit seats old → IsHostStep seats old new → HasFound new → Led limit seats new
@@ -347,17 +392,16 @@ led_step limit seats old new l (Runs event is may same) found =
     subst (Led limit seats) (sym same) (led_runs limit seats old event l is may (subst HasFound same found))
 led_step limit seats old new l (Makes event is same) found =
     subst (Led limit seats) (sym same) (led_makes limit seats old event new.pending l is (subst HasFound same found))
-led_step limit seats old new l (Restarts c begun call same) found =
-    subst (Led limit seats) (sym same)
-    (led_restarts limit seats old new.pending c l begun (anew seats old.handle new.pending c begun call) (subst HasFound same found))
-led_step limit seats old new l (Calls none call same) found = led_calls limit seats old new l none call same found
+led_step limit seats old new l (Restarts hosts same) found =
+    subst (Led limit seats) (sym same) (led_restarts limit seats old l hosts (subst HasFound same found))
+led_step limit seats old new l (Calls none call same called) found = led_calls limit seats old new l none call same called found
 led_step limit seats old new l (Asks begun region same) found =
     subst (Led limit seats) (sym same) (led_asks limit seats old new.handle l begun region (subst HasFound same found))
 
 -- the first state of a host is led
 led_first : (bundles seats : ℕ) (host : Host) → IsFirst bundles seats host.handle
-    → host.world ≡ first_world (65536 + 32 * bundles) seats → host.pending ≡ [] → Led (65536 + 32 * bundles) seats host
-led_first bundles seats host is world none =
+    → host.world ≡ first_world (65536 + 32 * bundles) seats → host.pending ≡ [] → host.called ≡ [] → Led (65536 + 32 * bundles) seats host
+led_first bundles seats host is world none uncalled =
     let numbers : host.handle.region.keeper.numbers ≡ first_keeper_numbers seats = ap (λ (k : KeeperState). k.numbers) is.keeper in
     record {
       before = [];
@@ -376,11 +420,12 @@ led_first bundles seats host is world none =
       found = λ all. subst (λ (z : List Event). KnowsNoMore host.handle.region.keeper.numbers (world_after host.world z).keeper) (sym none)
           (subst (λ (w : World). KnowsNoMore host.handle.region.keeper.numbers w.keeper) (sym world)
           (knows_as_much host.handle.region.keeper.numbers (first_keeper_numbers seats) (sym numbers)));
-      phase = Calling host.handle.region is.begun refl (Keeps refl none);
+      phase = Calling host.handle.region is.begun refl (Keeps refl none)
+          (λ hosts. phase_called seats host.handle.region host.handle.region host.called host.pending (uncalled ∙ sym none) (Keeps refl none));
     }
 
 -- every state of a host that is reached is led
 pub led : (bundles seats : ℕ) (host : Host) → IsReached bundles seats host → Led (65536 + 32 * bundles) seats host
-led bundles seats host (First is world none) = led_first bundles seats host is world none
+led bundles seats host (First is world none uncalled) = led_first bundles seats host is world none uncalled
 led bundles seats host (Then {old} before step found) =
     led_step (65536 + 32 * bundles) seats old host (led bundles seats old before) step found

@@ -1,5 +1,5 @@
 -- A host that reads runs.
-use Rattle.std.proofs.Common.{◌≡◌, ℕ, ◌≤◌, List, length, Some, arith, ◌∙◌, sym, ap, subst}
+use Rattle.std.proofs.Common.{◌≡◌, ℕ, ◌≤◌, List, [], length, Some, arith, ◌∙◌, sym, ap, subst}
 use Rattle.std.specs.Prelude.{Contains, take}
 use Rattle.std.specs.List.{insert}
 use Rattle.std.proofs.lemmas.List.Edits.{get_or-insert_at, length-insert}
@@ -8,7 +8,7 @@ use Rattle.nc_list.specs.declared.chunk.Chunk.{Chunk}
 use Rattle.nc_acts.specs.Log.{log_of_create}
 use Rattle.nc_region.specs.Region.{Region, live_chunk}
 use Rattle.nc_calls.specs.Calls.{delete_events}
-use Rattle.nc_calls.specs.Histories.{Creates}
+use Rattle.nc_calls.specs.Histories.{NoneYet, Creates}
 use Rattle.nc_calls.proofs.Offered.{still_created}
 use Rattle.nc_entries.specs.declared.act.NcAct.{NcAct}
 use Rattle.nc_entries.specs.Runs.{runs_of_create, HasRuns}
@@ -51,7 +51,7 @@ creation bundles seats host new v c lent now count reached valid loaded live run
     (runs_of_create b (bytes_of_span new.region.marked.bytes c.base c.length))
     (log_of_create b (bytes_of_span new.region.marked.bytes c.base c.length))) live.2 runs.1) in
     Changes loaded.0 (still_none host.handle new loaded.4 loaded.0)
-    (Creates v valid loaded.1 loaded.3 (create_runs_due v lent now count here))
+    (Creates v valid loaded.1 loaded.3 [] NoneYet (create_runs_due v lent now count here))
 
 -- the first call of a deletion
 pub deletion : (seats : ℕ) (old new : RegionHandleState) (base : ℕ) (v : MarkedChunk) (c : Chunk) (lent now : List NcAct) (count : ℕ)

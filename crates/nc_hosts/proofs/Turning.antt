@@ -54,33 +54,33 @@ reached_by bundles seats from to (Here reached) = reached
 reached_by bundles seats from to (Further gone step reached) = reached
 
 -- a host makes the first event of a turn
-goes_once : (bundles seats : ℕ) (from : Host) (handle : RegionHandleState) (w : World) (event : Event) (events : List Event)
-    → GoesOn bundles seats from (record { handle = handle; world = w; pending = writers (event ∷ events) })
+goes_once : (bundles seats : ℕ) (from : Host) (handle : RegionHandleState) (w : World) (called : List Event) (event : Event)
+    (events : List Event) → GoesOn bundles seats from (record { handle = handle; world = w; pending = writers (event ∷ events); called = called })
     → (is_writers event ≡ false → ThreadMay w event)
     → KnowsNoMore handle.region.keeper.numbers (world_after (after w event) events).keeper → (b : Bool) → is_writers event ≡ b
-    → GoesOn bundles seats from (record { handle = handle; world = after w event; pending = writers events })
-goes_once bundles seats from handle w event events gone may found false is =
-    let old : Host = record { handle = handle; world = w; pending = writers (event ∷ events) } in
+    → GoesOn bundles seats from (record { handle = handle; world = after w event; pending = writers events; called = called })
+goes_once bundles seats from handle w called event events gone may found false is =
+    let old : Host = record { handle = handle; world = w; pending = writers (event ∷ events); called = called } in
     let reached = reached_by bundles seats from old gone in
-    subst (λ (z : List Event). GoesOn bundles seats from (record { handle = handle; world = after w event; pending = z }))
+    subst (λ (z : List Event). GoesOn bundles seats from (record { handle = handle; world = after w event; pending = z; called = called }))
     (writers_but event events is)
     (Further gone (Runs event is (may is) refl) (runs bundles seats old event reached is (may is)))
-goes_once bundles seats from handle w event events gone may found true is =
-    let old : Host = record { handle = handle; world = w; pending = writers (event ∷ events) } in
-    let new : Host = record { handle = handle; world = after w event; pending = writers events } in
+goes_once bundles seats from handle w called event events gone may found true is =
+    let old : Host = record { handle = handle; world = w; pending = writers (event ∷ events); called = called } in
+    let new : Host = record { handle = handle; world = after w event; pending = writers events; called = called } in
     let step : IsHostStep seats old new = Makes event (writers_first event events is) refl in
     Further gone step (Then (reached_by bundles seats from old gone) step
     (λ none. subst (KnowsNoMore handle.region.keeper.numbers) (keeper_of_writers (after w event) (after w event) events refl none) found))
 
 -- a host makes the first events of a turn, one by one, and the writer's among the others are then pending
-goes_on : (bundles seats : ℕ) (from : Host) (handle : RegionHandleState) (w : World) (events later : List Event)
-    → GoesOn bundles seats from (record { handle = handle; world = w; pending = writers (events ++ later) })
+goes_on : (bundles seats : ℕ) (from : Host) (handle : RegionHandleState) (w : World) (called events later : List Event)
+    → GoesOn bundles seats from (record { handle = handle; world = w; pending = writers (events ++ later); called = called })
     → ThreadsMay w (events ++ later) → KnowsNoMore handle.region.keeper.numbers (world_after w (events ++ later)).keeper
-    → GoesOn bundles seats from (record { handle = handle; world = world_after w events; pending = writers later })
-goes_on bundles seats from handle w [] later gone threads found = gone
-goes_on bundles seats from handle w (event ∷ events) later gone threads found =
-    goes_on bundles seats from handle (after w event) events later
-    (goes_once bundles seats from handle w event (events ++ later) gone threads.0 found (is_writers event) refl) threads.1 found
+    → GoesOn bundles seats from (record { handle = handle; world = world_after w events; pending = writers later; called = called })
+goes_on bundles seats from handle w called [] later gone threads found = gone
+goes_on bundles seats from handle w called (event ∷ events) later gone threads found =
+    goes_on bundles seats from handle (after w event) called events later
+    (goes_once bundles seats from handle w called event (events ++ later) gone threads.0 found (is_writers event) refl) threads.1 found
 
 -- where nothing is pending and no deletion is under way, a host can take the next turn of a history: it makes its call, and then
 -- the first events of the turn
@@ -91,19 +91,25 @@ pub turns : (bundles seats : ℕ) (host : Host) (before events later : List Even
       handle = record host.handle { region = turn.region };
       world = world_after host.world events;
       pending = writers later;
+      called = writers turn.events;
     })
 turns bundles seats host before events later turn reached none idle there is parts =
     let first : World = first_world (65536 + 32 * bundles) seats in
     let new : RegionHandleState = record host.handle { region = turn.region } in
-    let called : Host = record { handle = new; world = host.world; pending = writers turn.events } in
+    let called : Host = record { handle = new; world = host.world; pending = writers turn.events; called = writers turn.events } in
     let found : KnowsNoMore turn.region.keeper.numbers (world_after host.world turn.events).keeper =
     subst (λ (w : World). KnowsNoMore turn.region.keeper.numbers w.keeper)
     (after_append first before turn.events ∙ ap (λ (w : World). world_after w turn.events) (sym there)) is.keeper in
-    let step : IsHostStep seats host called = Calls none (Changes idle idle is.call) refl in
+    let step : IsHostStep seats host called = Calls none (Changes idle idle is.call) refl refl in
     let gone : GoesOn bundles seats host called =
     Further (Here reached) step (Then reached step
     (λ no_look. subst (KnowsNoMore turn.region.keeper.numbers) (keeper_of_writers host.world host.world turn.events refl no_look) found)) in
-    goes_on bundles seats host new host.world events later
-    (subst (λ (z : List Event). GoesOn bundles seats host (record { handle = new; world = host.world; pending = writers z })) parts gone)
+    goes_on bundles seats host new host.world (writers turn.events) events later
+    (subst (λ (z : List Event). GoesOn bundles seats host (record {
+      handle = new;
+      world = host.world;
+      pending = writers z;
+      called = writers turn.events;
+    })) parts gone)
     (subst (λ (z : List Event). ThreadsMay host.world z) parts (subst (λ (w : World). ThreadsMay w turn.events) (sym there) is.threads))
     (subst (λ (z : List Event). KnowsNoMore turn.region.keeper.numbers (world_after host.world z).keeper) parts found)

@@ -9,7 +9,7 @@ ghost use Rattle.nc_calls.specs.Interleaving.{is_writers};
 ghost use Rattle.nc_calls.specs.Calls.{create_events, modify_events, delete_events};
 ghost use Rattle.nc_handle.specs.RegionHandle.{RegionHandleState, HasLoaded, HasPatched, HasBegunDeletion, HasEndedDeletion, HasReclaimed, meetings};
 ghost use Rattle.nc_handle.specs.Pending.{IsHandleCall, ChangesPages};
-ghost use Rattle.nc_hosts.specs.Hosts.{Host, IsNoLook, IsReached};
+ghost use Rattle.nc_hosts.specs.Hosts.{Host, IsHosts, IsNoLook, IsReached};
 
 /// From each state that a host can reach, these lead to another one:
 ///
@@ -17,7 +17,8 @@ ghost use Rattle.nc_hosts.specs.Hosts.{Host, IsNoLook, IsReached};
 /// - if nothing is pending, each accepted creation, patch and call of a deletion, after which its events are pending;
 /// - if nothing is pending, each other accepted call after which a look is pending, such as the second half of a reclaim;
 /// - if nothing is pending, the first half of a reclaim, in which the keeper meets the seats that nobody was given;
-/// - while a deletion is under way, its events made anew from the first one on, such as those that were pending after its first call;
+/// - until the next call that changes the region, the events of the last one made anew from the first one on, if the host makes them all;
+/// - so it is while a deletion is under way, with such as those that were pending after its first call;
 /// - each call that leaves the region as it is, and each refused call, also while events are pending;
 /// - each event of a thread that it may do.
 ///
@@ -29,14 +30,21 @@ pub fn law_of_reaching()
         → IsReached bundles seats (record host { world = after host.world event; pending = later }) }
     ensures loads { (bundles seats : ℕ) (host : Host) (new : RegionHandleState) (v : MarkedChunk) → IsReached bundles seats host
         → host.pending ≡ [] → IsValid v → HasLoaded v host.handle new
-        → IsReached bundles seats (record { handle = new; world = host.world; pending = create_events v }) }
+        → IsReached bundles seats (record { handle = new; world = host.world; pending = create_events v; called = create_events v }) }
     ensures patches { (bundles seats : ℕ) (host : Host) (new : RegionHandleState) (at : ℕ) (bytes : List ℕ) (news : List Piece)
         → IsReached bundles seats host → host.pending ≡ [] → AreBytesOf bytes news → HasPatched at bytes host.handle new
-        → IsReached bundles seats (record { handle = new; world = host.world; pending = modify_events host.handle.region.marked.bytes at news }) }
+        → IsReached bundles seats (record {
+          handle = new;
+          world = host.world;
+          pending = modify_events host.handle.region.marked.bytes at news;
+          called = modify_events host.handle.region.marked.bytes at news;
+        }) }
     ensures begins { (bundles seats : ℕ) (host : Host) (new : RegionHandleState) (c : Chunk) (stops : List Event) → IsReached bundles seats host
         → host.pending ≡ [] → HasBegunDeletion host.handle new c.base c
         → stops ++ Event.Retires c.base c.length ∷ [] ≡ delete_events host.handle.region.marked.marks c.base c.length
-        → IsReached bundles seats (record { handle = new; world = host.world; pending = stops }) }
+        → IsReached bundles seats (record { handle = new; world = host.world; pending = stops; called = stops }) }
+    ensures again { (bundles seats : ℕ) (host : Host) → IsReached bundles seats host → All IsHosts host.called
+        → IsReached bundles seats (record host { pending = host.called }) }
     ensures restarts { (bundles seats : ℕ) (host : Host) (c : Chunk) (stops : List Event) → IsReached bundles seats host
         → host.handle.begun ≡ Some c
         → stops ++ Event.Retires c.base c.length ∷ [] ≡ delete_events host.handle.region.marked.marks c.base c.length
@@ -50,16 +58,18 @@ pub fn law_of_reaching()
           handle = new;
           world = host.world;
           pending = Event.Retires is.chunk.base is.chunk.length ∷ [];
+          called = Event.Retires is.chunk.base is.chunk.length ∷ [];
         }) }
     ensures looks { (bundles seats : ℕ) (host : Host) (new : RegionHandleState) (own : List Event) → IsReached bundles seats host
         → host.pending ≡ [] → IsHandleCall seats host.handle new own → ¬ All IsNoLook own
-        → IsReached bundles seats (record { handle = new; world = host.world; pending = own }) }
+        → IsReached bundles seats (record { handle = new; world = host.world; pending = own; called = own }) }
     ensures reclaims { (bundles seats : ℕ) (host : Host) (new : RegionHandleState) (count : ℕ) (is : HasReclaimed host.handle new count)
         → IsReached bundles seats host → host.pending ≡ []
         → IsReached bundles seats (record {
           handle = record host.handle { region = is.met };
           world = host.world;
           pending = meetings host.handle.passes;
+          called = meetings host.handle.passes;
         }) }
     ensures asks { (bundles seats : ℕ) (host : Host) (new : RegionHandleState) → IsReached bundles seats host → new.begun ≡ host.handle.begun
         → new.region ≡ record host.handle.region { made = new.region.made } → IsReached bundles seats (record host { handle = new }) }

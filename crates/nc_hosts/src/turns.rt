@@ -27,6 +27,7 @@ pub fn law_of_turns()
           handle = record host.handle { region = turn.region };
           world = world_after host.world events;
           pending = writers later;
+          called = writers turn.events;
         }) }
     ensures lives { (bundles : ℕ) (first : RegionHandleState) (v : MarkedChunk) → IsValid v → v.limit ≡ 0x10000 + 32 * bundles
         → IsFirst bundles 1 first → (created deleted last : Host) × GoesOn bundles 1 (new_host bundles 1 first) created

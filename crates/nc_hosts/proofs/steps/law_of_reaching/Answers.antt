@@ -1,4 +1,4 @@
-use Rattle.nc_hosts.proofs.Going.{makes_next, loads, patches, begins, restarts, anew, ends, looks, reclaims, asks, fails, runs}
+use Rattle.nc_hosts.proofs.Going.{makes_next, loads, patches, begins, again, restarts, anew, ends, looks, reclaims, asks, fails, runs}
 use Rattle.nc_hosts.proofs.steps.law_of_reaching.Goals as goal
 
 pub returns-clause-makes : goal.returns-clause-makes
@@ -12,6 +12,9 @@ returns-clause-patches c = patches
 
 pub returns-clause-begins : goal.returns-clause-begins
 returns-clause-begins c = begins
+
+pub returns-clause-again : goal.returns-clause-again
+returns-clause-again c = again
 
 pub returns-clause-restarts : goal.returns-clause-restarts
 returns-clause-restarts c = restarts
