@@ -27,7 +27,7 @@ use Rattle.nc_calls.proofs.RetiredSpans.{AreSpansOf}
 -- ---- the first events of a deletion
 
 -- the first events of a deletion: stops at some of its marked places; or at all of these, and after the serialization at some of the others
-pub data IsPart (marks : List Mark) (base len : ℕ) (part : List Event) : Type 0 where
+data IsPart (marks : List Mark) (base len : ℕ) (part : List Event) : Type 0 where
   OfMarked : AreFirstPuts (record no_details { base = base; len = len }) (is_marked_at marks) base (replicate len 244) part
       → IsPart marks base len part
   OfOthers : (others : List Event)
@@ -62,7 +62,7 @@ before_end d chosen base len part rest same =
     all (e ∷ y) here end = absurd (no_end base len y rest (let none : y ++ (rest ++ Retires base len ∷ []) ≡ [] = cc in none))
 
 -- events at the front of a deletion before its retiring are an attempt at it (`IsPart`)
-pub is_part : (marks : List Mark) (base len : ℕ) (part rest : List Event)
+is_part : (marks : List Mark) (base len : ℕ) (part rest : List Event)
     → part ++ (rest ++ Retires base len ∷ []) ≡ delete_events marks base len → IsPart marks base len part
 is_part marks base len part rest is =
     elim (split_joined part (rest ++ Retires base len ∷ [])

@@ -1,8 +1,6 @@
 -- What proofs of the crates above may use of this crate: what a history keeps from one call to the next, and what each call leads
 -- to. The other files are private.
-pub use Rattle.nc_calls.proofs.Attempts.{IsPart, OfMarked, OfOthers, is_part}
-pub use Rattle.nc_calls.proofs.Entries.{events_of, log_append}
-pub use Rattle.nc_calls.proofs.Fronts.{AreFirstPuts}
+pub use Rattle.nc_calls.proofs.Entries.{events_of, log_append, create_is, stops_of, stops_then, instruction_events, patch_events, modify_is}
 pub use Rattle.nc_calls.proofs.Trying.{attempts_again, attempts_none}
 pub use Rattle.nc_calls.proofs.OneMoreCall.{Grows, goes_on, created, deleted}
 pub use Rattle.nc_calls.proofs.Modified.{modified}

@@ -21,7 +21,8 @@ use Rattle.nc_calls.proofs.Offered.{created, modified, knows_raised}
 use Rattle.nc_handle.specs.RegionHandle.{RegionHandleState, HasLoaded, HasPatched, HasBegunDeletion, HasEndedDeletion, HasReclaimed, meetings}
 use Rattle.nc_handle.specs.Pending.{IsHandleCall, ChangesPages, Changes, Begins, Ends}
 use Rattle.nc_hosts.specs.Hosts.{Host, Runs, Makes, Restarts, Calls, Asks, IsHosts, IsNoLook, IsReached, Then}
-use Rattle.nc_hosts.proofs.Kept.{rest_hosts, hosts_keep, hosts_look_not, thread_keeps_keeper, same_keeper}
+use Rattle.nc_hosts.proofs.Making.{rest_hosts}
+use Rattle.nc_hosts.proofs.Kept.{hosts_keep, hosts_look_not, thread_keeps_keeper, same_keeper}
 use Rattle.nc_hosts.proofs.Interleaving.{IsWriters, log_writers, writers_own, threads_none}
 use Rattle.nc_hosts.proofs.Reaching.{finished, pending_hosts, deletion_called, led}
 

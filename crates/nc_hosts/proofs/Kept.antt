@@ -1,49 +1,14 @@
--- What leaves the numbers of the world's keeper as they are: events of threads, and those that a host makes, as a deletion's.
-use Rattle.std.proofs.Common.{◌≡◌, ℕ, ◌+◌, Bool, true, false, cond, List, [], ◌∷◌, ◌++◌, replicate, refl, ◌∙◌, sym, ap, subst, append_assoc}
+-- What leaves the numbers of the world's keeper as they are: events of threads, and those that a host makes.
+use Rattle.std.proofs.Common.{◌≡◌, false, List, [], ◌∷◌, refl, ap}
 use Rattle.std.specs.Prelude.{All}
-use Rattle.std.proofs.lemmas.List.Elements.{All-nil, All-cons, All-head, All-tail, All-append, All-weaker}
-use Rattle.nc_decode.specs.declared.instruction.Mark.{Mark}
+use Rattle.std.proofs.lemmas.List.Elements.{All-head, All-tail, All-weaker}
 use Rattle.nc_region.specs.schedules.World.{World}
 use Rattle.nc_region.specs.schedules.Events.{Event, Steps, Enters, Exits, Takes, Sees, Stores, Leaves, Puts, Serializes, Marks, Bumps, Retires, Frees}
 use Rattle.nc_region.specs.schedules.Events.{Looks, after, world_after}
-use Rattle.nc_acts.specs.declared.acts.Act.TheVariants.{Put}
-use Rattle.nc_acts.specs.Acts.{puts_where, is_marked_at, is_unmarked_at}
 use Rattle.nc_gens.specs.Rule.{generation_raised}
 use Rattle.nc_calls.specs.Interleaving.{is_writers}
-use Rattle.nc_calls.specs.Calls.{Details, no_details, delete_events}
-use Rattle.nc_calls.proofs.Offered.{IsPart, OfMarked, OfOthers, is_part, events_of}
 use Rattle.nc_hosts.specs.Hosts.{IsHosts, IsNoLook}
-use Rattle.nc_hosts.proofs.Looked.{all_back}
 use Rattle.nc_hosts.proofs.Interleaving.{thread_seats}
-
--- a host makes puts at chosen places
-puts_hosts : (d : Details) (chosen : ℕ → Bool) (at : ℕ) (bytes : List ℕ) → All IsHosts (events_of d (puts_where chosen at bytes))
-puts_hosts d chosen at [] = All-nil IsHosts
-puts_hosts d chosen at (byte ∷ rest) = go (chosen at) (puts_hosts d chosen (at + 1) rest)
-  where
-    go : (b : Bool) → All IsHosts (events_of d (puts_where chosen (at + 1) rest))
-        → All IsHosts (events_of d (cond b (Put at byte ∷ puts_where chosen (at + 1) rest) (puts_where chosen (at + 1) rest)))
-    go true all = All-cons IsHosts (Puts at byte) (events_of d (puts_where chosen (at + 1) rest)) tt all
-    go false all = all
-
--- a host makes the first events of a deletion
-part_hosts : (marks : List Mark) (base len : ℕ) (part : List Event) → IsPart marks base len part → All IsHosts part
-part_hosts marks base len part (OfMarked f) =
-    subst (All IsHosts) (sym f.own) (puts_hosts (record no_details { base = base; len = len }) (is_marked_at marks) base f.some)
-part_hosts marks base len part (OfOthers others f is) =
-    let d : Details = record { marks = []; base = base; len = len; seats = 0; spans = [] } in
-    subst (All IsHosts) (sym is)
-    (All-append IsHosts (events_of (record no_details { base = base; len = len }) (puts_where (is_marked_at marks) base (replicate len 244)))
-    (Serializes ∷ others) (puts_hosts d (is_marked_at marks) base (replicate len 244))
-    (All-cons IsHosts Serializes others tt (subst (All IsHosts) (sym f.own) (puts_hosts d (is_unmarked_at marks) base f.some))))
-
--- a host makes the events that are left of a deletion before its retiring
-pub rest_hosts : (marks : List Mark) (base len : ℕ) (first rest : List Event)
-    → first ++ (rest ++ Retires base len ∷ []) ≡ delete_events marks base len → All IsHosts rest
-rest_hosts marks base len first rest is =
-    all_back IsHosts first rest
-    (part_hosts marks base len (first ++ rest)
-    (is_part marks base len (first ++ rest) [] (append_assoc first rest (Retires base len ∷ []) ∙ is)))
 
 -- what a host makes leaves the keeper's numbers as they are
 pub hosts_keep : (w : World) (events : List Event) → All IsHosts events → (world_after w events).keeper ≡ w.keeper

@@ -3,6 +3,7 @@ mod Interleaving
 mod Looked
 mod Kept
 mod Again
+mod Making
 mod Reaching
 mod Concluding
 mod Storing

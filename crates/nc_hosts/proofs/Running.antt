@@ -1,13 +1,14 @@
 -- A host that reads runs.
 use Rattle.std.proofs.Common.{◌≡◌, ℕ, ◌≤◌, List, [], length, Some, arith, ◌∙◌, sym, ap, subst}
-use Rattle.std.specs.Prelude.{Contains, take}
+use Rattle.std.specs.Prelude.{Contains, All, take}
 use Rattle.std.specs.List.{insert}
 use Rattle.std.proofs.lemmas.List.Edits.{get_or-insert_at, length-insert}
 use Rattle.nc_vet.specs.Chunk.{MarkedChunk, IsValid}
 use Rattle.nc_list.specs.declared.chunk.Chunk.{Chunk}
+use Rattle.nc_region.specs.schedules.Events.{Event}
 use Rattle.nc_acts.specs.Log.{log_of_create}
 use Rattle.nc_region.specs.Region.{Region, live_chunk}
-use Rattle.nc_calls.specs.Calls.{delete_events}
+use Rattle.nc_calls.specs.Calls.{create_events, delete_events}
 use Rattle.nc_calls.specs.Histories.{NoneYet, Creates}
 use Rattle.nc_calls.proofs.Offered.{still_created}
 use Rattle.nc_entries.specs.declared.act.NcAct.{NcAct}
@@ -17,8 +18,9 @@ use Rattle.nc_handle.specs.RunCalls.{AreCreationRuns, AreDeletionRuns}
 use Rattle.nc_handle.specs.Lent.{bytes_of_span}
 use Rattle.nc_handle.specs.Pending.{IsHandleCall, Changes, Begins, events_pending}
 use Rattle.nc_handle.proofs.Offered.{create_runs_due, delete_runs_due, still_none, one_of_base, span_put, chunk_span}
-use Rattle.nc_hosts.specs.Hosts.{Host, IsReached}
-use Rattle.nc_hosts.proofs.Going.{restarts}
+use Rattle.nc_hosts.specs.Hosts.{Host, IsHosts, IsReached}
+use Rattle.nc_hosts.proofs.Going.{again as again_called, restarts}
+use Rattle.nc_hosts.proofs.Making.{create_hosts}
 use Rattle.nc_hosts.proofs.Concluding.{is_region}
 
 -- a chunk that was inserted is in the list
@@ -52,6 +54,20 @@ creation bundles seats host new v c lent now count reached valid loaded live run
     (log_of_create b (bytes_of_span new.region.marked.bytes c.base c.length))) live.2 runs.1) in
     Changes loaded.0 (still_none host.handle new loaded.4 loaded.0)
     (Creates v valid loaded.1 loaded.3 [] NoneYet (create_runs_due v lent now count here))
+
+-- a creation that was the last call: its runs are its events while the chunk has its bytes
+pub created_again : (bundles seats : ℕ) (host : Host) (v : MarkedChunk) (c : Chunk) (lent now : List NcAct) (count : ℕ)
+    → IsReached bundles seats host → host.called ≡ create_events v → c.base ≡ v.base
+    → bytes_of_span host.handle.region.marked.bytes c.base c.length ≡ v.code → AreCreationRuns host.handle c lent now count
+    → IsReached bundles seats (record host { pending = events_pending v (take count now) })
+created_again bundles seats host v c lent now count reached called base code runs =
+    let here : HasRuns lent now count v.base v.code (runs_of_create v.base v.code) (log_of_create v.base v.code) =
+    subst (λ (z : List ℕ). HasRuns lent now count v.base z (runs_of_create v.base z) (log_of_create v.base z)) code
+    (subst (λ (b : ℕ). HasRuns lent now count b (bytes_of_span host.handle.region.marked.bytes c.base c.length)
+    (runs_of_create b (bytes_of_span host.handle.region.marked.bytes c.base c.length))
+    (log_of_create b (bytes_of_span host.handle.region.marked.bytes c.base c.length))) base runs.1) in
+    subst (λ (z : List Event). IsReached bundles seats (record host { pending = z })) (called ∙ sym (create_runs_due v lent now count here))
+    (again_called bundles seats host reached (subst (All IsHosts) (sym called) (create_hosts v)))
 
 -- the first call of a deletion
 pub deletion : (seats : ℕ) (old new : RegionHandleState) (base : ℕ) (v : MarkedChunk) (c : Chunk) (lent now : List NcAct) (count : ℕ)

@@ -30,10 +30,10 @@ ghost use Rattle.nc_hosts.specs.Hosts.{Host, IsHostStep, IsReached};
 /// - the text of the handle's region is confined.
 ///
 /// A host (`specs/Hosts`) makes the pending events one by one and in order, and makes no call that may change the region before it has
-/// made all of them. While a deletion is under way it may make all of the deletion's stores and its serialization again. The pending events
-/// are those that it reads in the buffer that it lent (`ReportsPending` of `nc_handle`), or those that the library makes itself
-/// (`DoesItself`). There is a state after each single store, so `stand` and `whole` are about every moment. The function does nothing
-/// when called.
+/// made all of them. Until that call it may begin the last one's events again from the first, as often as it likes and wherever it stopped:
+/// those of a creation, of a patch, or of a deletion before its stamp. The pending events are those that it reads in the buffer that it lent
+/// (`ReportsPending` of `nc_handle`), or those that the library makes itself (`DoesItself`). There is a state after each single store, so
+/// `stand` and `whole` are about every moment. The function does nothing when called.
 ///
 /// Its assumptions are in `ThreadMay`, `IsHostStep`, `HasFound` and `IsReached`:
 ///
@@ -42,8 +42,8 @@ ghost use Rattle.nc_hosts.specs.Hosts.{Host, IsHostStep, IsReached};
 /// - A thread enters only while it is outside, at bundle starts and while its seat hasn't left. Its pass checks in and leaves only while it
 ///   is outside.
 /// - The keeper has the world's generation and a bound for each of its seats, and finds no word to be greater than it is.
-/// - The host makes the pending events in order, each once, and its stores and serializations reach execution in that order. Only a
-///   deletion's events may be made again, all of them and from the first one on.
+/// - The host makes the pending events in order, each once, and its stores and serializations reach execution in that order. Where it makes
+///   events again, it makes all of a call's, from the first one on and before the next call that changes the region.
 pub fn law_of_hosts()
     ensures stand { (bundles seats : ℕ) (host : Host) → IsReached bundles seats host → AllStand host.world }
     ensures whole { (bundles seats : ℕ) (host : Host) → IsReached bundles seats host → AllFetchWhole host.world }

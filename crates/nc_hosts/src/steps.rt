@@ -17,8 +17,9 @@ ghost use Rattle.nc_hosts.specs.Hosts.{Host, IsHosts, IsNoLook, IsReached};
 /// - if nothing is pending, each accepted creation, patch and call of a deletion, after which its events are pending;
 /// - if nothing is pending, each other accepted call after which a look is pending, such as the second half of a reclaim;
 /// - if nothing is pending, the first half of a reclaim, in which the keeper meets the seats that nobody was given;
-/// - until the next call that changes the region, the events of the last one made anew from the first one on, if the host makes them all;
-/// - so it is while a deletion is under way, with such as those that were pending after its first call;
+/// - until the next call that changes the region, the events of the last one made again from the first one on, if the host makes them all,
+///   as it does those of a creation and of a patch (`hosts`);
+/// - while a deletion is under way, its events made again so, such as those that were pending after its first call;
 /// - each call that leaves the region as it is, and each refused call, also while events are pending;
 /// - each event of a thread that it may do.
 ///
@@ -45,6 +46,8 @@ pub fn law_of_reaching()
         → IsReached bundles seats (record { handle = new; world = host.world; pending = stops; called = stops }) }
     ensures again { (bundles seats : ℕ) (host : Host) → IsReached bundles seats host → All IsHosts host.called
         → IsReached bundles seats (record host { pending = host.called }) }
+    ensures hosts { (v : MarkedChunk) (text : List ℕ) (at : ℕ) (news : List Piece) → All IsHosts (create_events v)
+        × All IsHosts (modify_events text at news) }
     ensures restarts { (bundles seats : ℕ) (host : Host) (c : Chunk) (stops : List Event) → IsReached bundles seats host
         → host.handle.begun ≡ Some c
         → stops ++ Event.Retires c.base c.length ∷ [] ≡ delete_events host.handle.region.marked.marks c.base c.length
