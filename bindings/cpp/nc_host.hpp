@@ -13,7 +13,8 @@
  *             assignment before it takes the other handle. For a Region that is a call under the lock, too.
  *   Threads   A value may be passed to another thread, as nc_host.h says about handles.
  *   Buffers   A call that writes acts returns the written part of the buffer. With an empty buffer a creation or a deletion is made, and
- *             its acts aren't reported, as with a length of 0 in nc_host.h. A patch is then refused.
+ *             its acts aren't reported, as with a length of 0 in nc_host.h. A patch is then refused. Acts that an exception cut short are
+ *             made again from the buffer, all of them and before the next change.
  *   Programs  All sources of a program should be compiled in one standard, since spans are std::span only where there is one.
  */
 #ifndef NC_HOST_HPP

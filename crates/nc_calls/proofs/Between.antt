@@ -24,7 +24,7 @@ use Rattle.nc_calls.proofs.Patching.{SoundBy, Replaces}
 use Rattle.nc_calls.proofs.Putting.{with_text}
 
 -- an instruction that a patch puts, as it stands in the final text
-pub record Stands (marks : List Mark) (chunks : List Chunk) (final : List ℕ) (at : ℕ) (new : List ℕ) : Type 0 where
+pub record IsInPlace (marks : List Mark) (chunks : List Chunk) (final : List ℕ) (at : ℕ) (new : List ℕ) : Type 0 where
   pub some : 0 < length new
   pub low : 65536 ≤ at
   pub high : at + length new ≤ 65536 + length final
@@ -81,14 +81,14 @@ between_sound marks spans chunks old final now c b =
 
 -- no marked place lies inside an instruction of the patch
 inside_unmarked : (marks : List Mark) (spans : List RetiredSpan) (chunks : List Chunk) (final : List ℕ) (at : ℕ) (new : List ℕ) (k : ℕ)
-    → SoundBy marks spans chunks final → Stands marks chunks final at new → 0 < k → k < length new → mark_at marks (at + k) ≡ Mark.Unmarked
+    → SoundBy marks spans chunks final → IsInPlace marks chunks final at new → 0 < k → k < length new → mark_at marks (at + k) ≡ Mark.Unmarked
 inside_unmarked marks spans chunks final at new k sound n some less =
     let e = executes final (state at n.masked) n.low (sound.good.closed.safe (state at n.masked) n.marked) in
     sound.good.parted (state at n.masked) e.i k n.marked e.is some (omega (arith, n.len e.i e.is, less))
 
 -- an instruction at another marked place of a good text ends before an instruction of the patch, or begins behind it
 apart_from : (marks : List Mark) (spans : List RetiredSpan) (chunks : List Chunk) (final text : List ℕ) (at : ℕ) (new : List ℕ) (s : State)
-    (i : Instr) → SoundBy marks spans chunks final → Stands marks chunks final at new → Good text marks spans → IsMarked marks s
+    (i : Instr) → SoundBy marks spans chunks final → IsInPlace marks chunks final at new → Good text marks spans → IsMarked marks s
     → s.place ≢ at → instruction_at text s.place ≡ Some i → (s.place + i.len ≤ at) ⊎ (at + length new ≤ s.place)
 apart_from marks spans chunks final text at new s i sound n good m other is =
     ⊎_elim
@@ -112,7 +112,7 @@ apart_from marks spans chunks final text at new s i sound n good m other is =
 
 -- an instruction at another marked place of a good text stays where a text changes at an instruction of the patch alone
 stays_beside : (marks : List Mark) (spans : List RetiredSpan) (chunks : List Chunk) (final text now new : List ℕ) (at : ℕ) (bytes : List ℕ)
-    (s : State) → SoundBy marks spans chunks final → Stands marks chunks final at bytes → Good text marks spans
+    (s : State) → SoundBy marks spans chunks final → IsInPlace marks chunks final at bytes → Good text marks spans
     → Agrees at (length bytes) now new → IsMarked marks s → s.place ≢ at → KeepsInstruction text now s.place → KeepsInstruction text new s.place
 stays_beside marks spans chunks final text now new at bytes s sound n good agrees m other kept = λ i is fits k lt.
     let beside : (s.place + k < at) ⊎ (at + length bytes ≤ s.place + k) =
@@ -124,7 +124,7 @@ stays_beside marks spans chunks final text now new at bytes s sound n good agree
 
 -- a text between two stays so where it changes at an instruction of the patch alone, and then has either there
 pub between_more : (marks : List Mark) (spans : List RetiredSpan) (chunks : List Chunk) (old final now new : List ℕ) (at : ℕ) (bytes : List ℕ)
-    → Changing marks spans chunks old final → Stands marks chunks final at bytes → IsBetween marks old final now
+    → Changing marks spans chunks old final → IsInPlace marks chunks final at bytes → IsBetween marks old final now
     → Agrees at (length bytes) now new → HasEither old final new at → IsBetween marks old final new
 between_more marks spans chunks old final now new at bytes c n b agrees here =
     record {
@@ -174,7 +174,7 @@ new_agrees now at bytes low high =
     }
 
 -- it has the bytes of the final text there
-pub new_there : (marks : List Mark) (chunks : List Chunk) (final now : List ℕ) (at : ℕ) (bytes : List ℕ) → Stands marks chunks final at bytes
+pub new_there : (marks : List Mark) (chunks : List Chunk) (final now : List ℕ) (at : ℕ) (bytes : List ℕ) → IsInPlace marks chunks final at bytes
     → length now ≡ length final → (k : ℕ) → k < length bytes → byte_at (with_new now at bytes) (at + k) ≡ byte_at final (at + k)
 new_there marks chunks final now at bytes n long k lt =
     let e : at + k - at ≡ k = omega arith in
@@ -182,13 +182,13 @@ new_there marks chunks final now at bytes n long k lt =
     ∙ (ap (λ (j : ℕ). get_or bytes j 0) e ∙ sym (n.bytes k lt))
 
 -- where the bytes of the final text stand, its instruction does
-pub keeps_final : (marks : List Mark) (chunks : List Chunk) (final now : List ℕ) (at : ℕ) (bytes : List ℕ) → Stands marks chunks final at bytes
+pub keeps_final : (marks : List Mark) (chunks : List Chunk) (final now : List ℕ) (at : ℕ) (bytes : List ℕ) → IsInPlace marks chunks final at bytes
     → ((k : ℕ) → k < length bytes → byte_at now (at + k) ≡ byte_at final (at + k)) → KeepsInstruction final now at
 keeps_final marks chunks final now at bytes n there = λ i is fits k lt. there k (omega (arith, lt, n.len i is))
 
 -- a text between two is so with an instruction of the patch in place
 pub between_new : (marks : List Mark) (spans : List RetiredSpan) (chunks : List Chunk) (old final now : List ℕ) (at : ℕ) (bytes : List ℕ)
-    → Changing marks spans chunks old final → Stands marks chunks final at bytes → IsBetween marks old final now
+    → Changing marks spans chunks old final → IsInPlace marks chunks final at bytes → IsBetween marks old final now
     → IsBetween marks old final (with_new now at bytes)
 between_new marks spans chunks old final now at bytes c n b =
     let long : length now ≡ length final = b.as_long ∙ sym c.as_long in
@@ -198,7 +198,7 @@ between_new marks spans chunks old final now at bytes c n b =
 
 -- an instruction of the patch can replace what stands at its place
 pub replaces : (w : World) (chunks : List Chunk) (final now : List ℕ) (before : List (List ℕ)) (at : ℕ) (bytes : List ℕ)
-    → Changing w.marked.marks w.retired chunks w.marked.bytes final → Stands w.marked.marks chunks final at bytes
+    → Changing w.marked.marks w.retired chunks w.marked.bytes final → IsInPlace w.marked.marks chunks final at bytes
     → IsBetween w.marked.marks w.marked.bytes final now → Replaces (with_text w now before) chunks at bytes
 replaces w chunks final now before at bytes c n b =
     let long : length now ≡ length final = b.as_long ∙ sym c.as_long in
@@ -242,7 +242,7 @@ stands_all text at (b ∷ rest) each =
 
 -- an instruction of the patch that didn't stand in the old text isn't kept there
 pub not_kept : (marks : List Mark) (spans : List RetiredSpan) (chunks : List Chunk) (old final : List ℕ) (at : ℕ) (bytes : List ℕ)
-    → Changing marks spans chunks old final → Stands marks chunks final at bytes → stands_there old at bytes ≡ false
+    → Changing marks spans chunks old final → IsInPlace marks chunks final at bytes → stands_there old at bytes ≡ false
     → KeepsInstruction final old at → ⊥
 not_kept marks spans chunks old final at bytes c n fresh kept =
     let e = executes final (state at n.masked) n.low (c.after.good.closed.safe (state at n.masked) n.marked) in
@@ -251,7 +251,7 @@ not_kept marks spans chunks old final at bytes c n fresh kept =
 
 -- an instruction of the patch that stood in the old text stands in every text between it and the final one
 pub stands_still : (marks : List Mark) (spans : List RetiredSpan) (chunks : List Chunk) (old final now : List ℕ) (at : ℕ) (bytes : List ℕ)
-    → Changing marks spans chunks old final → Stands marks chunks final at bytes → stands_there old at bytes ≡ true
+    → Changing marks spans chunks old final → IsInPlace marks chunks final at bytes → stands_there old at bytes ≡ true
     → IsBetween marks old final now → (k : ℕ) → k < length bytes → byte_at now (at + k) ≡ byte_at final (at + k)
 stands_still marks spans chunks old final now at bytes c n stood b k lt =
     let e = executes final (state at n.masked) n.low (c.after.good.closed.safe (state at n.masked) n.marked) in

@@ -187,21 +187,21 @@ marked_in w v = record w { marked = text_of w.marked.bytes (with_chunk w.marked 
 
 -- What attempts at a creation leave. The chunk isn't marked, and bytes that are no bundle starts are put; or it is marked, these are all
 -- put, and bundle starts may be.
-data Stage (w : World) (v : MarkedChunk) : World → Type 0 where
+data Halfway (w : World) (v : MarkedChunk) : World → Type 0 where
   Filled : (now : List ℕ) (before : List (List ℕ)) → DiffersAt is_inside v.base (length v.code) w.marked.bytes now
-      → Views (Filling w v.base (length v.code)) now before → Stage w v (with_text w now before)
+      → Views (Filling w v.base (length v.code)) now before → Halfway w v (with_text w now before)
   Started : (now : List ℕ) (before : List (List ℕ)) → DiffersAt is_start v.base (length v.code) (final_of w v) now
-      → Views (IsNearly (final_of w v)) now before → Stage w v (with_text (marked_in w v) now before)
+      → Views (IsNearly (final_of w v)) now before → Halfway w v (with_text (marked_in w v) now before)
 
 -- events that lead from one such world to another
-record Goes (w : World) (v : MarkedChunk) (from : World) (events : List Event) : Type 0 where
+record GetsHalfway (w : World) (v : MarkedChunk) (from : World) (events : List Event) : Type 0 where
   to : World
   leads : Leads from events to
-  stage : Stage w v to
+  stage : Halfway w v to
 
 -- events after events
-goes_more : (w : World) (v : MarkedChunk) (from : World) (first second : List Event) (a : Goes w v from first) → Goes w v a.to second
-    → Goes w v from (first ++ second)
+goes_more : (w : World) (v : MarkedChunk) (from : World) (first second : List Event) (a : GetsHalfway w v from first) → GetsHalfway w v a.to second
+    → GetsHalfway w v from (first ++ second)
 goes_more w v from first second a b =
     record { to = b.to; leads = leads_more from a.to b.to first second a.leads b.leads; stage = b.stage }
 
@@ -226,8 +226,8 @@ final_code w chunks k v c =
     λ at low high. sym (span_within w.marked.bytes v.base v.code at 0 c.joins.chunk.placed.low (span_fits w chunks k v c) low high)
 
 -- some of the bytes that are no bundle starts are put
-inside_goes : (w : World) (chunks : List Chunk) (k : ℕ) (v : MarkedChunk) → CreatesIn w chunks k v → (from : World) → Stage w v from
-    → (part : List Event) → AreFirstPuts (of_marks v.marks) is_inside v.base v.code part → Goes w v from part
+inside_goes : (w : World) (chunks : List Chunk) (k : ℕ) (v : MarkedChunk) → CreatesIn w chunks k v → (from : World) → Halfway w v from
+    → (part : List Event) → AreFirstPuts (of_marks v.marks) is_inside v.base v.code part → GetsHalfway w v from part
 inside_goes w chunks k v c _ (Filled now before differs views) part f =
     let le = no_more v.code f.some f.more f.parts in
     let a = lay_all w (of_marks v.marks) is_inside v.base f.some now before (Filling w v.base (length v.code))
@@ -258,7 +258,7 @@ inside_goes w chunks k v c _ (Started now before differs views) part f =
     }
 
 -- a serialization
-serialization_goes : (w : World) (v : MarkedChunk) (from : World) → Stage w v from → Goes w v from (Serializes ∷ [])
+serialization_goes : (w : World) (v : MarkedChunk) (from : World) → Halfway w v from → GetsHalfway w v from (Serializes ∷ [])
 serialization_goes w v _ (Filled now before differs views) =
     record {
       to = serialized w now;
@@ -320,7 +320,7 @@ remarking_leads w chunks k v mid c long nearly =
     (λ whole. whole_serialized (with_span (with_chunk w.marked v.base v.code v.marks).marks (v.base - 65536) v.marks) mid))
 
 -- all but the bundle starts can be put, and the chunk marked
-opened : (w : World) (chunks : List Chunk) (k : ℕ) (v : MarkedChunk) → CreatesIn w chunks k v → (from : World) → Stage w v from
+opened : (w : World) (chunks : List Chunk) (k : ℕ) (v : MarkedChunk) → CreatesIn w chunks k v → (from : World) → Halfway w v from
     → IsOpened w v from
 opened w chunks k v c _ (Filled now before differs views) =
     let placed = c.joins.chunk.placed in
@@ -367,7 +367,7 @@ record HasStarted (w : World) (v : MarkedChunk) (from : World) (some : List ℕ)
   views : Views (IsNearly (final_of w v)) bytes earlier
 
 -- some of the bundle starts can be put once the chunk is marked
-starts_put : (w : World) (chunks : List Chunk) (k : ℕ) (v : MarkedChunk) → CreatesIn w chunks k v → (from : World) → Stage w v from
+starts_put : (w : World) (chunks : List Chunk) (k : ℕ) (v : MarkedChunk) → CreatesIn w chunks k v → (from : World) → Halfway w v from
     → (starts : List Event) (f : AreFirstPuts (of_marks v.marks) is_start v.base v.code starts) → HasStarted w v from f.some starts
 starts_put w chunks k v c from stage starts f =
     let o = opened w chunks k v c from stage in
@@ -393,16 +393,16 @@ starts_put w chunks k v c from stage starts f =
     }
 
 -- one attempt at a creation
-front_goes : (w : World) (chunks : List Chunk) (k : ℕ) (v : MarkedChunk) → CreatesIn w chunks k v → (from : World) → Stage w v from
-    → (part : List Event) → IsFront v part → Goes w v from part
+front_goes : (w : World) (chunks : List Chunk) (k : ℕ) (v : MarkedChunk) → CreatesIn w chunks k v → (from : World) → Halfway w v from
+    → (part : List Event) → IsFront v part → GetsHalfway w v from part
 front_goes w chunks k v c from stage part (OfInside f) = inside_goes w chunks k v c from stage part f
 front_goes w chunks k v c from stage part (OfSerialized is) =
     let a = inside_goes w chunks k v c from stage (puts_of is_inside v) (all_puts (of_marks v.marks) is_inside v.base v.code) in
-    subst (Goes w v from) (sym is)
+    subst (GetsHalfway w v from) (sym is)
     (goes_more w v from (puts_of is_inside v) (Serializes ∷ []) a (serialization_goes w v a.to a.stage))
 front_goes w chunks k v c from stage part (OfStarts starts f is) =
     let s = starts_put w chunks k v c from stage starts f in
-    subst (Goes w v from) (sym is)
+    subst (GetsHalfway w v from) (sym is)
     (record {
       to = with_text (marked_in w v) s.bytes s.earlier;
       leads = s.leads;
@@ -413,7 +413,7 @@ front_goes w chunks k v c from stage part (OfStarts starts f is) =
 
 -- any number of attempts at a creation
 attempts_go : (w : World) (chunks : List Chunk) (k : ℕ) (v : MarkedChunk) → CreatesIn w chunks k v → (made : List Event)
-    → AreAttempts (create_events v) made → Goes w v w made
+    → AreAttempts (create_events v) made → GetsHalfway w v w made
 attempts_go w chunks k v c [] NoneYet =
     record {
       to = w;

@@ -21,7 +21,7 @@ use Rattle.nc_region.specs.Region.{IsLive, IsRegion}
 use Rattle.nc_calls.specs.Calls.{no_details}
 use Rattle.nc_calls.specs.Histories.{AreAttempts, NoneYet, OneMore}
 use Rattle.nc_calls.proofs.Agreeing.{agrees_itself, agrees_more, agrees_wider, agrees_back, agrees_set, agrees_put, agrees_all, agrees_rest}
-use Rattle.nc_calls.proofs.Between.{Stands, Changing, IsBetween, between_old, between_more, between_new, with_new}
+use Rattle.nc_calls.proofs.Between.{IsInPlace, Changing, IsBetween, between_old, between_more, between_new, with_new}
 use Rattle.nc_calls.proofs.Between.{new_agrees, new_there, replaces, not_kept, stands_still}
 use Rattle.nc_calls.proofs.Deletion.{Agrees}
 use Rattle.nc_calls.proofs.Entries.{events_of, instruction_events, patch_events}
@@ -70,7 +70,7 @@ none_gone w chunks final at len now before b views =
 
 -- the new instruction is put whole
 instruction_gone : (w : World) (chunks : List Chunk) (final : List ℕ) (at : ℕ) (new now : List ℕ) (before : List (List ℕ))
-    → ChangesTo w chunks final → Stands w.marked.marks chunks final at new → Between w final now
+    → ChangesTo w chunks final → IsInPlace w.marked.marks chunks final at new → Between w final now
     → Views (λ view. Sound w chunks view) now before
     → (g : HasGone w chunks final at (length new) now before (instruction_events at new)) × (g.bytes ≡ with_new now at new)
 instruction_gone w chunks final at new now before c n b views =
@@ -88,7 +88,7 @@ instruction_gone w chunks final at new now before c n b views =
 
 -- a stop is at the first byte of an instruction that is new
 stopped_between : (w : World) (chunks : List Chunk) (final : List ℕ) (at : ℕ) (new now later : List ℕ) → ChangesTo w chunks final
-    → Stands w.marked.marks chunks final at new → stands_there w.marked.bytes at new ≡ false → Between w final now
+    → IsInPlace w.marked.marks chunks final at new → stands_there w.marked.bytes at new ≡ false → Between w final now
     → Agrees at (length new) now later → byte_at later at ≡ 244 → Between w final later
 stopped_between w chunks final at new now later c n fresh b agrees stop =
     between_more w.marked.marks w.retired chunks w.marked.bytes final now later at new c n b agrees
@@ -96,7 +96,7 @@ stopped_between w chunks final at new now later c n fresh b agrees stop =
 
 -- a stop is put at the first byte
 stop_gone : (w : World) (chunks : List Chunk) (final : List ℕ) (at : ℕ) (new now : List ℕ) (before : List (List ℕ))
-    → ChangesTo w chunks final → Stands w.marked.marks chunks final at new → stands_there w.marked.bytes at new ≡ false → Between w final now
+    → ChangesTo w chunks final → IsInPlace w.marked.marks chunks final at new → stands_there w.marked.bytes at new ≡ false → Between w final now
     → Views (λ view. Sound w chunks view) now before
     → (g : HasGone w chunks final at (length new) now before (Puts at 244 ∷ [])) × (byte_at g.bytes at ≡ 244)
 stop_gone w chunks final at new now before c n fresh b views =
@@ -122,7 +122,7 @@ stop_gone w chunks final at new now before c n fresh b views =
 
 -- a stop is put at the first byte, and then some of the further bytes
 further_gone : (w : World) (chunks : List Chunk) (final : List ℕ) (at first : ℕ) (rest now : List ℕ) (before : List (List ℕ))
-    → ChangesTo w chunks final → Stands w.marked.marks chunks final at (first ∷ rest)
+    → ChangesTo w chunks final → IsInPlace w.marked.marks chunks final at (first ∷ rest)
     → stands_there w.marked.bytes at (first ∷ rest) ≡ false → Between w final now → Views (λ view. Sound w chunks view) now before
     → (puts : List Event) → AreFirstPuts no_details any_place (at + 1) rest puts
     → HasGone w chunks final at (length (first ∷ rest)) now before (Puts at 244 ∷ Serializes ∷ puts)
@@ -172,7 +172,7 @@ serialization_gone w chunks final at len now before events g =
 
 -- the first events of an instruction of several bytes
 longer_front : (w : World) (chunks : List Chunk) (final : List ℕ) (at first : ℕ) (rest now : List ℕ) (before : List (List ℕ))
-    → ChangesTo w chunks final → Stands w.marked.marks chunks final at (first ∷ rest)
+    → ChangesTo w chunks final → IsInPlace w.marked.marks chunks final at (first ∷ rest)
     → stands_there w.marked.bytes at (first ∷ rest) ≡ false → Between w final now → Views (λ view. Sound w chunks view) now before
     → HasGone w chunks final at (length (first ∷ rest)) now before
     (Puts at 244 ∷ Serializes ∷ (events_of no_details (puts_where any_place (at + 1) rest) ++ (Serializes ∷ Puts at first ∷ [])))
@@ -230,7 +230,7 @@ longer_front w chunks final at first rest now before c n fresh b views all (x �
 
 -- the first events of an instruction
 instruction_front : (w : World) (chunks : List Chunk) (final : List ℕ) (at : ℕ) (new now : List ℕ) (before : List (List ℕ))
-    → ChangesTo w chunks final → Stands w.marked.marks chunks final at new → stands_there w.marked.bytes at new ≡ false → Between w final now
+    → ChangesTo w chunks final → IsInPlace w.marked.marks chunks final at new → stands_there w.marked.bytes at new ≡ false → Between w final now
     → Views (λ view. Sound w chunks view) now before → (part later : List Event) → part ++ later ≡ instruction_events at new
     → HasGone w chunks final at (length new) now before part
 instruction_front w chunks final at [] now before c n fresh b views part later is = absurd (omega (arith, n.some))
@@ -251,7 +251,7 @@ instruction_front w chunks final at (byte ∷ next ∷ rest) now before c n fres
 -- the instructions of a patch, as they stand in the final text
 abbrev AllStand : List Mark → List Chunk → List ℕ → ℕ → List Piece → Type 0
 AllStand marks chunks final at [] = ⊤
-AllStand marks chunks final at (n ∷ ns) = Stands marks chunks final at n.bytes × AllStand marks chunks final (at + length n.bytes) ns
+AllStand marks chunks final at (n ∷ ns) = IsInPlace marks chunks final at n.bytes × AllStand marks chunks final (at + length n.bytes) ns
 
 -- what changes a span changes a wider one
 gone_wider : (w : World) (chunks : List Chunk) (final : List ℕ) (at len from all : ℕ) (now : List ℕ) (before : List (List ℕ))
@@ -294,7 +294,7 @@ GoOn w chunks final at ns =
 
 -- the first events of an instruction and others
 turn_gone : (n : Piece) (ns : List Piece) (w : World) (chunks : List Chunk) (final : List ℕ) (at : ℕ) (now : List ℕ) (before : List (List ℕ))
-    → ChangesTo w chunks final → Stands w.marked.marks chunks final at n.bytes → Between w final now
+    → ChangesTo w chunks final → IsInPlace w.marked.marks chunks final at n.bytes → Between w final now
     → Views (λ view. Sound w chunks view) now before → GoOn w chunks final (at + length n.bytes) ns → (part later : List Event)
     → (stood : Bool) → stands_there w.marked.bytes at n.bytes ≡ stood
     → part ++ later ≡ cond stood [] (instruction_events at n.bytes) ++ patch_events w.marked.bytes (at + length n.bytes) ns
@@ -343,20 +343,20 @@ attempts_gone ns w chunks final at c all views _ (OneMore {earlier} first part r
     (front_gone ns w chunks final at c all g.bytes g.earlier g.between g.views part rest same)
 
 -- what all events of a patch leave: the final text, and sound views
-record IsDone (w : World) (chunks : List Chunk) (final now : List ℕ) (before : List (List ℕ)) (events : List Event) : Type 0 where
+record HasEnded (w : World) (chunks : List Chunk) (final now : List ℕ) (before : List (List ℕ)) (events : List Event) : Type 0 where
   earlier : List (List ℕ)
   leads : Leads (with_text w now before) events (with_text w final earlier)
   views : Views (λ view. Sound w chunks view) final earlier
 
 -- all events of an instruction and others, from a text between the old one and the final one
 turn_done : (n : Piece) (ns : List Piece) (w : World) (chunks : List Chunk) (final : List ℕ) (at : ℕ) (now : List ℕ) (before : List (List ℕ))
-    → ChangesTo w chunks final → Stands w.marked.marks chunks final at n.bytes → Between w final now
+    → ChangesTo w chunks final → IsInPlace w.marked.marks chunks final at n.bytes → Between w final now
     → Views (λ view. Sound w chunks view) now before → Agrees at (length (code_of (n ∷ ns))) final now
     → ((later : List ℕ) (earlier : List (List ℕ)) → Between w final later → Views (λ view. Sound w chunks view) later earlier
     → Agrees (at + length n.bytes) (length (code_of ns)) final later
-    → IsDone w chunks final later earlier (patch_events w.marked.bytes (at + length n.bytes) ns))
+    → HasEnded w chunks final later earlier (patch_events w.marked.bytes (at + length n.bytes) ns))
     → (stood : Bool) → stands_there w.marked.bytes at n.bytes ≡ stood
-    → IsDone w chunks final now before
+    → HasEnded w chunks final now before
     (cond stood [] (instruction_events at n.bytes) ++ patch_events w.marked.bytes (at + length n.bytes) ns)
 turn_done n ns w chunks final at now before c s b views agrees others true stood =
     others now before b views
@@ -383,9 +383,9 @@ turn_done n ns w chunks final at now before c s b views agrees others false fres
 all_gone : (ns : List Piece) (w : World) (chunks : List Chunk) (final : List ℕ) (at : ℕ) (now : List ℕ) (before : List (List ℕ))
     → ChangesTo w chunks final → AllStand w.marked.marks chunks final at ns → Between w final now
     → Views (λ view. Sound w chunks view) now before → Agrees at (length (code_of ns)) final now
-    → IsDone w chunks final now before (patch_events w.marked.bytes at ns)
+    → HasEnded w chunks final now before (patch_events w.marked.bytes at ns)
 all_gone [] w chunks final at now before c all b views agrees =
-    subst (λ (z : List ℕ). IsDone w chunks z now before []) (agrees_all at final now agrees)
+    subst (λ (z : List ℕ). HasEnded w chunks z now before []) (agrees_all at final now agrees)
     (record { earlier = before; leads = leads_none (with_text w now before); views = views })
 all_gone (n ∷ ns) w chunks final at now before c all b views agrees =
     turn_done n ns w chunks final at now before c all.0 b views agrees
@@ -398,7 +398,7 @@ all_gone (n ∷ ns) w chunks final at now before c all b views agrees =
 first_stands : (marked : MarkedText) (chunks : List Chunk) (c : Chunk) (at : ℕ) (new : List ℕ) (n : Piece) (ns : List Piece)
     → Contains chunks c → IsLive c.state → c.base ≤ at → at + length new ≤ c.base + c.length → PatchStarts marked chunks c at new n ns
     → (final : List ℕ) → final ≡ (changed marked at new).bytes → at + length new ≤ 65536 + length marked.bytes
-    → Stands marked.marks chunks final at n.bytes
+    → IsInPlace marked.marks chunks final at n.bytes
 first_stands marked chunks c at new n ns has live from ends s final is high =
     let mid : List ℕ = (changed marked at n.bytes).bytes in
     let rep = s.replacing in
