@@ -317,9 +317,9 @@ NcSegments nc_host_elf(const uint8_t *file, size_t file_len, NcSegment *segments
                   with NC_HANDLE_TAKEN, even before that. A call without a result does nothing to an empty handle.
       Changes     A creation or a patch is a call of a history (LogsCall). A change writes its acts, serializations included, which are then
                   pending in the host's memory (ReportsPending). Once they are made, and a deletion has ended, the memory has the region's
-                  bytes. Until the next change they may be made again, all and from the first, even after a part of them (IsHostStep).
-                  So keep the buffer, which alone has a patch's acts. `at` is 0, except for faults 4 to 7 [at]. A call that reads or writes
-                  runs never changes the region [same].
+                  bytes. Until the next call that changes the region they may be made again, all and from the first, even after a part of
+                  them (IsHostStep). So keep the buffer, which alone has a patch's acts. `at` is 0, except for faults 4 to 7 [at]. A call
+                  that reads or writes runs never changes the region [same].
       Buffers     A buffer is refused with NC_NO_ROOM if a change of this length can need a longer one. But with a length of 0 a creation or
                   a deletion is made, and its acts aren't reported. That is for hosts without memory, or those that ask for runs. Begin a
                   growing buffer above 0.
@@ -378,7 +378,8 @@ NcChange nc_region_begin_delete(NcRegion *region, uint32_t base, NcAct *acts, si
 NcStamp nc_region_end_delete(NcRegion *region);
 
 /* Writes the acts that create the live chunk at `base` with its present bytes, as two runs for each bundle and two more acts
-   (AreCreationRuns) [reported, same, at]. Call it after a creation without a buffer, before the next change.
+   (AreCreationRuns) [reported, same, at]. Call it after a creation without a buffer, before the next call
+   that changes the region.
    Refused: NC_NO_CHUNK; NC_NO_ROOM, if the buffer is shorter, even of length 0 [refused, untouched]. */
 NcChange nc_region_creation_runs(NcRegion *region, uint32_t base, NcAct *acts, size_t acts_len);
 

@@ -38,6 +38,16 @@ class Text:
             self.marks[span] = unused_marks(value)
 
 
+def begun_again(acts):
+    """The acts of a change after attempts at them: none of those that the host makes, then the first of them, then the first two, and so on
+    to all of them.
+    """
+    own = [act for act in acts if act[0] in (nc.PUT, nc.MARK, nc.SERIALIZE)]
+    for count in range(len(own) + 1):
+        yield from own[:count]
+    yield from acts
+
+
 def differences(region, text):
     """The addresses at which a region's bytes or marks aren't those of a text."""
     if region.places() == (text.bytes, text.marks):
@@ -54,13 +64,13 @@ class Life:
         self.seat = self.region.seat()
         self.text = Text(self.region.limit)
 
-    def live(self, steps):
+    def live(self, steps, made=iter):
         """Makes calls, each given as the name of a method below and its arguments. Yields each of their acts once it was made in the text.
-        After each call the region has the text's bytes and marks.
+        `made` says which are made for the acts of a call, and in which order. After each call the region has the text's bytes and marks.
         """
         for name, *words in steps:
             acts, marks = getattr(self, name)(*words)
-            for act in acts:
+            for act in made(acts):
                 self.text.make(act, marks)
                 yield act
             self.case.assertEqual(differences(self.region, self.text), [], (name, words))

@@ -3,7 +3,7 @@ one of them left out some mixture isn't.
 """
 import unittest
 
-from following import Life
+from following import Life, begun_again
 from reading import filled
 from views import Views, mixtures
 
@@ -50,6 +50,10 @@ LIFE = [
 # After how many acts mixtures are read: 65 of the first creation, 33 of the second, 10, 6 and 3 of the patches, 64 puts of the deletion,
 # one span unmarked, and 65 of the last creation.
 LOOKS = 247
+
+# Serializations, if the acts of each change are begun again after each of them: one that comes after i of n acts is made n - i + 1 times. 5
+# and 4 of the first two creations, 39, 26 and 8 of the patches, 22 of the deletion, whose chunk has 44 marks, and 5 of the last creation.
+AGAIN = 109
 
 # What is read first that isn't right, if one serialization is left out: its address and its bytes. Each serialization has a row, in their
 # order. A byte that was put since the serialization before may be read, and so may those that it took the place of.
@@ -118,6 +122,15 @@ class Mixtures(unittest.TestCase):
         self.assertEqual(views.wrong, [])
         # once at each marked place of the bundle after each put, and of the text after each marking, that would be 2369 readings
         self.assertGreater(views.readings, 2369)
+
+    def test_acts_begun_again(self):
+        """The acts of each change are begun again after each of them."""
+        life = Life(self, 4)
+        views = Views(life.text, 0)
+        for act in life.live(LIFE, begun_again):
+            views.follow(act)
+        self.assertEqual(views.wrong, [])
+        self.assertEqual(views.serializations, AGAIN)
 
     def test_each_serialization_left_out(self):
         for left_out, wrong in enumerate(WRONG, 1):

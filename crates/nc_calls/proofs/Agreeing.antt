@@ -19,7 +19,8 @@ agrees_more at len old now new a b =
     record { as_long = b.as_long ∙ a.as_long; outside = λ p low out. b.outside p low out ∙ a.outside p low out }
 
 -- texts that agree outside a span do so outside a wider one
-pub agrees_wider : (at len from all : ℕ) (old now : List ℕ) → from ≤ at → at + len ≤ from + all → Agrees at len old now → Agrees from all old now
+pub agrees_wider : (at len from all : ℕ) (old now : List ℕ) → from ≤ at → at + len ≤ from + all → Agrees at len old now
+    → Agrees from all old now
 agrees_wider at len from all old now low high a =
     record {
       as_long = a.as_long;

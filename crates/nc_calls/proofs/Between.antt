@@ -81,7 +81,8 @@ between_sound marks spans chunks old final now c b =
 
 -- no marked place lies inside an instruction of the patch
 inside_unmarked : (marks : List Mark) (spans : List RetiredSpan) (chunks : List Chunk) (final : List ℕ) (at : ℕ) (new : List ℕ) (k : ℕ)
-    → SoundBy marks spans chunks final → IsInPlace marks chunks final at new → 0 < k → k < length new → mark_at marks (at + k) ≡ Mark.Unmarked
+    → SoundBy marks spans chunks final → IsInPlace marks chunks final at new → 0 < k → k < length new
+    → mark_at marks (at + k) ≡ Mark.Unmarked
 inside_unmarked marks spans chunks final at new k sound n some less =
     let e = executes final (state at n.masked) n.low (sound.good.closed.safe (state at n.masked) n.marked) in
     sound.good.parted (state at n.masked) e.i k n.marked e.is some (omega (arith, n.len e.i e.is, less))
@@ -113,7 +114,8 @@ apart_from marks spans chunks final text at new s i sound n good m other is =
 -- an instruction at another marked place of a good text stays where a text changes at an instruction of the patch alone
 stays_beside : (marks : List Mark) (spans : List RetiredSpan) (chunks : List Chunk) (final text now new : List ℕ) (at : ℕ) (bytes : List ℕ)
     (s : State) → SoundBy marks spans chunks final → IsInPlace marks chunks final at bytes → Good text marks spans
-    → Agrees at (length bytes) now new → IsMarked marks s → s.place ≢ at → KeepsInstruction text now s.place → KeepsInstruction text new s.place
+    → Agrees at (length bytes) now new → IsMarked marks s → s.place ≢ at → KeepsInstruction text now s.place
+    → KeepsInstruction text new s.place
 stays_beside marks spans chunks final text now new at bytes s sound n good agrees m other kept = λ i is fits k lt.
     let beside : (s.place + k < at) ⊎ (at + length bytes ≤ s.place + k) =
     elim (apart_from marks spans chunks final text at bytes s i sound n good m other is) [
@@ -123,8 +125,8 @@ stays_beside marks spans chunks final text now new at bytes s sound n good agree
     agrees.outside (s.place + k) (omega (arith, m.0)) beside ∙ kept i is fits k lt
 
 -- a text between two stays so where it changes at an instruction of the patch alone, and then has either there
-pub between_more : (marks : List Mark) (spans : List RetiredSpan) (chunks : List Chunk) (old final now new : List ℕ) (at : ℕ) (bytes : List ℕ)
-    → Changing marks spans chunks old final → IsInPlace marks chunks final at bytes → IsBetween marks old final now
+pub between_more : (marks : List Mark) (spans : List RetiredSpan) (chunks : List Chunk) (old final now new : List ℕ) (at : ℕ)
+    (bytes : List ℕ) → Changing marks spans chunks old final → IsInPlace marks chunks final at bytes → IsBetween marks old final now
     → Agrees at (length bytes) now new → HasEither old final new at → IsBetween marks old final new
 between_more marks spans chunks old final now new at bytes c n b agrees here =
     record {
@@ -174,15 +176,17 @@ new_agrees now at bytes low high =
     }
 
 -- it has the bytes of the final text there
-pub new_there : (marks : List Mark) (chunks : List Chunk) (final now : List ℕ) (at : ℕ) (bytes : List ℕ) → IsInPlace marks chunks final at bytes
-    → length now ≡ length final → (k : ℕ) → k < length bytes → byte_at (with_new now at bytes) (at + k) ≡ byte_at final (at + k)
+pub new_there : (marks : List Mark) (chunks : List Chunk) (final now : List ℕ) (at : ℕ) (bytes : List ℕ)
+    → IsInPlace marks chunks final at bytes → length now ≡ length final → (k : ℕ) → k < length bytes
+    → byte_at (with_new now at bytes) (at + k) ≡ byte_at final (at + k)
 new_there marks chunks final now at bytes n long k lt =
     let e : at + k - at ≡ k = omega arith in
     span_within now at bytes (at + k) 0 n.low (omega (arith, n.high, long)) (omega arith) (omega (arith, lt))
     ∙ (ap (λ (j : ℕ). get_or bytes j 0) e ∙ sym (n.bytes k lt))
 
 -- where the bytes of the final text stand, its instruction does
-pub keeps_final : (marks : List Mark) (chunks : List Chunk) (final now : List ℕ) (at : ℕ) (bytes : List ℕ) → IsInPlace marks chunks final at bytes
+pub keeps_final : (marks : List Mark) (chunks : List Chunk) (final now : List ℕ) (at : ℕ) (bytes : List ℕ)
+    → IsInPlace marks chunks final at bytes
     → ((k : ℕ) → k < length bytes → byte_at now (at + k) ≡ byte_at final (at + k)) → KeepsInstruction final now at
 keeps_final marks chunks final now at bytes n there = λ i is fits k lt. there k (omega (arith, lt, n.len i is))
 

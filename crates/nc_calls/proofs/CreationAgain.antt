@@ -160,7 +160,8 @@ is_front v part rest is =
       | inr f ↦ behind f.0 f.1 f.2
     ]
   where
-    behind : (r : List Event) → part ≡ puts_of is_inside v ++ r → r ++ rest ≡ Serializes ∷ Marks v.base v.marks ∷ puts_of is_start v → IsFront v part
+    behind : (r : List Event) → part ≡ puts_of is_inside v ++ r
+        → r ++ rest ≡ Serializes ∷ Marks v.base v.marks ∷ puts_of is_start v → IsFront v part
     behind [] here same =
         OfInside (subst (AreFirstPuts (of_marks v.marks) is_inside v.base v.code) (sym (here ∙ append-nil (puts_of is_inside v)))
         (all_puts (of_marks v.marks) is_inside v.base v.code))
@@ -200,8 +201,8 @@ record GetsHalfway (w : World) (v : MarkedChunk) (from : World) (events : List E
   stage : Halfway w v to
 
 -- events after events
-goes_more : (w : World) (v : MarkedChunk) (from : World) (first second : List Event) (a : GetsHalfway w v from first) → GetsHalfway w v a.to second
-    → GetsHalfway w v from (first ++ second)
+goes_more : (w : World) (v : MarkedChunk) (from : World) (first second : List Event) (a : GetsHalfway w v from first)
+    → GetsHalfway w v a.to second → GetsHalfway w v from (first ++ second)
 goes_more w v from first second a b =
     record { to = b.to; leads = leads_more from a.to b.to first second a.leads b.leads; stage = b.stage }
 
@@ -378,7 +379,8 @@ starts_put w chunks k v c from stage starts f =
     (omega (arith, le, span_fits w chunks k v c, o.differs.as_long, final_long w chunks k v c))
     (serialized_views (IsNearly (final_of w v)) o.mid o.nearly) in
     let last : Leads (serialized (marked_in w v) o.mid) starts (with_text (marked_in w v) b.bytes b.earlier) =
-    subst (λ (z : List Event). Leads (serialized (marked_in w v) o.mid) z (with_text (marked_in w v) b.bytes b.earlier)) (sym f.own) b.leads in
+    subst (λ (z : List Event). Leads (serialized (marked_in w v) o.mid) z (with_text (marked_in w v) b.bytes b.earlier)) (sym f.own)
+    b.leads in
     record {
       bytes = b.bytes;
       earlier = b.earlier;

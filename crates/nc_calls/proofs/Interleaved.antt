@@ -107,7 +107,8 @@ interleave w seats (Puts at byte ∷ events) plain allowed threads =
     writer_more w seats (Puts at byte) events refl allowed.0 refl refl
     (interleave (after w (Puts at byte)) seats events plain.1 allowed.1 threads.1)
 interleave w seats (Serializes ∷ events) plain allowed threads =
-    writer_more w seats Serializes events refl allowed.0 refl refl (interleave (after w Serializes) seats events plain.1 allowed.1 threads.1)
+    writer_more w seats Serializes events refl allowed.0 refl refl
+    (interleave (after w Serializes) seats events plain.1 allowed.1 threads.1)
 interleave w seats (Marks at marks ∷ events) plain allowed threads =
     writer_more w seats (Marks at marks) events refl allowed.0 refl refl
     (interleave (after w (Marks at marks)) seats events plain.1 allowed.1 threads.1)

@@ -96,7 +96,8 @@ deletes (Ok stamp) seats old new base is =
       is.base_is,
       logs_call seats (record no_details { base = base; len = is.chunk.length }) old new
           (log_of_delete old.marked.marks base is.chunk.length) is.log
-          (Deletes base stamp is (stops_of old.marked.marks base is.chunk.length) [] (stops_then old.marked.marks base is.chunk.length) NoneYet refl),
+          (Deletes base stamp is (stops_of old.marked.marks base is.chunk.length) []
+          (stops_then old.marked.marks base is.chunk.length) NoneYet refl),
     )
 deletes (Err e) seats old new base is = tt
 

@@ -96,8 +96,8 @@ stopped_between w chunks final at new now later c n fresh b agrees stop =
 
 -- a stop is put at the first byte
 stop_gone : (w : World) (chunks : List Chunk) (final : List ℕ) (at : ℕ) (new now : List ℕ) (before : List (List ℕ))
-    → ChangesTo w chunks final → IsInPlace w.marked.marks chunks final at new → stands_there w.marked.bytes at new ≡ false → Between w final now
-    → Views (λ view. Sound w chunks view) now before
+    → ChangesTo w chunks final → IsInPlace w.marked.marks chunks final at new → stands_there w.marked.bytes at new ≡ false
+    → Between w final now → Views (λ view. Sound w chunks view) now before
     → (g : HasGone w chunks final at (length new) now before (Puts at 244 ∷ [])) × (byte_at g.bytes at ≡ 244)
 stop_gone w chunks final at new now before c n fresh b views =
     let r = replaces w chunks final now before at new c n b in
@@ -194,17 +194,15 @@ longer_front w chunks final at first rest now before c n fresh b views all (x �
     (subst (λ (e : Event). HasGone w chunks final at (length (first ∷ rest)) now before (Puts at 244 ∷ e ∷ r)) (sym next)
     (elim (split_joined r later (events_of no_details (puts_where any_place (at + 1) rest)) (Serializes ∷ Puts at first ∷ []) others) [
       | inl f ↦
-          further_gone w chunks final at first rest now before c n fresh b views r (first_puts no_details any_place (at + 1) rest r f.0 (sym f.1))
+          further_gone w chunks final at first rest now before c n fresh b views r
+          (first_puts no_details any_place (at + 1) rest r f.0 (sym f.1))
       | inr f ↦ behind f.0 f.1 f.2
     ]))
   where
-    puts : List Event
-    puts = events_of no_details (puts_where any_place (at + 1) rest)
-
     done : HasGone w chunks final at (length (first ∷ rest)) now before
         (Puts at 244 ∷ Serializes ∷ events_of no_details (puts_where any_place (at + 1) rest))
-    done = further_gone w chunks final at first rest now before c n fresh b views (events_of no_details (puts_where any_place (at + 1) rest))
-        (all_puts no_details any_place (at + 1) rest)
+    done = further_gone w chunks final at first rest now before c n fresh b views
+        (events_of no_details (puts_where any_place (at + 1) rest)) (all_puts no_details any_place (at + 1) rest)
 
     behind : (q : List Event) → r ≡ events_of no_details (puts_where any_place (at + 1) rest) ++ q
         → q ++ later ≡ Serializes ∷ Puts at first ∷ []
@@ -230,8 +228,9 @@ longer_front w chunks final at first rest now before c n fresh b views all (x �
 
 -- the first events of an instruction
 instruction_front : (w : World) (chunks : List Chunk) (final : List ℕ) (at : ℕ) (new now : List ℕ) (before : List (List ℕ))
-    → ChangesTo w chunks final → IsInPlace w.marked.marks chunks final at new → stands_there w.marked.bytes at new ≡ false → Between w final now
-    → Views (λ view. Sound w chunks view) now before → (part later : List Event) → part ++ later ≡ instruction_events at new
+    → ChangesTo w chunks final → IsInPlace w.marked.marks chunks final at new → stands_there w.marked.bytes at new ≡ false
+    → Between w final now → Views (λ view. Sound w chunks view) now before → (part later : List Event)
+    → part ++ later ≡ instruction_events at new
     → HasGone w chunks final at (length new) now before part
 instruction_front w chunks final at [] now before c n fresh b views part later is = absurd (omega (arith, n.some))
 instruction_front w chunks final at (byte ∷ []) now before c n fresh b views [] later is =
@@ -275,7 +274,8 @@ gone_more w chunks final at len now before first second g h =
     record {
       bytes = h.bytes;
       earlier = h.earlier;
-      leads = leads_more (with_text w now before) (with_text w g.bytes g.earlier) (with_text w h.bytes h.earlier) first second g.leads h.leads;
+      leads = leads_more (with_text w now before) (with_text w g.bytes g.earlier) (with_text w h.bytes h.earlier) first second g.leads
+          h.leads;
       between = h.between;
       agrees = agrees_more at len now g.bytes h.bytes g.agrees h.agrees;
       views = h.views;
@@ -293,8 +293,8 @@ GoOn w chunks final at ns =
     → HasGone w chunks final at (length (code_of ns)) now before part
 
 -- the first events of an instruction and others
-turn_gone : (n : Piece) (ns : List Piece) (w : World) (chunks : List Chunk) (final : List ℕ) (at : ℕ) (now : List ℕ) (before : List (List ℕ))
-    → ChangesTo w chunks final → IsInPlace w.marked.marks chunks final at n.bytes → Between w final now
+turn_gone : (n : Piece) (ns : List Piece) (w : World) (chunks : List Chunk) (final : List ℕ) (at : ℕ) (now : List ℕ)
+    (before : List (List ℕ)) → ChangesTo w chunks final → IsInPlace w.marked.marks chunks final at n.bytes → Between w final now
     → Views (λ view. Sound w chunks view) now before → GoOn w chunks final (at + length n.bytes) ns → (part later : List Event)
     → (stood : Bool) → stands_there w.marked.bytes at n.bytes ≡ stood
     → part ++ later ≡ cond stood [] (instruction_events at n.bytes) ++ patch_events w.marked.bytes (at + length n.bytes) ns
@@ -349,8 +349,8 @@ record HasEnded (w : World) (chunks : List Chunk) (final now : List ℕ) (before
   views : Views (λ view. Sound w chunks view) final earlier
 
 -- all events of an instruction and others, from a text between the old one and the final one
-turn_done : (n : Piece) (ns : List Piece) (w : World) (chunks : List Chunk) (final : List ℕ) (at : ℕ) (now : List ℕ) (before : List (List ℕ))
-    → ChangesTo w chunks final → IsInPlace w.marked.marks chunks final at n.bytes → Between w final now
+turn_done : (n : Piece) (ns : List Piece) (w : World) (chunks : List Chunk) (final : List ℕ) (at : ℕ) (now : List ℕ)
+    (before : List (List ℕ)) → ChangesTo w chunks final → IsInPlace w.marked.marks chunks final at n.bytes → Between w final now
     → Views (λ view. Sound w chunks view) now before → Agrees at (length (code_of (n ∷ ns))) final now
     → ((later : List ℕ) (earlier : List (List ℕ)) → Between w final later → Views (λ view. Sound w chunks view) later earlier
     → Agrees (at + length n.bytes) (length (code_of ns)) final later
@@ -449,8 +449,8 @@ all_stand (n ∷ ns) marked chunks c at new region has live from patch b ends hi
     let mid_long : length (changed marked at n.bytes).bytes ≡ length marked.bytes =
     length-with_span marked.bytes (at - 65536) n.bytes (omega (arith, s.replacing.low, s.replacing.high)) in (
       first_stands marked chunks c at new n ns has live from ends s final is high,
-      all_stand ns (changed marked at n.bytes) chunks c (at + length n.bytes) (code_of ns) s.region has live (omega (arith, from)) s.patch_rest
-          s.bytes_rest (omega (arith, ends, s.long)) (omega (arith, high, s.long, mid_long)) final (is ∙ sym s.text),
+      all_stand ns (changed marked at n.bytes) chunks c (at + length n.bytes) (code_of ns) s.region has live (omega (arith, from))
+          s.patch_rest s.bytes_rest (omega (arith, ends, s.long)) (omega (arith, high, s.long, mid_long)) final (is ∙ sym s.text),
     )
 
 -- the events of a patch's instructions, after attempts, lead to the world with the patch in place

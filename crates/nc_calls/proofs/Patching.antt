@@ -316,7 +316,8 @@ held_place chunks c place has live inside free =
     (each_get (λ (d : Chunk). IsLive d.state → IsInChunk d place → ⊥) chunks has.0 c has.1 free) live inside
 
 -- what is known of the first instruction of a patch, and of what is left of it
-pub record Starts (marked : MarkedText) (chunks : List Chunk) (c : Chunk) (at : ℕ) (new : List ℕ) (n : Piece) (ns : List Piece) : Type 0 where
+pub record Starts (marked : MarkedText) (chunks : List Chunk) (c : Chunk) (at : ℕ) (new : List ℕ) (n : Piece) (ns : List Piece)
+    : Type 0 where
   pub replacing : IsReplacing marked at n.bytes
   pub region : IsRegion (changed marked at n.bytes) chunks
   pub here : ((masked : Option ℕ) × IsMarked marked.marks (state at masked))

@@ -51,7 +51,8 @@ keepers_others events all = All-weaker IsKeepers IsNotHosts keepers events all
 alone : (seats : ℕ) (old new : Region) (own made : List Event) → IsCall seats old new own → own ≡ [] → AreAttempts own made
     → IsCall seats old new (made ++ own)
 alone seats old new own made call none tried =
-    subst (λ (z : List Event). IsCall seats old new (z ++ own)) (sym (attempts_none made (subst (λ (z : List Event). AreAttempts z made) none tried)))
+    subst (λ (z : List Event). IsCall seats old new (z ++ own))
+    (sym (attempts_none made (subst (λ (z : List Event). AreAttempts z made) none tried)))
     call
 
 -- a call whose events a host makes, after attempts at them

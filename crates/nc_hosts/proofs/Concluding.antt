@@ -117,10 +117,12 @@ call_goes limit seats before since pending from region stays some threads own fo
     (created limit seats before (since ++ pending) from region v made stays.led stays.region valid lim is tried (own ∙ same) threads)
 call_goes limit seats before since pending from region stays some threads own found (Patches at bytes news lawful b is made tried same) =
     led_goes limit seats before since pending from region stays
-    (modified limit seats before (since ++ pending) from region at bytes news made stays.led stays.region lawful b is tried (own ∙ same) threads)
+    (modified limit seats before (since ++ pending) from region at bytes news made stays.led stays.region lawful b is tried
+    (own ∙ same) threads)
 call_goes limit seats before since pending from region stays some threads own found (Deletes base stamp is stops made stamped tried same) =
     led_goes limit seats before since pending from region stays
-    (deleted limit seats before (since ++ pending) from region base stamp stops made stays.led stays.region is stamped tried (own ∙ same) threads)
+    (deleted limit seats before (since ++ pending) from region base stamp stops made stays.led stays.region is stamped tried
+    (own ∙ same) threads)
 call_goes limit seats before since pending from region stays some threads own found (Reclaims count is same) =
     reclaim_goes limit seats before since pending from region count stays some threads own is same found
 call_goes limit seats before since pending from region stays some threads own found (UsesKeeper marked chunks all range) =
@@ -306,7 +308,8 @@ stopped_there limit seats host c l none begun = go l.phase
     go (Deleting d is at live room ends a) =
         let here : Some d ≡ Some c = sym is ∙ begun in
         let same : d ≡ c = cc in
-        let h = (deletion_led limit seats l.before l.since host.called host.pending l.from d live l.stays l.threads l.plain room ends a).led in
+        let h = (deletion_led limit seats l.before l.since host.called host.pending l.from d live l.stays l.threads l.plain room ends
+        a).led in
         let stamped : world_after (first_world limit seats) (l.before ++ (l.since ++ (host.pending ++ Retires d.base d.length ∷ [])))
         ≡ world_after host.world (Retires d.base d.length ∷ []) =
         ap (λ (z : List Event). world_after (first_world limit seats) (l.before ++ (l.since ++ (z ++ Retires d.base d.length ∷ [])))) none
@@ -326,7 +329,8 @@ stopped bundles seats host c reached none begun =
 call_region : (seats : ℕ) (old new : Region) (own : List Event) → IsRegion old.marked old.chunks → IsCall seats old new own
     → IsRegion new.marked new.chunks
 call_region seats old new own region (Creates v valid lim is made tried same) = still_created old new v region valid lim is
-call_region seats old new own region (Patches at bytes news lawful b is made tried same) = still_patched old new at bytes news region lawful b is
+call_region seats old new own region (Patches at bytes news lawful b is made tried same) =
+    still_patched old new at bytes news region lawful b is
 call_region seats old new own region (Deletes base stamp is stops made stamped tried same) = still_deleted old new base stamp region is
 call_region seats old new own region (Reclaims count is same) = still_reclaimed old new count region is
 call_region seats old new own region (UsesKeeper marked chunks all range) = same_region old new marked chunks region

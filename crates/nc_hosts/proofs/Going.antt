@@ -44,12 +44,14 @@ loads bundles seats host new v reached none valid loaded =
     let w = first_world (65536 + 32 * bundles) seats in
     let s = finished (65536 + 32 * bundles) seats host l none loaded.0 in
     let all : All IsWriters (create_events v) = log_writers (record no_details { marks = v.marks }) (log_of_create v.base v.code) in
-    let g = created (65536 + 32 * bundles) seats (l.before ++ l.since) (create_events v) host.handle.region new.region v [] s.led s.region valid
-    loaded.1 loaded.3 NoneYet (writers_own [] (create_events v) all) (threads_none (world_after w (l.before ++ l.since)) (create_events v) all) in
+    let g = created (65536 + 32 * bundles) seats (l.before ++ l.since) (create_events v) host.handle.region new.region v [] s.led s.region
+    valid loaded.1 loaded.3 NoneYet (writers_own [] (create_events v) all)
+    (threads_none (world_after w (l.before ++ l.since)) (create_events v) all) in
     let there : world_after w ((l.before ++ l.since) ++ create_events v) ≡ world_after host.world (create_events v) =
     after_append w (l.before ++ l.since) (create_events v) ∙ ap (λ (x : World). world_after x (create_events v)) (sym l.world) in
     Then reached
-    (Calls none (Changes loaded.0 (ap (λ (h : RegionHandleState). h.begun) loaded.4 ∙ loaded.0) (Creates v valid loaded.1 loaded.3 [] NoneYet refl)) refl refl)
+    (Calls none (Changes loaded.0 (ap (λ (h : RegionHandleState). h.begun) loaded.4 ∙ loaded.0)
+    (Creates v valid loaded.1 loaded.3 [] NoneYet refl)) refl refl)
     (λ looks. subst (λ (x : World). KnowsNoMore new.region.keeper.numbers x.keeper) there g.led.stands.keeper)
 
 -- a patch leads to a host that is reached
@@ -72,8 +74,8 @@ patches bundles seats host new at bytes news reached none b patched =
     let there : world_after w ((l.before ++ l.since) ++ own) ≡ world_after host.world own =
     after_append w (l.before ++ l.since) own ∙ ap (λ (x : World). world_after x own) (sym l.world) in
     Then reached
-    (Calls none (Changes patched.0 (ap (λ (h : RegionHandleState). h.begun) patched.3 ∙ patched.0) (Patches at bytes news patched.1 b patched.2 [] NoneYet refl))
-    refl refl)
+    (Calls none (Changes patched.0 (ap (λ (h : RegionHandleState). h.begun) patched.3 ∙ patched.0)
+    (Patches at bytes news patched.1 b patched.2 [] NoneYet refl)) refl refl)
     (λ looks. subst (λ (x : World). KnowsNoMore new.region.keeper.numbers x.keeper) there g.led.stands.keeper)
 
 -- where a host makes what is pending, the region's keeper knows no more than the world's
@@ -87,7 +89,8 @@ knows_then bundles seats host reached stores =
 knows_before : (bundles seats : ℕ) (host : Host) (events : List Event) → IsReached bundles seats host → All IsHosts host.pending
     → All IsHosts events → KnowsNoMore host.handle.region.keeper.numbers (world_after host.world events).keeper
 knows_before bundles seats host events reached stores all =
-    subst (KnowsNoMore host.handle.region.keeper.numbers) (sym (hosts_keep host.world events all)) (knows_then bundles seats host reached stores)
+    subst (KnowsNoMore host.handle.region.keeper.numbers) (sym (hosts_keep host.world events all))
+    (knows_then bundles seats host reached stores)
 
 -- where nothing is pending, a host makes all that is
 none_hosts : (pending : List Event) → pending ≡ [] → All IsHosts pending
@@ -203,8 +206,10 @@ reclaims bundles seats host new count is reached none = go host.handle.passes re
     go : (passes : List PassState) → host.handle.passes ≡ passes → IsReached bundles seats (met_host host new count is)
     go [] empty =
         Then reached (Calls none (Changes is.none is.none (is.meets seats)) refl refl) (λ no_look.
-        subst (λ (r : Region). KnowsNoMore r.keeper.numbers (world_after host.world (meetings host.handle.passes)).keeper) (sym (is.unmet empty))
-        (subst (λ (z : List Event). KnowsNoMore host.handle.region.keeper.numbers (world_after host.world z).keeper) (sym (ap meetings empty))
+        subst (λ (r : Region). KnowsNoMore r.keeper.numbers (world_after host.world (meetings host.handle.passes)).keeper)
+        (sym (is.unmet empty))
+        (subst (λ (z : List Event). KnowsNoMore host.handle.region.keeper.numbers (world_after host.world z).keeper)
+        (sym (ap meetings empty))
         (knows_then bundles seats host reached (none_hosts host.pending none))))
     go (p ∷ rest) some =
         looks bundles seats host (record host.handle { region = is.met }) (meetings host.handle.passes) reached none

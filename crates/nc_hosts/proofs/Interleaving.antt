@@ -127,7 +127,8 @@ attempts_writers events _ (OneMore {earlier} first part rest same) all =
     (all_front IsWriters part rest (subst (All IsWriters) (sym same) all))
 
 -- events that are all the writer's, after attempts at some of them
-tried_writers : (events made own : List Event) → AreAttempts events made → All IsWriters events → All IsWriters own → All IsWriters (made ++ own)
+tried_writers : (events made own : List Event) → AreAttempts events made → All IsWriters events → All IsWriters own
+    → All IsWriters (made ++ own)
 tried_writers events made own tried all more = All-append IsWriters made own (attempts_writers events made tried all) more
 
 -- the events of a call are all the writer's

@@ -36,7 +36,8 @@ pub create_hosts : (v : MarkedChunk) → All IsHosts (create_events v)
 create_hosts v =
     let d : Details = record { marks = v.marks; base = 0; len = 0; seats = 0; spans = [] } in
     subst (All IsHosts) (sym (create_is v))
-    (puts_then d is_inside v.base v.code (Marks v.base v.marks ∷ events_of (record { marks = v.marks; base = 0; len = 0; seats = 0; spans = [] })
+    (puts_then d is_inside v.base v.code
+    (Marks v.base v.marks ∷ events_of (record { marks = v.marks; base = 0; len = 0; seats = 0; spans = [] })
     (puts_where is_start v.base v.code))
     (All-cons IsHosts (Marks v.base v.marks) (events_of (record { marks = v.marks; base = 0; len = 0; seats = 0; spans = [] })
     (puts_where is_start v.base v.code)) tt (puts_hosts d is_start v.base v.code)))

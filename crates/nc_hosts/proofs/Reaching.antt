@@ -259,8 +259,8 @@ stamp_not : (base len : ℕ) (called : List Event) → called ≡ Retires base l
 stamp_not base len called is hosts = All-head IsHosts (Retires base len) [] (subst (All IsHosts) is hosts)
 
 -- the last call of a deletion
-phase_ended : (seats : ℕ) (from : Region) (own : List Event) (old new : RegionHandleState) (called pending then later : List Event) (stamp : ℕ)
-    (is : HasEndedDeletion old new stamp) → pending ≡ [] → later ≡ Retires is.chunk.base is.chunk.length ∷ [] → then ≡ later
+phase_ended : (seats : ℕ) (from : Region) (own : List Event) (old new : RegionHandleState) (called pending then later : List Event)
+    (stamp : ℕ) (is : HasEndedDeletion old new stamp) → pending ≡ [] → later ≡ Retires is.chunk.base is.chunk.length ∷ [] → then ≡ later
     → Phase seats from own old.begun old.region called pending → Phase seats from own new.begun new.region then later
 phase_ended seats from own old new called pending then later stamp is none stamped same (Calling whole idle pages call again) =
     absurd (let bad : None ≡ Some is.chunk = sym idle ∙ is.begun in cc)
@@ -305,8 +305,8 @@ led_calls limit seats old new l none (Ends stamp is stamped) same called found =
       threads = l.threads;
       plain = subst (All IsWriters) (sym stamped) (one_writers (Retires is.chunk.base is.chunk.length) refl);
       found = found;
-      phase = phase_ended seats l.from (writers l.since) old.handle new.handle old.called old.pending new.called new.pending stamp is none stamped
-          called l.phase;
+      phase = phase_ended seats l.from (writers l.since) old.handle new.handle old.called old.pending new.called new.pending stamp is none
+          stamped called l.phase;
     }
 
 -- a call that leaves the region as it is, but for pages
@@ -371,8 +371,8 @@ phase_anew seats from own begun region called pending hosts (Deleting c is at li
     Deleting c is at live room ends (attempting_anew called own pending a)
 
 -- the last call's events are to be made anew
-led_restarts : (limit seats : ℕ) (old : Host) → Led limit seats old → All IsHosts old.called → HasFound (record old { pending = old.called })
-    → Led limit seats (record old { pending = old.called })
+led_restarts : (limit seats : ℕ) (old : Host) → Led limit seats old → All IsHosts old.called
+    → HasFound (record old { pending = old.called }) → Led limit seats (record old { pending = old.called })
 led_restarts limit seats old l hosts found =
     record {
       before = l.before;
@@ -421,7 +421,8 @@ led_first bundles seats host is world none uncalled =
           (subst (λ (w : World). KnowsNoMore host.handle.region.keeper.numbers w.keeper) (sym world)
           (knows_as_much host.handle.region.keeper.numbers (first_keeper_numbers seats) (sym numbers)));
       phase = Calling host.handle.region is.begun refl (Keeps refl none)
-          (λ hosts. phase_called seats host.handle.region host.handle.region host.called host.pending (uncalled ∙ sym none) (Keeps refl none));
+          (λ hosts. phase_called seats host.handle.region host.handle.region host.called host.pending (uncalled ∙ sym none)
+          (Keeps refl none));
     }
 
 -- every state of a host that is reached is led

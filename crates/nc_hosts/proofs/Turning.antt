@@ -55,7 +55,8 @@ reached_by bundles seats from to (Further gone step reached) = reached
 
 -- a host makes the first event of a turn
 goes_once : (bundles seats : ℕ) (from : Host) (handle : RegionHandleState) (w : World) (called : List Event) (event : Event)
-    (events : List Event) → GoesOn bundles seats from (record { handle = handle; world = w; pending = writers (event ∷ events); called = called })
+    (events : List Event)
+    → GoesOn bundles seats from (record { handle = handle; world = w; pending = writers (event ∷ events); called = called })
     → (is_writers event ≡ false → ThreadMay w event)
     → KnowsNoMore handle.region.keeper.numbers (world_after (after w event) events).keeper → (b : Bool) → is_writers event ≡ b
     → GoesOn bundles seats from (record { handle = handle; world = after w event; pending = writers events; called = called })

@@ -31,9 +31,9 @@ ghost use Rattle.nc_hosts.specs.Hosts.{Host, IsHostStep, IsReached};
 ///
 /// A host (`specs/Hosts`) makes the pending events one by one and in order, and makes no call that may change the region before it has
 /// made all of them. Until that call it may begin the last one's events again from the first, as often as it likes and wherever it stopped:
-/// those of a creation, of a patch, or of a deletion before its stamp. The pending events are those that it reads in the buffer that it lent
-/// (`ReportsPending` of `nc_handle`), or those that the library makes itself (`DoesItself`). There is a state after each single store, so
-/// `stand` and `whole` are about every moment. The function does nothing when called.
+/// those of a creation, of a patch, or of a deletion before its stamp. The pending events are those that it reads in the buffer that it
+/// lent (`ReportsPending` of `nc_handle`), or those that the library makes itself (`DoesItself`). There is a state after each single store,
+/// so `stand` and `whole` are about every moment. The function does nothing when called.
 ///
 /// Its assumptions are in `ThreadMay`, `IsHostStep`, `HasFound` and `IsReached`:
 ///

@@ -9,8 +9,8 @@ use std::ptr;
 /// A region, with its chunks, bytes, marks, stamps and check-ins. Dropping it is `nc_region_free`.
 ///
 /// Each call that changes the region writes the acts of the change into a buffer, and returns the written part. The host makes these acts in
-/// its memory before the next change. Acts that were cut short it makes again, all of them and from the first. A buffer that is too short is
-/// [`Fault::NoRoom`], and nothing has changed. An empty buffer means what a length of 0 does in `nc_host.h`: a creation or a deletion is
+/// its memory before the next change. Acts that were cut short it makes again, all of them and from the first. A buffer that is too short
+/// is [`Fault::NoRoom`], and nothing has changed. An empty buffer means what a length of 0 does in `nc_host.h`: a creation or a deletion is
 /// made, and its acts aren't reported, and a patch is refused.
 ///
 /// A region may go to another thread, but no two threads may use it at once, not even to look:
