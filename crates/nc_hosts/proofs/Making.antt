@@ -1,5 +1,5 @@
--- A host makes all events of a creation and of a patch, and those of a deletion before its stamp.
-use Rattle.std.proofs.Common.{◌≡◌, ℕ, ◌+◌, Bool, true, false, cond, List, [], ◌∷◌, ◌++◌, length, replicate, ◌∙◌, sym, subst, append_assoc}
+-- A host makes all events of a creation and of a patch, those of a deletion before its stamp, and all that it reads in a buffer.
+use Rattle.std.proofs.Common.{◌≡◌, ℕ, ◌+◌, ◌-◌, ◌/◌, ◌%◌, ◌==◌, take, drop, Bool, true, false, cond, List, [], ◌∷◌, ◌++◌, length, replicate, ◌∙◌, sym, subst, append_assoc}
 use Rattle.std.specs.Prelude.{All}
 use Rattle.std.proofs.lemmas.List.{append_cancel_right}
 use Rattle.std.proofs.lemmas.List.Elements.{All-nil, All-cons, All-append}
@@ -11,6 +11,8 @@ use Rattle.nc_acts.specs.Acts.{puts_where, is_inside, is_start, is_marked_at, is
 use Rattle.nc_region.specs.Patch.{any_place, stands_there}
 use Rattle.nc_calls.specs.Calls.{Details, no_details, create_events, modify_events, delete_events}
 use Rattle.nc_calls.proofs.Offered.{events_of, create_is, stops_of, stops_then, instruction_events, patch_events, modify_is}
+use Rattle.nc_entries.specs.declared.act.NcAct.{NcAct}
+use Rattle.nc_handle.specs.Pending.{puts_pending, events_pending_by, events_pending}
 use Rattle.nc_hosts.specs.Hosts.{IsHosts}
 use Rattle.nc_hosts.proofs.Looked.{all_back}
 
@@ -78,3 +80,33 @@ rest_hosts marks base len first rest is =
     append_cancel_right (first ++ rest) (stops_of marks base len) (Retires base len ∷ [])
     (append_assoc first rest (Retires base len ∷ []) ∙ (is ∙ sym (stops_then marks base len))) in
     all_back IsHosts first rest (subst (All IsHosts) (sym same) stops)
+
+-- ---- what it reads in a buffer
+
+-- a host makes one or the other
+either_hosts : (b : Bool) (xs ys : List Event) → All IsHosts xs → All IsHosts ys → All IsHosts (cond b xs ys)
+either_hosts true xs ys one other = one
+either_hosts false xs ys one other = other
+
+-- a host makes the stores of a run
+run_hosts : (at bits : ℕ) (bytes : List ℕ) → All IsHosts (puts_pending at bits bytes)
+run_hosts at bits [] = All-nil IsHosts
+run_hosts at bits (byte ∷ rest) =
+    either_hosts (bits % 2 == 1) (Puts at byte ∷ puts_pending (at + 1) (bits / 2) rest) (puts_pending (at + 1) (bits / 2) rest)
+    (All-cons IsHosts (Puts at byte) (puts_pending (at + 1) (bits / 2) rest) tt (run_hosts (at + 1) (bits / 2) rest))
+    (run_hosts (at + 1) (bits / 2) rest)
+
+-- a host makes what an element of a buffer is
+element_hosts : (v : MarkedChunk) (a : NcAct) → All IsHosts (events_pending_by v a)
+element_hosts v a =
+    either_hosts (a.kind == 1) _ _ (All-cons IsHosts (Puts a.at a.value) [] tt (All-nil IsHosts))
+    (either_hosts (a.kind == 2) _ _ (All-cons IsHosts (Marks a.at v.marks) [] tt (All-nil IsHosts))
+    (either_hosts (a.kind == 6) _ _ (All-cons IsHosts Serializes [] tt (All-nil IsHosts))
+    (either_hosts (a.kind == 7) _ _ (run_hosts a.at a.value (take 32 (drop (a.at - v.base) v.code)))
+    (either_hosts (a.kind == 8) _ _ (run_hosts a.at a.value (replicate 32 244)) (All-nil IsHosts)))))
+
+-- a host makes what the elements of a buffer are
+pub buffer_hosts : (v : MarkedChunk) (acts : List NcAct) → All IsHosts (events_pending v acts)
+buffer_hosts v [] = All-nil IsHosts
+buffer_hosts v (a ∷ acts) =
+    All-append IsHosts (events_pending_by v a) (events_pending v acts) (element_hosts v a) (buffer_hosts v acts)

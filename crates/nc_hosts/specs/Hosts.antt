@@ -24,7 +24,7 @@ IsHosts (Marks at marks) = ⊤
 IsHosts event = ⊥
 
 -- A step of a host with this number of seats. `Runs`: a thread does what it may. `Makes`: the first pending event happens.
--- `Restarts`: all events of the last call that changes the region become pending again, if the host makes them. `Calls`: while nothing
+-- `Restarts`: all events of the last call that changes the region become pending again, if the host makes all of them. `Calls`: while nothing
 -- is pending, the host makes a call that changes the region, after which events are pending. `Asks`: any other call, also
 -- one that is refused, which leaves the region as it is, except that pages may have been made.
 pub data IsHostStep (seats : ℕ) (old new : Host) : Type 0 where

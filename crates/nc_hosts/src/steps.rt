@@ -7,8 +7,9 @@ ghost use Rattle.nc_region.specs.schedules.Events.{Event, ThreadMay, after};
 ghost use Rattle.nc_region.specs.Patch.{AreBytesOf};
 ghost use Rattle.nc_calls.specs.Interleaving.{is_writers};
 ghost use Rattle.nc_calls.specs.Calls.{create_events, modify_events, delete_events};
+ghost use Rattle.nc_entries.specs.declared.act.NcAct.{NcAct};
 ghost use Rattle.nc_handle.specs.RegionHandle.{RegionHandleState, HasLoaded, HasPatched, HasBegunDeletion, HasEndedDeletion, HasReclaimed, meetings};
-ghost use Rattle.nc_handle.specs.Pending.{IsHandleCall, ChangesPages};
+ghost use Rattle.nc_handle.specs.Pending.{IsHandleCall, ChangesPages, events_pending};
 ghost use Rattle.nc_hosts.specs.Hosts.{Host, IsHosts, IsNoLook, IsReached};
 
 /// From each state that a host can reach, these lead to another one:
@@ -18,7 +19,7 @@ ghost use Rattle.nc_hosts.specs.Hosts.{Host, IsHosts, IsNoLook, IsReached};
 /// - if nothing is pending, each other accepted call after which a look is pending, such as the second half of a reclaim;
 /// - if nothing is pending, the first half of a reclaim, in which the keeper meets the seats that nobody was given;
 /// - until the next call that changes the region, the events of the last one made again from the first one on, if the host makes them all,
-///   as it does those of a creation and of a patch (`hosts`);
+///   as it does whatever it reads in a buffer (`buffers`), and the events of a creation and of a patch (`changes`);
 /// - while a deletion is under way, its events made again so, such as those that were pending after its first call;
 /// - each call that leaves the region as it is, and each refused call, also while events are pending;
 /// - each event of a thread that it may do.
@@ -46,7 +47,8 @@ pub fn law_of_reaching()
         → IsReached bundles seats (record { handle = new; world = host.world; pending = stops; called = stops }) }
     ensures again { (bundles seats : ℕ) (host : Host) → IsReached bundles seats host → All IsHosts host.called
         → IsReached bundles seats (record host { pending = host.called }) }
-    ensures hosts { (v : MarkedChunk) (text : List ℕ) (at : ℕ) (news : List Piece) → All IsHosts (create_events v)
+    ensures buffers { (v : MarkedChunk) (acts : List NcAct) → All IsHosts (events_pending v acts) }
+    ensures changes { (v : MarkedChunk) (text : List ℕ) (at : ℕ) (news : List Piece) → All IsHosts (create_events v)
         × All IsHosts (modify_events text at news) }
     ensures restarts { (bundles seats : ℕ) (host : Host) (c : Chunk) (stops : List Event) → IsReached bundles seats host
         → host.handle.begun ≡ Some c

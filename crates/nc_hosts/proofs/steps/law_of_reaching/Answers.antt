@@ -1,5 +1,5 @@
 use Rattle.nc_hosts.proofs.Going.{makes_next, loads, patches, begins, again, restarts, anew, ends, looks, reclaims, asks, fails, runs}
-use Rattle.nc_hosts.proofs.Making.{create_hosts, modify_hosts}
+use Rattle.nc_hosts.proofs.Making.{create_hosts, modify_hosts, buffer_hosts}
 use Rattle.nc_hosts.proofs.steps.law_of_reaching.Goals as goal
 
 pub returns-clause-makes : goal.returns-clause-makes
@@ -17,8 +17,11 @@ returns-clause-begins c = begins
 pub returns-clause-again : goal.returns-clause-again
 returns-clause-again c = again
 
-pub returns-clause-hosts : goal.returns-clause-hosts
-returns-clause-hosts c = λ v text at news. (create_hosts v, modify_hosts text at news)
+pub returns-clause-buffers : goal.returns-clause-buffers
+returns-clause-buffers c = buffer_hosts
+
+pub returns-clause-changes : goal.returns-clause-changes
+returns-clause-changes c = λ v text at news. (create_hosts v, modify_hosts text at news)
 
 pub returns-clause-restarts : goal.returns-clause-restarts
 returns-clause-restarts c = restarts
