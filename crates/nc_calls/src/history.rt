@@ -27,7 +27,7 @@ ghost use Rattle.nc_calls.specs.Whole.{AllFetchWhole};
 /// A *view* has at each place one of the bytes that were there since the last serialization, in any mixture, so a thread may
 /// fetch each byte of an instruction at a different moment. None of its steps shows whether it does, or fetches whole
 /// instructions, each possibly late. A *history* (`specs/Histories`) is a list of calls, each of which does what its contract
-/// says. The function does nothing when called.
+/// says. A creation, a patch and a deletion before its stamp may be begun again. The function does nothing when called.
 ///
 /// Its assumptions are in `ThreadsMay`, `IsTurn` and `IsHistory`: a thread enters only at bundle starts and while its seat
 /// hasn't left, and its pass checks in and leaves only while it is outside; the keeper has the world's generation and a bound for
