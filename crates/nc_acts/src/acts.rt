@@ -12,8 +12,7 @@ ghost use Rattle.nc_text.specs.MarkedText.{MarkedText, IsText, with_byte, with_c
 ghost use Rattle.nc_text.specs.MarkedText.{KeepsMarks, AreStops};
 ghost use Rattle.nc_text.specs.Puts.{HasPut, ClosedAfterEach};
 ghost use Rattle.nc_text.specs.Ready.{IsReady, AreReady, GetsReady};
-ghost use Rattle.nc_gens.specs.Rule.{generation_raised};
-ghost use Rattle.nc_gens.specs.Seen.{KeeperState, HasLooked, HasMet, least_number};
+ghost use Rattle.nc_gens.specs.Seen.{HasRaised, KeeperState, HasLooked, HasMet, least_number};
 ghost use Rattle.nc_acts.specs.declared.acts.Act.{Act};
 ghost use Rattle.nc_acts.specs.declared.acts.Entry.{Entry};
 ghost use Rattle.nc_acts.specs.Acts.{puts_where, starts_if, marked_if, is_marked_at};
@@ -270,8 +269,7 @@ pub trait Acts {
     fn bump(&mut self) -> Result<u64, GensFull>
         ensures room { IsOk result ↔ ((keeper self.old).numbers.generation < 2 ^ 62) }
         ensures stamp { IfOk result (λ n. n ≡ (keeper self.old).numbers.generation + 1) }
-        ensures raised { OnOk result (keeper self.new
-            ≡ record (keeper self.old) { numbers = generation_raised (keeper self.old).numbers }) }
+        ensures raised { OnOk result (HasRaised (keeper self.old) (keeper self.new)) }
         ensures logged { OnOk result (Logs (logged self.old) (logged self.new) (Entry.Did Act.Bump ∷ [])) }
         ensures marked { marked self.new ≡ marked self.old }
         ensures made { made self.new ≡ made self.old }

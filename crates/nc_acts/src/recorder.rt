@@ -11,8 +11,7 @@ ghost use Rattle.nc_text.specs.Ready.{IsReady, AreReady, GetsReady};
 ghost use Rattle.nc_text.specs.Places.{InRegion, SpanInRegion};
 ghost use Rattle.nc_acts.specs.declared.acts.Act.{Act};
 ghost use Rattle.nc_acts.specs.declared.acts.Entry.{Entry};
-ghost use Rattle.nc_gens.specs.Rule.{generation_raised};
-ghost use Rattle.nc_gens.specs.Seen.{HasLooked, HasMet, least_number};
+ghost use Rattle.nc_gens.specs.Seen.{HasRaised, HasLooked, HasMet, least_number};
 ghost use Rattle.nc_acts.specs.Log.{Logs};
 
 use crate::acts::{Act, Acts, Entry};
@@ -193,8 +192,7 @@ impl<A: Acts + Drop> Acts for Recorder<A> {
     fn bump(&mut self) -> Result<u64, GensFull>
         ensures room { IsOk result ↔ ((A.keeper self.old.acts).numbers.generation < 2 ^ 62) }
         ensures stamp { IfOk result (λ n. n ≡ (A.keeper self.old.acts).numbers.generation + 1) }
-        ensures raised { OnOk result (A.keeper self.new.acts
-            ≡ record (A.keeper self.old.acts) { numbers = generation_raised (A.keeper self.old.acts).numbers }) }
+        ensures raised { OnOk result (HasRaised (A.keeper self.old.acts) (A.keeper self.new.acts)) }
         ensures logged { OnOk result (Logs self.old.history.entries self.new.history.entries (Entry.Did Act.Bump ∷ [])) }
         ensures handed_on { OnOk result (Logs (A.logged self.old.acts) (A.logged self.new.acts) (Entry.Did Act.Bump ∷ [])) }
         ensures goes_on { OnOk result ((self.new.full ≡ false) ↔ ((self.old.full ≡ false)

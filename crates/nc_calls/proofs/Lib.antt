@@ -20,6 +20,8 @@ pub mod PatchAgain
 pub mod Trying
 pub mod Knowing
 pub mod OneMoreCall
+pub mod WordSteps
+pub mod CallSteps
 pub mod Modified
 pub mod Looking
 pub mod Keeping

@@ -119,4 +119,4 @@ pub meets : (seats : ℕ) (old new : Region) (pass after : PassState) → HasMet
     → new ≡ record old { keeper = new.keeper } → IsCall seats old new (Looks pass.seat ∷ [])
 meets seats old new pass after met others =
     UsesKeeper (ap (λ (r : Region). r.marked) others) (ap (λ (r : Region). r.chunks) others)
-    (All-cons IsKeepers (Looks pass.seat) [] tt (All-nil IsKeepers)) met.in_range
+    (All-cons IsKeepers (Looks pass.seat) [] tt (All-nil IsKeepers)) met.steps_of_keeper met.in_range

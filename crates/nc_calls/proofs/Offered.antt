@@ -13,4 +13,6 @@ pub use Rattle.nc_calls.proofs.Knowing.{knows_as_much, knows_raised}
 pub use Rattle.nc_calls.proofs.StaysWhole.{IsWholeIn, StaysWhole, whole_serialized, whole_append, whole_front}
 pub use Rattle.nc_calls.proofs.Fetching.{fetch_whole_after}
 pub use Rattle.nc_calls.proofs.AllTurns.{Stays, same_region, call_stays, all_stand}
+pub use Rattle.nc_calls.proofs.WordSteps.{KnowsSteps, knows_first, knows_more, looks_or_not, steps_append}
+pub use Rattle.nc_calls.proofs.CallSteps.{call_steps}
 pub use Rattle.nc_calls.proofs.lives.WithoutPatch.{lives}

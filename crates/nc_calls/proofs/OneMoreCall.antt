@@ -222,7 +222,7 @@ deleted limit seats before events old new base stamp stops made h region is stam
     let same = same_spans_retired w.retired old.chunks is.index is.chunk (w.keeper.generation + 1) there.0 there.1 live h.stands.spans in
     let list : new.chunks ≡ set old.chunks is.index (record is.chunk { state = Retired (w.keeper.generation + 1) }) =
     is.chunks ∙ ap (λ (n : ℕ). set old.chunks is.index (record is.chunk { state = Retired n })) stamp_is in
-    let keeper : new.keeper.numbers ≡ generation_raised old.keeper.numbers = ap (λ (x : KeeperState). x.numbers) is.keeper in
+    let keeper : new.keeper.numbers ≡ generation_raised old.keeper.numbers = ap (λ (x : KeeperState). x.numbers) is.keeper.others in
     grown_beside limit seats before events (made ++ delete_events w.marked.marks is.chunk.base is.chunk.length) old new _ h own_is
     (plain_again stops made (delete_events w.marked.marks is.chunk.base is.chunk.length) attempts
     (plain_front stops (Retires is.chunk.base is.chunk.length ∷ []) (subst ArePlain (sym ends) plain)) plain)

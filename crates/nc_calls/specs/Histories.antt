@@ -7,7 +7,8 @@ use Rattle.nc_text.specs.Places.{limit_of}
 use Rattle.nc_text.specs.Headline.{Stands}
 use Rattle.nc_text.specs.MarkedText.{unused_text}
 use Rattle.nc_gens.specs.Rule.{last_generation}
-use Rattle.nc_gens.specs.Seen.{least_number}
+use Rattle.nc_gens.specs.History.{BeginsWith}
+use Rattle.nc_gens.specs.Seen.{KeeperSteps, first_keeper, least_number}
 use Rattle.nc_region.specs.schedules.World.{World, Seat, first_world, IsViewOf}
 use Rattle.nc_region.specs.schedules.Events.{Event, Retires, world_after}
 use Rattle.nc_acts.specs.declared.acts.Entry.{Entry}
@@ -17,8 +18,9 @@ use Rattle.nc_region.specs.declared.fault.DeleteFault.{DeleteFault}
 use Rattle.nc_region.specs.Region.{Region, IsCreated, IsRefused, MayRefuse}
 use Rattle.nc_region.specs.Deletion.{IsDeleted, MayRefuseDelete, IsReclaimed}
 use Rattle.nc_region.specs.Patch.{IsPatch, IsModified, MayRefusePatch, AreBytesOf}
-use Rattle.nc_calls.specs.Interleaving.{writers, IsKeepers, ThreadsMay}
-use Rattle.nc_calls.specs.Calls.{KnowsNoMore, Details, events_of_log, create_events, modify_events, delete_events, reclaim_events}
+use Rattle.nc_calls.specs.Interleaving.{writers, IsKeepers, IsNoLook, ThreadsMay}
+use Rattle.nc_calls.specs.Steps.{word_steps}
+use Rattle.nc_calls.specs.Calls.{Details, events_of_log, create_events, modify_events, delete_events, reclaim_events}
 
 -- A refused creation, patch or deletion, as its contract describes it. It has no event, and its fault is one that the call
 -- may return there. A patch or a deletion leaves an equal region; a creation may have made pages (`IsRefused`).
@@ -29,7 +31,7 @@ pub data IsRefusal (old new : Region) (own : List Event) : Type 0 where
       → IsRefusal old new own
   OfDeletion : (base : ℕ) (fault : DeleteFault) → MayRefuseDelete old base fault → new ≡ old → own ≡ [] → IsRefusal old new own
 
--- Attempts at these events, one after the other. Each is a prefix of them, possibly empty or all of them.
+-- Attempts at these events: prefixes of them, one after the other, each possibly empty or whole.
 pub data AreAttempts (events : List Event) : List Event → Type 0 where
   NoneYet : AreAttempts events []
   OneMore : {earlier : List Event} → AreAttempts events earlier → (part rest : List Event) → part ++ rest ≡ events
@@ -37,9 +39,9 @@ pub data AreAttempts (events : List Event) : List Event → Type 0 where
 
 -- A call of a region, as its contract describes it: the region that it leaves, and its own events. `Creates`, `Patches`,
 -- `Deletes` and `Reclaims` are the accepted calls, with the events of their logs. Those of a creation, a patch or a deletion come after
--- any attempts at them; an attempt at a deletion ends before the stamp. `UsesKeeper` uses the keeper by itself. `Refuses` is a refused
--- call. `Keeps` is any other call without an event that leaves the region as it was, except that pages may have been made. A call that
--- only reads is one.
+-- any attempts at them; an attempt at a deletion ends before the stamp. `UsesKeeper` uses the keeper alone, which takes the steps that
+-- the events are. `Refuses` is a refused call. `Keeps` is any other call without an event that leaves the region as it was, except that
+-- pages may have been made. A call that only reads is one.
 pub data IsCall (seats : ℕ) (old new : Region) (own : List Event) : Type 0 where
   Creates : (v : MarkedChunk) → IsValid v → v.limit ≡ limit_of old.marked.bytes → IsCreated old new v → (attempts : List Event)
       → AreAttempts (create_events v) attempts → own ≡ attempts ++ create_events v → IsCall seats old new own
@@ -51,8 +53,8 @@ pub data IsCall (seats : ℕ) (old new : Region) (own : List Event) : Type 0 whe
       → own ≡ attempts ++ delete_events old.marked.marks base is.chunk.length → IsCall seats old new own
   Reclaims : (count : ℕ) → IsReclaimed old new count
       → own ≡ reclaim_events seats (least_number new.keeper.numbers) old.chunks → IsCall seats old new own
-  UsesKeeper : new.marked ≡ old.marked → new.chunks ≡ old.chunks → All IsKeepers own → new.keeper.numbers.generation ≤ last_generation
-      → IsCall seats old new own
+  UsesKeeper : new.marked ≡ old.marked → new.chunks ≡ old.chunks → All IsKeepers own → KeeperSteps old.keeper new.keeper (word_steps own)
+      → new.keeper.numbers.generation ≤ last_generation → IsCall seats old new own
   Refuses : IsRefusal old new own → IsCall seats old new own
   Keeps : new ≡ record old { made = new.made } → own ≡ [] → IsCall seats old new own
 
@@ -71,14 +73,14 @@ pub record Turn : Type 0 where
   pub events : List Event
   pub region : Region
 
--- After the events `before`, the writer's events of the turn are those of one call, and threads do only what they may. The
--- region's keeper then knows no more than the world's (`KnowsNoMore`): it has found no seat's word to be greater than the
--- world did by its last `Looks` at that seat. That event may stand where the load happened, or later before a span is freed.
--- Words never decrease, so a load that returned an old value is covered too.
+-- After the events `before`, the writer's events of the turn are those of one call, and threads do only what they may. It is assumed
+-- that when the call makes its last look, the steps on the table's words so far begin with the history that the keeper has at its end.
+-- So no stamp is drawn after a look of the same call.
 pub record IsTurn (limit seats : ℕ) (before : List Event) (old : Region) (turn : Turn) : Type 0 where
   pub call : IsCall seats old turn.region (writers turn.events)
   pub threads : ThreadsMay (world_after (first_world limit seats) before) turn.events
-  pub keeper : KnowsNoMore turn.region.keeper.numbers (world_after (first_world limit seats) (before ++ turn.events)).keeper
+  pub order : (made later : List Event) → turn.events ≡ made ++ later → ¬ All IsNoLook (writers made) → All IsNoLook (writers later)
+      → BeginsWith (word_steps (before ++ made)) turn.region.keeper.history
 
 -- the turns are calls one after the other, from a region that the events `before` have led to
 abbrev pub AreTurns : ℕ → ℕ → List Event → Region → List Turn → Type 0
@@ -86,13 +88,14 @@ AreTurns limit seats before r [] = ⊤
 AreTurns limit seats before r (turn ∷ rest) =
     IsTurn limit seats before r turn × AreTurns limit seats (before ++ turn.events) turn.region rest
 
--- a history of a region: events of its keeper, which may have been used before, and of threads; then the new region over
--- that keeper, with a lawful limit; then the region's calls
+-- A history of a region: events of its keeper, which may have been used since it was new, and of threads; then the new region
+-- over that keeper, with a lawful limit; then the region's calls.
 pub record IsHistory (limit seats : ℕ) (first : List Event) (r : Region) (turns : List Turn) : Type 0 where
   pub lawful : IsLawfulLimit limit
   pub keepers : All IsKeepers (writers first)
   pub threads : ThreadsMay (first_world limit seats) first
-  pub keeper : KnowsNoMore r.keeper.numbers (world_after (first_world limit seats) first).keeper
+  pub keeper : KeeperSteps (first_keeper r.keeper.table seats) r.keeper (word_steps (writers first))
+  pub order : ¬ All IsNoLook (writers first) → BeginsWith (word_steps first) r.keeper.history
   pub in_range : r.keeper.numbers.generation ≤ last_generation
   pub marked : r.marked ≡ unused_text limit
   pub chunks : r.chunks ≡ []

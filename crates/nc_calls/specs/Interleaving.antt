@@ -25,6 +25,11 @@ IsKeepers Bumps = ⊤
 IsKeepers (Looks k) = ⊤
 IsKeepers event = ⊥
 
+-- the event isn't a look at a seat's word
+abbrev pub IsNoLook : Event → Type 0
+IsNoLook (Looks k) = ⊥
+IsNoLook event = ⊤
+
 -- Each event of a thread is one that `ThreadMay` of nc_region allows where it happens. Nothing is required of the writer's
 -- events.
 abbrev pub ThreadsMay : World → List Event → Type 0

@@ -1,4 +1,5 @@
 pub mod Interleaving
+pub mod Steps
 pub mod Views
 pub mod Calls
 pub mod Histories

@@ -3,8 +3,7 @@
 ghost use Rattle.std.specs.Prelude.{◌≡◌, ℕ, List, [], ◌∷◌};
 ghost use Rattle.nc_vet.specs.Chunk.{MarkedChunk, IsValid};
 ghost use Rattle.nc_text.specs.Machine.{State, Joined};
-ghost use Rattle.nc_gens.specs.Rule.{first_keeper_numbers};
-ghost use Rattle.nc_gens.specs.Seen.{KeeperState};
+ghost use Rattle.nc_gens.specs.Seen.{KeeperState, first_keeper};
 ghost use Rattle.nc_region.specs.Region.{Region, IsCreated};
 ghost use Rattle.nc_region.specs.Patch.{IsPatch};
 ghost use Rattle.nc_calls.specs.Histories.{Turn};
@@ -21,11 +20,11 @@ ghost use Rattle.nc_calls.specs.Example.{first_region, start_of, PatchesAt, IsLi
 /// So the premise `IsHistory` of `law_of_histories` can be met by accepted calls of each kind. The function does nothing when
 /// called.
 pub fn law_of_example()
-    ensures lives { (v : MarkedChunk) (keeper : KeeperState) → IsValid v → keeper.numbers ≡ first_keeper_numbers 1
+    ensures lives { (v : MarkedChunk) (keeper : KeeperState) → IsValid v → keeper ≡ first_keeper keeper.table 1
         → (creation : Turn) × ((path : List State) → Joined creation.region.marked.bytes (start_of v) path
         → IsLife v keeper creation [] path) }
     ensures patched { (v : MarkedChunk) (keeper : KeeperState) (created : Region) (at : ℕ) (bytes : List ℕ) → IsValid v
-        → keeper.numbers ≡ first_keeper_numbers 1 → IsCreated (first_region v.limit keeper) created v → IsPatch created at bytes
+        → keeper ≡ first_keeper keeper.table 1 → IsCreated (first_region v.limit keeper) created v → IsPatch created at bytes
         → (creation patch : Turn) × (creation.region ≡ created) × PatchesAt created at bytes patch
         × ((path : List State) → Joined patch.region.marked.bytes (start_of v) path → IsLife v keeper creation (patch ∷ []) path) }
 {}

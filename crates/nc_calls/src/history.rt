@@ -30,9 +30,10 @@ ghost use Rattle.nc_calls.specs.Whole.{AllFetchWhole};
 /// says. A creation, a patch and a deletion before its stamp may be begun again. The function does nothing when called.
 ///
 /// Its assumptions are in `ThreadsMay`, `IsTurn` and `IsHistory`: a thread enters only at bundle starts and while its seat
-/// hasn't left, and its pass checks in and leaves only while it is outside; the keeper has the world's generation and a bound for
-/// each of its seats, and finds no word to be greater than it is; and puts and serializations reach execution in the order in which the
-/// calls make them.
+/// hasn't left, and its pass checks in and leaves only while it is outside; the events stand in the order in which the atomic steps on
+/// the words of the table of check-ins were taken; and puts and serializations reach execution in the order in which the calls make
+/// them. What each check-in, stamp, look and meeting finds in these words is proved (`HasCheckedIn`, `HasRaised`, `HasLooked`, `HasMet` of
+/// `nc_gens`).
 pub fn law_of_histories()
     ensures stand { (limit seats : ℕ) (first events later : List Event) (r : Region) (turns : List Turn)
         → IsHistory limit seats first r turns → happened first turns ≡ events ++ later

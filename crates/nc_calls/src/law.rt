@@ -25,9 +25,9 @@ ghost use Rattle.nc_calls.specs.Calls.{KnowsNoMore, HasLedTo, create_events, mod
 ///
 /// Between two calls, and before the region was made, the keeper may act by itself: it draws a stamp for no span, it looks,
 /// or it meets a pass, which is a look at that pass's seat (`Looks`). Wherever the keeper looks, it is a premise that it then
-/// knows no more than the world's keeper (`KnowsNoMore`). It has the same generation, and found no seat's word to be greater
-/// than it is at the world's last `Looks`. No contract says what a load returns. The generation is at most 2^62 for every
-/// keeper (`Keeper::generation`).
+/// knows no more than the world's keeper (`KnowsNoMore`): it has the same generation, and found no seat's word to be greater
+/// than it is at the world's last `Looks`. [`law_of_histories`](crate::law_of_histories) has no such premise, since the keeper's
+/// contracts say what its loads find. The generation is at most 2^62 for every keeper (`Keeper::generation`).
 ///
 /// Therefore `law_of_schedules` covers the events of any sequence of calls. The function does nothing when called.
 pub fn law_of_calls()

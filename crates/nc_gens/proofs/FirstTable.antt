@@ -22,7 +22,7 @@ zeros : (n k : ℕ) → let z : ℕ = 0 in get_or (replicate n z) k z ≡ z
 zeros n k = all_same n k 0
 
 -- a list of one view has no other
-alone : (P : ℕ → View → Type 0) (a : View) → P 0 a → (j : ℕ) (v : View) → get_elem? (a ∷ []) j ≡ some v → P j v
+pub alone : (P : ℕ → View → Type 0) (a : View) → P 0 a → (j : ℕ) (v : View) → get_elem? (a ∷ []) j ≡ some v → P j v
 alone P a p zero v e = subst (P 0) (some-injective a v e) p
 alone P a p (suc j) v e = absurd (some-ne-none v (sym e))
 

@@ -4,3 +4,6 @@ pub mod HandingOver
 pub mod LeastNumber
 pub mod StepsKeep
 pub mod ChangedViews
+pub mod Histories
+pub mod Recording
+pub mod HandingHistory

@@ -1,22 +1,22 @@
--- Each kind of step keeps the rule of the words.
-use Rattle.std.proofs.Common.{◌≡◌, ◌≢◌, ℕ, ◌+◌, ◌-◌, ◌%◌, ◌^◌, ◌<◌, ◌≤◌, true, false, List, length, get_or, set, sym, refl, ap, ◌∙◌}
-use Rattle.std.proofs.Common.{subst, ⊎_elim, arith, le_refl, le_trans, length-set, get_or-set_other, get_or-set_same}
+-- Each kind of step keeps the words ruled, whatever history the token recalls then.
+use Rattle.std.proofs.Common.{◌≡◌, ◌≢◌, ℕ, ◌+◌, ◌%◌, ◌^◌, ◌<◌, ◌≤◌, true, false, List, length, get_or, set, sym, ap, ◌∙◌}
+use Rattle.std.proofs.Common.{subst, ⊎_elim, arith, le_trans, length-set, get_or-set_other, get_or-set_same}
 use mathlib.Core.Logic.{dite}
-use mathlib.Core.Option.{none, some}
+use mathlib.Core.Option.{some}
 use native.Mathlib.Decide.{ℕ_discrete}
 use lib.ListN.{get_elem?}
 use lib.Seq.{set-get_or}
-use Rattle.atomic_table.specs.Table.{State, step, keeps, stepped, Allows}
+use Rattle.atomic_table.specs.Table.{State, keeps, stepped}
 use Rattle.nc_gens.specs.declared.view.PassNumbers.{PassNumbers}
 use Rattle.nc_gens.specs.declared.view.View.{View}
-use Rattle.nc_gens.specs.Rule.{left_word, last_generation, generation_taken, generation_seen, since_stored, left_stored}
+use Rattle.nc_gens.specs.declared.view.WordStep.{WordStep}
+use Rattle.nc_gens.specs.Rule.{left_word, last_generation}
 use Rattle.nc_gens.specs.Rule.{generation_raised, word_taken, FitsPass, FitsView, HasKeeper, HasSeat, Ruled}
-use Rattle.nc_gens.specs.machinery.Steps.{Known, TakesGeneration}
-use Rattle.nc_gens.specs.machinery.Steps.{SeesGeneration, StoresSince, StoresLeft, AddsOne, TakesWord}
+use Rattle.nc_gens.specs.machinery.Steps.{Known}
 use Rattle.nc_gens.proofs.ChangedViews.{views_stay, still_there}
 
 -- the table as the rule sees it
-abbrev Words : Type 0
+abbrev pub Words : Type 0
 Words = State (Unit {0}) View
 
 -- a load changes the view alone
@@ -47,13 +47,13 @@ pass_fits old new owner at seat p long same rises f =
     }
 
 -- A pass loads the generation and sees it. The rule stays if its word does, and its `since` doesn't fall and is at most the generation.
-sees : (s : Words) (r : Ruled s) (id : ℕ) (me : Known) (p : PassNumbers) → get_elem? s.views id ≡ some me.0 → me.0.is_pass ≡ true
-    → p.word ≡ me.0.pass.word → me.0.pass.since ≤ p.since → p.since ≤ p.seen → p.seen ≡ get_or s.words 0 0
-    → Ruled (stepped s 0 (get_or s.words 0 0) id me.1 (record me.0 { pass = p }) keeps)
-sees s r id me p at is same rises saw seen =
+pub sees : (s : Words) (r : Ruled s) (id : ℕ) (me : Known) (p : PassNumbers) (known : List WordStep) → get_elem? s.views id ≡ some me.0
+    → me.0.is_pass ≡ true → p.word ≡ me.0.pass.word → me.0.pass.since ≤ p.since → p.since ≤ p.seen → p.seen ≡ get_or s.words 0 0
+    → Ruled (stepped s 0 (get_or s.words 0 0) id me.1 (record me.0 { pass = p; pass_history = known }) keeps)
+sees s r id me p known at is same rises saw seen =
     let f = r.each_view id me.0 at in
     let old = f.pass is in
-    loaded s r 0 id me (record me.0 { pass = p }) at (λ h. h) (λ k h. h) record {
+    loaded s r 0 id me (record me.0 { pass = p; pass_history = known }) at (λ h. h) (λ k h. h) record {
       pass = λ _. record {
         inside = old.inside;
         owns = old.owns;
@@ -65,41 +65,15 @@ sees s r id me p at is same rises saw seen =
       keeper = f.keeper;
     }
 
--- a pass loads the generation, and takes it
-pub takes_generation : (slots id : ℕ) (me : Known) → me.0.is_pass ≡ true
-    → Allows Ruled slots id me 0 (λ n. n) (TakesGeneration (step slots 0 0 0 none) me)
-takes_generation slots id me is s r _ at _ =
-    let n : ℕ = get_or s.words 0 0 in
-    let p = (r.each_view id me.0 at).pass is in (
-      record me.0 { pass = generation_taken n me.0.pass },
-      keeps,
-      tt,
-      sees s r id me (generation_taken n me.0.pass) at is refl (le_trans p.saw p.current) (le_refl n) refl,
-      record { after = refl; by_pass = is; word = refl; rises = p.current; in_range = r.in_range },
-    )
-
--- a pass loads the generation, and its `since` stays
-pub sees_generation : (slots id : ℕ) (me : Known) → me.0.is_pass ≡ true
-    → Allows Ruled slots id me 0 (λ n. n) (SeesGeneration (step slots 0 0 0 none) me)
-sees_generation slots id me is s r _ at _ =
-    let f = r.each_view id me.0 at in
-    let p = f.pass is in (
-      record me.0 { pass = generation_seen (get_or s.words 0 0) me.0.pass },
-      keeps,
-      tt,
-      sees s r id me (generation_seen (get_or s.words 0 0) me.0.pass) at is refl (le_refl me.0.pass.since) (le_trans p.saw p.current) refl,
-      record { after = refl; by_pass = is; word = refl; rises = p.current; in_range = r.in_range; met = λ k. (f.keeper k).generation_is },
-    )
-
 -- a pass stores x in its own word
-stores : (s : Words) (r : Ruled s) (id i x : ℕ) (me : Known) → get_elem? s.views id ≡ some me.0 → me.0.is_pass ≡ true
-    → me.0.is_keeper ≡ false → me.0.seat + 1 ≡ i
+pub stores : (s : Words) (r : Ruled s) (id i x : ℕ) (me : Known) (known : List WordStep) → get_elem? s.views id ≡ some me.0
+    → me.0.is_pass ≡ true → me.0.is_keeper ≡ false → me.0.seat + 1 ≡ i
     → me.0.pass.word ≤ x → (x ≢ left_word → x ≤ me.0.pass.since) → me.0.pass.word ≢ left_word
-    → Ruled (stepped s i x id me.1 (record me.0 { pass = record me.0.pass { word = x } }) keeps)
-stores s r id i x me at is apart here above below unheld =
+    → Ruled (stepped s i x id me.1 (record me.0 { pass = record me.0.pass { word = x }; pass_history = known }) keeps)
+stores s r id i x me known at is apart here above below unheld =
     let f = r.each_view id me.0 at in
     let p = f.pass is in
-    let w : View = record me.0 { pass = record me.0.pass { word = x } } in
+    let w : View = record me.0 { pass = record me.0.pass { word = x }; pass_history = known } in
     let ws : List ℕ = set s.words i x in
     let inside : i < length s.words = let h = p.inside in omega arith in
     let first : get_or ws 0 0 ≡ get_or s.words 0 0 = get_or-set_other s.words i 0 x 0 (λ e. omega arith) in
@@ -146,80 +120,50 @@ stores s r id i x me at is apart here above below unheld =
           });
     }
 
--- a pass stores its `since`
-pub stores_since : (slots id i x : ℕ) (me : Known) → me.0.is_pass ≡ true → me.0.is_keeper ≡ false → me.0.seat + 1 ≡ i
-    → x ≡ me.0.pass.since → me.0.pass.word ≤ x → x ≤ last_generation
-    → Allows Ruled slots id me i (λ _. x) (λ _. StoresSince (step slots i x 0 none) me x)
-stores_since slots id i x me is apart here same above small s r _ at _ = (
-  record me.0 { pass = since_stored me.0.pass },
-  keeps,
-  tt,
-  subst (λ (y : ℕ). Ruled (stepped s i x id me.1 (record me.0 { pass = record me.0.pass { word = y } }) keeps)) same
-      (stores s r id i x me at is apart here above (λ _. omega arith) (λ e. omega arith)),
-  record { after = refl; by_pass = is; word = sym here; stored = same },
-)
-
--- a pass stores "left"
-pub stores_left : (slots id i x : ℕ) (me : Known) → me.0.is_pass ≡ true → me.0.is_keeper ≡ false → me.0.seat + 1 ≡ i → x ≡ left_word
-    → me.0.pass.word ≤ last_generation
-    → Allows Ruled slots id me i (λ _. x) (λ _. StoresLeft (step slots i x 0 none) me x)
-stores_left slots id i x me is apart here same small s r _ at _ = (
-  record me.0 { pass = left_stored me.0.pass },
-  keeps,
-  tt,
-  subst (λ (y : ℕ). Ruled (stepped s i x id me.1 (record me.0 { pass = record me.0.pass { word = y } }) keeps)) same
-      (stores s r id i x me at is apart here (omega arith) (λ ne. absurd (ne same)) (λ e. omega arith)),
-  record { after = refl; by_pass = is; word = sym here; stored = same },
-)
-
 -- the keeper adds one to the generation
-pub adds_one : (slots id : ℕ) (me : Known) → me.0.is_keeper ≡ true → me.0.keeper.generation < last_generation
-    → Allows Ruled slots id me 0 (λ n. (n + 1) % 2 ^ 64) (AddsOne (step slots 0 1 0 none) me)
-adds_one slots id me is room s r _ at _ =
+pub raises : (s : Words) (r : Ruled s) (id : ℕ) (me : Known) (known : List WordStep) → get_elem? s.views id ≡ some me.0
+    → me.0.is_keeper ≡ true → me.0.keeper.generation < last_generation
+    → Ruled (stepped s 0 ((get_or s.words 0 0 + 1) % 2 ^ 64) id me.1
+    (record me.0 { keeper = generation_raised me.0.keeper; keeper_history = known }) keeps)
+raises s r id me known at is room =
     let n : ℕ = get_or s.words 0 0 in
     let f = r.each_view id me.0 at in
     let q = f.keeper is in
     let now : n ≡ me.0.keeper.generation = q.generation_is in
     let x : ℕ = (n + 1) % 2 ^ 64 in
     let up : x ≡ n + 1 = omega arith in
-    let w : View = record me.0 { keeper = generation_raised me.0.keeper } in
+    let w : View = record me.0 { keeper = generation_raised me.0.keeper; keeper_history = known } in
     let ws : List ℕ = set s.words 0 x in
     let inside : 0 < length s.words = let h = q.wide in omega arith in
     let first : get_or ws 0 0 ≡ n + 1 = get_or-set_same s.words 0 x 0 inside ∙ up in
     let long : length ws ≡ length s.words = length-set s.words 0 x in
     let else : (k : ℕ) → get_or ws (k + 1) 0 ≡ get_or s.words (k + 1) 0 = λ k. get_or-set_other s.words 0 (k + 1) x 0 (λ e. omega arith) in
     let pass : (j i : ℕ) (p : PassNumbers) → FitsPass s.words r.owner j i p → FitsPass ws r.owner j i p =
-    λ j i p. pass_fits s.words ws r.owner j i p long (else i) (omega arith) in (
-      w,
-      keeps,
-      tt,
-      record {
-        owner = r.owner;
-        in_range = omega arith;
-        has_keeper = still_there HasKeeper s.views id me.0 w at (λ h. h) (r.owner 0) r.has_keeper;
-        has_seat = λ k l. still_there (HasSeat k) s.views id me.0 w at (λ h. h) (r.owner (k + 1)) (r.has_seat k (omega arith));
-        each_view = views_stay (FitsView ws r.owner) s.views id w
-            record {
-              pass = λ h. pass id me.0.seat me.0.pass (f.pass h);
-              keeper = λ _. record {
-                owns = q.owns;
-                generation_is = first ∙ ap (λ (z : ℕ). z + 1) now;
-                wide = long ∙ q.wide;
-                below = λ k l. let b = q.below k l in let v = else k in omega arith;
-                held_for_left = λ k l e. else k ∙ q.held_for_left k l e;
-                not_given = λ k l m. let b = q.not_given k l m in (b.0, else k ∙ b.1);
-              };
-            }
-            (λ j v other there. let g = r.each_view j v there in record {
-              pass = λ h. pass j v.seat v.pass (g.pass h);
-              keeper = λ h. absurd (other (sym (g.keeper h).owns ∙ q.owns));
-            });
-      },
-      record { after = refl; by_keeper = is; word = refl; added = refl; found = now },
-    )
+    λ j i p. pass_fits s.words ws r.owner j i p long (else i) (omega arith) in record {
+      owner = r.owner;
+      in_range = omega arith;
+      has_keeper = still_there HasKeeper s.views id me.0 w at (λ h. h) (r.owner 0) r.has_keeper;
+      has_seat = λ k l. still_there (HasSeat k) s.views id me.0 w at (λ h. h) (r.owner (k + 1)) (r.has_seat k (omega arith));
+      each_view = views_stay (FitsView ws r.owner) s.views id w
+          record {
+            pass = λ h. pass id me.0.seat me.0.pass (f.pass h);
+            keeper = λ _. record {
+              owns = q.owns;
+              generation_is = first ∙ ap (λ (z : ℕ). z + 1) now;
+              wide = long ∙ q.wide;
+              below = λ k l. let b = q.below k l in let v = else k in omega arith;
+              held_for_left = λ k l e. else k ∙ q.held_for_left k l e;
+              not_given = λ k l m. let b = q.not_given k l m in (b.0, else k ∙ b.1);
+            };
+          }
+          (λ j v other there. let g = r.each_view j v there in record {
+            pass = λ h. pass j v.seat v.pass (g.pass h);
+            keeper = λ h. absurd (other (sym (g.keeper h).owns ∙ q.owns));
+          });
+    }
 
 -- the word of a seat that hasn't left is at most the generation
-word_in_range : (s : Words) (r : Ruled s) (i : ℕ) → i + 1 < length s.words → get_or s.words (i + 1) 0 ≢ left_word
+pub word_in_range : (s : Words) (r : Ruled s) (i : ℕ) → i + 1 < length s.words → get_or s.words (i + 1) 0 ≢ left_word
     → get_or s.words (i + 1) 0 ≤ get_or s.words 0 0
 word_in_range s r i inside ne =
     let has = r.has_seat i inside in
@@ -232,42 +176,31 @@ word_in_range s r i inside ne =
     (q.not_given i t.1 (let w = q.wide in omega arith)).1 in omega arith) has.2
 
 -- the keeper loads the word of the seat i
-pub takes_word : (slots id i : ℕ) (me : Known) → me.0.is_keeper ≡ true → i < length me.0.keeper.bounds
-    → Allows Ruled slots id me (i + 1) (λ n. n) (TakesWord (step slots (i + 1) 0 0 none) me)
-takes_word slots id i me is room s r _ at _ =
+pub looks : (s : Words) (r : Ruled s) (id i : ℕ) (me : Known) (known : List WordStep) → get_elem? s.views id ≡ some me.0
+    → me.0.is_keeper ≡ true → i < length me.0.keeper.bounds
+    → Ruled (stepped s (i + 1) (get_or s.words (i + 1) 0) id me.1
+    (record me.0 { keeper = word_taken i (get_or s.words (i + 1) 0) me.0.keeper; keeper_history = known }) keeps)
+looks s r id i me known at is room =
     let n : ℕ = get_or s.words (i + 1) 0 in
     let f = r.each_view id me.0 at in
     let q = f.keeper is in
-    let back : (i + 1) - 1 ≡ i = omega arith in
     let bs : List ℕ = set me.0.keeper.bounds i n in
-    let w : View = record me.0 { keeper = word_taken i n me.0.keeper } in
-    let long : length bs ≡ length me.0.keeper.bounds = length-set me.0.keeper.bounds i n in (
-      w,
-      keeps,
-      tt,
-      loaded s r (i + 1) id me w at (λ h. h) (λ k h. h) record {
-        pass = f.pass;
-        keeper = λ _. record {
-          owns = q.owns;
-          generation_is = q.generation_is;
-          wide = q.wide ∙ ap (λ (z : ℕ). z + 1) (sym long);
-          below = λ k l. dite (ℕ_discrete k i)
-              (λ e. let a : get_or bs k 0 ≡ n = ap (λ (z : ℕ). get_or bs z 0) e ∙ get_or-set_same me.0.keeper.bounds i n 0 room in
-              let b : get_or s.words (k + 1) 0 ≡ n = ap (λ (z : ℕ). get_or s.words (z + 1) 0) e in omega arith)
-              (λ ne. let a = get_or-set_other me.0.keeper.bounds i k n 0 ne in let b = q.below k (omega arith) in omega arith);
-          held_for_left = λ k l h. dite (ℕ_discrete k i)
-              (λ e. let a : get_or bs k 0 ≡ n = ap (λ (z : ℕ). get_or bs z 0) e ∙ get_or-set_same me.0.keeper.bounds i n 0 room in
-              let b : get_or s.words (k + 1) 0 ≡ n = ap (λ (z : ℕ). get_or s.words (z + 1) 0) e in b ∙ (sym a ∙ h))
-              (λ ne. let a = get_or-set_other me.0.keeper.bounds i k n 0 ne in q.held_for_left k (omega arith) (sym a ∙ h));
-          not_given = λ k l m. q.not_given k l (omega arith);
-        };
-      },
-      record {
-        after = λ j. (record me.0 { keeper = word_taken (sym back j) n me.0.keeper }, me.1);
-        by_keeper = is;
-        word = omega arith;
-        rises = subst (λ (z : ℕ). get_or me.0.keeper.bounds z 0 ≤ n) (sym back) (q.below i room);
-        in_range = λ ne. let b = word_in_range s r i (let h = q.wide in omega arith) ne in let g = q.generation_is in omega arith;
-        met = λ h e. sym (ap (λ (z : ℕ). get_or s.words z 0) e) ∙ (f.pass h).own_word;
-      },
-    )
+    let w : View = record me.0 { keeper = word_taken i n me.0.keeper; keeper_history = known } in
+    let long : length bs ≡ length me.0.keeper.bounds = length-set me.0.keeper.bounds i n in
+    loaded s r (i + 1) id me w at (λ h. h) (λ k h. h) record {
+      pass = f.pass;
+      keeper = λ _. record {
+        owns = q.owns;
+        generation_is = q.generation_is;
+        wide = q.wide ∙ ap (λ (z : ℕ). z + 1) (sym long);
+        below = λ k l. dite (ℕ_discrete k i)
+            (λ e. let a : get_or bs k 0 ≡ n = ap (λ (z : ℕ). get_or bs z 0) e ∙ get_or-set_same me.0.keeper.bounds i n 0 room in
+            let b : get_or s.words (k + 1) 0 ≡ n = ap (λ (z : ℕ). get_or s.words (z + 1) 0) e in omega arith)
+            (λ ne. let a = get_or-set_other me.0.keeper.bounds i k n 0 ne in let b = q.below k (omega arith) in omega arith);
+        held_for_left = λ k l h. dite (ℕ_discrete k i)
+            (λ e. let a : get_or bs k 0 ≡ n = ap (λ (z : ℕ). get_or bs z 0) e ∙ get_or-set_same me.0.keeper.bounds i n 0 room in
+            let b : get_or s.words (k + 1) 0 ≡ n = ap (λ (z : ℕ). get_or s.words (z + 1) 0) e in b ∙ (sym a ∙ h))
+            (λ ne. let a = get_or-set_other me.0.keeper.bounds i k n 0 ne in q.held_for_left k (omega arith) (sym a ∙ h));
+        not_given = λ k l m. q.not_given k l (omega arith);
+      };
+    }

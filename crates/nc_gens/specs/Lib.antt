@@ -1,3 +1,5 @@
 pub mod machinery
 pub mod Rule
+pub mod History
+pub mod Record
 pub mod Seen

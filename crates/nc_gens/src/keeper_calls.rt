@@ -1,7 +1,8 @@
 //! The calls of the keeper, which draws stamps and looks at the words of the seats.
-ghost use Rattle.std.specs.Prelude.{◌≡◌, ◌≢◌, ◌+◌, ◌^◌, ◌<◌, ◌≤◌, ◌↔◌, All, length, slice_index, IfOk, IsOk, OnOk, OnErr};
-ghost use Rattle.nc_gens.specs.Rule.{left_word, generation_raised, word_taken};
-ghost use Rattle.nc_gens.specs.Seen.{HasLooked, least_number, least_or, staying};
+ghost use Rattle.std.specs.Prelude.{◌≡◌, ◌≢◌, ◌+◌, ◌^◌, ◌<◌, ◌≤◌, ◌↔◌, [], ◌∷◌, All, length, slice_index, IfOk, IsOk, OnOk, OnErr};
+ghost use Rattle.nc_gens.specs.declared.view.WordStep.{WordStep};
+ghost use Rattle.nc_gens.specs.Rule.{left_word, word_taken};
+ghost use Rattle.nc_gens.specs.Seen.{HasLooked, HasRaised, IsLedTo, KeeperSteps, least_number, least_or, staying};
 
 use crate::fault::GensFull;
 use crate::steps::{AddOne, TakeWord};
@@ -21,7 +22,7 @@ impl Gens {
         requires { keeper.old.table ≡ self.now }
         ensures room { IsOk result ↔ (keeper.old.numbers.generation < 2 ^ 62) }
         ensures stamp { IfOk result (λ n. n ≡ keeper.old.numbers.generation + 1) }
-        ensures raised { OnOk result (keeper.new ≡ record keeper.old { numbers = generation_raised keeper.old.numbers }) }
+        ensures raised { OnOk result (HasRaised keeper.old keeper.new) }
         ensures full { OnErr result ((keeper.old.numbers.generation ≡ 2 ^ 62) × (keeper.new ≡ keeper.old)) }
     {
         if keeper.generation >= LAST_GENERATION {
@@ -46,7 +47,8 @@ impl Gens {
     /// after the other, and never decrease.
     pub fn look(&self, keeper: &mut Keeper) -> u64
         requires { keeper.old.table ≡ self.now }
-        // Each seat's word is loaded once, no bound decreases, and the generation is unchanged.
+        // Each seat's word is loaded once, no bound decreases, and the generation is unchanged. Each bound is what the keeper's history
+        // has left in the word.
         ensures looked { HasLooked keeper.old keeper.new }
         ensures seats { self.now.words ≡ length keeper.new.numbers.bounds + 1 }
 
@@ -65,8 +67,11 @@ impl Gens {
         requires inside { seat < length keeper.old.numbers.bounds }
         ensures taken { keeper.new ≡ record keeper.old {
           numbers = word_taken seat (slice_index keeper.new.numbers.bounds seat) keeper.old.numbers;
+          history = keeper.new.history;
         } }
         ensures raised { slice_index keeper.old.numbers.bounds seat ≤ slice_index keeper.new.numbers.bounds seat }
+        ensures stepped { KeeperSteps keeper.old keeper.new (WordStep.TookWord seat ∷ []) }
+        ensures led_to { IsLedTo keeper.new }
     {
         let found = self
             .words

@@ -7,6 +7,10 @@
 //! writer holds the [`Keeper`], draws stamps by `bump`, and learns by `look` up to which
 //! generation every seat has checked in or left.
 //!
+//! The rule of the table says that there is a history of the atomic steps on its words (`WordStep`), which leads to the numbers that
+//! every token knows. Each pass and the keeper recall the part up to their own last step. The contract of each call but `leave` says
+//! which steps it added, and its loads find what the steps before them have left.
+//!
 //! Native Client deletes dynamic code in this way (Ansel et al. 2011, "Language-independent
 //! sandboxing of just-in-time compilation and self-modifying code"); the technique is
 //! quiescent-state-based reclamation. A pass stores only to its own seat's word, and only the
@@ -27,4 +31,4 @@ pub use fault::{GensFault, GensFull};
 pub use keeper_calls::LAST_GENERATION;
 pub use opening::MOST_SEATS;
 pub use table::{Gens, Keeper, Pass};
-pub use view::{KeeperNumbers, PassNumbers};
+pub use view::{KeeperNumbers, PassNumbers, WordStep};

@@ -1,6 +1,8 @@
 //! The calls of a pass, which checks in and leaves.
-ghost use Rattle.std.specs.Prelude.{◌≡◌};
+ghost use Rattle.std.specs.Prelude.{◌≡◌, [], ◌∷◌};
+ghost use Rattle.nc_gens.specs.declared.view.WordStep.{WordStep};
 ghost use Rattle.nc_gens.specs.Rule.{left_stored};
+ghost use Rattle.nc_gens.specs.History.{Adds, is_by_pass};
 ghost use Rattle.nc_gens.specs.Seen.{HasCheckedIn};
 
 use crate::steps::{StoreLeft, StoreSince, TakeGeneration};
@@ -34,8 +36,8 @@ impl Gens {
     /// It must be called once the seat's thread is outside the code region for good. It allocates
     /// nothing, takes no lock, never waits, and is never refused.
     ///
-    /// Not promised: that a concurrent look of the keeper sees it. No contract can express the
-    /// word's value afterwards, since the pass is consumed.
+    /// Not promised: that a concurrent look of the keeper sees it. No clause of this call says what
+    /// was stored, since the pass is consumed.
     pub fn leave(&self, pass: Pass)
         requires { pass.table ≡ self.now }
     {
@@ -45,7 +47,8 @@ impl Gens {
     // The token is returned only so that the contract can say what was stored.
     fn store_left(&self, pass: Pass) -> Token
         requires { pass.table ≡ self.now }
-        ensures { result.me.0.pass ≡ left_stored pass.numbers }
+        ensures stored { result.me.0.pass ≡ left_stored pass.numbers }
+        ensures history { Adds (is_by_pass pass.seat) pass.history result.me.0.pass_history (WordStep.StoredLeft pass.seat ∷ []) }
     {
         let Pass {
             seat,

@@ -27,15 +27,37 @@ pub struct KeeperNumbers {
     pub looks: [u64; 0],
 }
 
+/// One atomic step on the words, by the pass of a seat or by the keeper. No value of it is made.
+pub enum WordStep {
+    /// The pass of this seat loaded the generation, and took it as its `since`.
+    TookGeneration(usize),
+    /// The pass of this seat loaded the generation, and its `since` is unchanged.
+    SawGeneration(usize),
+    /// The pass of this seat stored its `since` in its own word.
+    StoredSince(usize),
+    /// The pass of this seat stored "left" in its own word.
+    StoredLeft(usize),
+    /// The keeper added one to the generation.
+    AddedOne,
+    /// The keeper loaded the word of this seat.
+    TookWord(usize),
+}
+
 /// What a token knows about the words: a pass's part, the keeper's, both while they meet, or neither.
 /// No value of it is made.
 pub(crate) struct View {
+    /// The number of seats of the table.
+    pub seats: usize,
     pub is_pass: bool,
     /// The seat of the pass.
     pub seat: usize,
     pub pass: PassNumbers,
+    /// The steps on the words up to the last one of the pass.
+    pub pass_history: [WordStep; 0],
     pub is_keeper: bool,
     pub keeper: KeeperNumbers,
+    /// The steps on the words up to the last one of the keeper.
+    pub keeper_history: [WordStep; 0],
     /// The keeper has given out the passes of the seats below this one.
     pub given: usize,
 }
@@ -44,10 +66,10 @@ pub(crate) struct View {
 pub(crate) struct WordRule;
 
 impl TableRule<(), View, usize> for WordRule {
-    ghost use Rattle.nc_gens.specs.Rule.{Ruled};
+    ghost use Rattle.nc_gens.specs.Record.{Recorded};
     ghost use Rattle.nc_gens.specs.machinery.Views.{first_view};
 
-    ghost holds = { λ _. Ruled };
+    ghost holds = { λ _. Recorded };
 
     ghost first = { first_view };
 }

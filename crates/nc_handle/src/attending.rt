@@ -1,8 +1,10 @@
 //! Checking in for seats that haven't been given out.
 
-ghost use Rattle.std.specs.Prelude.{◌≡◌, ◌≤◌, ◌<◌, [], All, length, map, slice_index};
-ghost use Rattle.nc_gens.specs.Seen.{Raised, PassState};
-ghost use Rattle.nc_handle.specs.RegionHandle.{IsIn};
+ghost use Rattle.std.specs.Prelude.{◌≡◌, ◌≤◌, ◌<◌, [], ◌∷◌, All, length, map, slice_index};
+ghost use Rattle.nc_gens.specs.declared.view.WordStep.{WordStep};
+ghost use Rattle.nc_gens.specs.Seen.{Raised, PassState, KeeperSteps};
+ghost use Rattle.nc_calls.specs.Steps.{word_steps};
+ghost use Rattle.nc_handle.specs.RegionHandle.{IsIn, meetings};
 
 use crate::region_handle::HandleActs;
 use nc_gens::{Gens, Pass};
@@ -19,6 +21,7 @@ fn attend_one(region: &mut RegionOf<HandleActs>, gens: &Gens, pass: &mut Pass)
     ensures raised { Raised region.old.keeper.numbers.bounds region.new.keeper.numbers.bounds }
     ensures inside { pass.old.seat < length region.new.keeper.numbers.bounds }
     ensures bound { region.old.keeper.numbers.generation ≤ slice_index region.new.keeper.numbers.bounds pass.old.seat }
+    ensures steps { KeeperSteps region.old.keeper region.new.keeper (WordStep.TookWord pass.old.seat ∷ WordStep.TookWord pass.old.seat ∷ []) }
 {
     region.meet(pass); // The pass learns the generation,
     gens.check_in(pass); // stores it,
@@ -35,6 +38,7 @@ pub(crate) fn attend(region: &mut RegionOf<HandleActs>, gens: &Gens, passes: &mu
     ensures table { region.new.keeper.table ≡ region.old.keeper.table }
     ensures generation { region.new.keeper.numbers.generation ≡ region.old.keeper.numbers.generation }
     ensures raised { Raised region.old.keeper.numbers.bounds region.new.keeper.numbers.bounds }
+    ensures steps { KeeperSteps region.old.keeper region.new.keeper (word_steps (meetings passes.old)) }
     ensures unmet { passes.old ≡ [] → region.new ≡ region.old }
     ensures outside { All (IsIn region.new region.old.keeper.numbers.generation) passes.new }
 {

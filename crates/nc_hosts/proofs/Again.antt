@@ -78,8 +78,8 @@ call_again seats old new own made (Reclaims count is same) hosts again =
     (frees_others (record no_details { seats = seats; spans = retired_spans old.chunks })
     (freed (least_number new.keeper.numbers) old.chunks)) in
     alone seats old new own made (Reclaims count is same) (none_left own (subst (All IsNotHosts) (sym same) others) hosts) again
-call_again seats old new own made (UsesKeeper marked chunks all range) hosts again =
-    alone seats old new own made (UsesKeeper marked chunks all range) (none_left own (keepers_others own all) hosts) again
+call_again seats old new own made (UsesKeeper marked chunks all steps range) hosts again =
+    alone seats old new own made (UsesKeeper marked chunks all steps range) (none_left own (keepers_others own all) hosts) again
 call_again seats old new own made (Refuses is) hosts again =
     alone seats old new own made (Refuses is) (refusal_silent old new own is) again
 call_again seats old new own made (Keeps is same) hosts again = alone seats old new own made (Keeps is same) same again

@@ -1,5 +1,5 @@
 -- What holds in every state that a host can reach.
-use Rattle.std.proofs.Common.{◌≡◌, ℕ, ◌+◌, ◌-◌, ◌*◌, ◌<◌, inl, inr, Some, None, List, [], ◌∷◌, ◌++◌, replicate, refl, ◌∙◌, sym, ap, subst}
+use Rattle.std.proofs.Common.{◌≡◌, ℕ, ◌+◌, ◌-◌, ◌*◌, ◌<◌, inl, inr, Some, None, List, [], ◌∷◌, ◌++◌, filter, replicate, refl, ◌∙◌, sym, ap, subst}
 use Rattle.std.specs.Prelude.{All}
 use Rattle.std.specs.List.{range_with_len}
 use Rattle.std.proofs.lemmas.List.{append-nil, append_assoc}
@@ -8,7 +8,9 @@ use Rattle.nc_decode.specs.Bundles.{IsLawfulLimit}
 use Rattle.nc_text.specs.Machine.{IsConfined}
 use Rattle.nc_text.specs.MarkedText.{MarkedText, with_span}
 use Rattle.nc_text.proofs.Offered.{confined_if_closed}
-use Rattle.nc_gens.specs.Seen.{KeeperState, least_number}
+use Rattle.nc_gens.specs.declared.view.WordStep.{WordStep}
+use Rattle.nc_gens.specs.History.{BeginsWith, is_by_keeper}
+use Rattle.nc_gens.specs.Seen.{KeeperState, KeeperSteps, least_number}
 use Rattle.nc_list.specs.declared.chunk.Chunk.{Chunk}
 use Rattle.nc_region.specs.schedules.Spans.{RetiredSpan}
 use Rattle.nc_region.specs.schedules.World.{World, first_world, IsViewOf, NoneIsWithin}
@@ -20,7 +22,8 @@ use Rattle.nc_acts.specs.Log.{only_acts}
 use Rattle.nc_region.specs.Deletion.{IsReclaimed, freed, unmarkings}
 use Rattle.nc_region.specs.Quiet.{retired_spans}
 use Rattle.nc_region.specs.Region.{Region, IsRegion}
-use Rattle.nc_calls.specs.Interleaving.{writers, IsKeepers, ThreadsMay}
+use Rattle.nc_calls.specs.Interleaving.{writers, IsKeepers, IsNoLook, ThreadsMay}
+use Rattle.nc_calls.specs.Steps.{word_steps}
 use Rattle.nc_calls.specs.Calls.{KnowsNoMore, StandsFor, HasLedTo, no_details, events_of_log, delete_events, reclaim_events}
 use Rattle.nc_calls.specs.Histories.{IsRefusal, IsCall, Creates, Patches, Deletes, Reclaims, UsesKeeper, Refuses, Keeps, AllStand}
 use Rattle.nc_calls.proofs.Offered.{goes_on, created, deleted}
@@ -33,13 +36,14 @@ use Rattle.nc_calls.proofs.Offered.{refusal_same}
 use Rattle.nc_calls.proofs.Offered.{Grows, StaysWhole, whole_append, whole_front, fetch_whole_after}
 use Rattle.nc_calls.specs.Whole.{AllFetchWhole}
 use Rattle.nc_handle.specs.RegionHandle.{IsLiveAt}
-use Rattle.nc_hosts.specs.Hosts.{Host, IsNoLook, IsReached}
+use Rattle.nc_hosts.specs.Hosts.{Host, IsReached}
 use Rattle.nc_calls.proofs.Offered.{Stays, same_region, all_stand}
 use Rattle.nc_region.proofs.Offered.{deleted_region}
 use Rattle.nc_hosts.proofs.Deleting.{deleted_there}
 use Rattle.nc_hosts.proofs.Interleaving.{IsWriters, writers_own, threads_append, threads_none, one_writers}
-use Rattle.nc_hosts.proofs.Looked.{looks_or_not, frees_no_look, only_looks, rest_looks_not}
-use Rattle.nc_hosts.proofs.Reaching.{Attempting, Phase, Calling, Deleting, Led, finished, led}
+use Rattle.nc_calls.proofs.Offered.{call_steps, knows_more, knows_as_much, looks_or_not, steps_append}
+use Rattle.nc_hosts.proofs.Looked.{frees_no_look, only_looks, rest_looks_not}
+use Rattle.nc_hosts.proofs.Reaching.{begins_longer, Attempting, Phase, Calling, Deleting, Led, finished, led}
 
 -- all events so far are allowed, and leave instructions whole, and those pending too, unless a look is still pending
 data Goes (w : World) (so_far pending : List Event) : Type 0 where
@@ -125,7 +129,7 @@ call_goes limit seats before since pending from region stays some threads own fo
     (own ∙ same) threads)
 call_goes limit seats before since pending from region stays some threads own found (Reclaims count is same) =
     reclaim_goes limit seats before since pending from region count stays some threads own is same found
-call_goes limit seats before since pending from region stays some threads own found (UsesKeeper marked chunks all range) =
+call_goes limit seats before since pending from region stays some threads own found (UsesKeeper marked chunks all steps range) =
     let keepers = subst (All IsKeepers) (sym own) all in
     Done (subst (AreAllowed (first_world limit seats)) (sym (append_assoc before since pending))
     (keepers_allowed limit seats before (since ++ pending) from stays.led keepers threads))
@@ -158,6 +162,25 @@ deletion_led limit seats before since called pending from c live stays threads p
     (threads_append (world_after (first_world limit seats) before) since (pending ++ Retires c.base c.length ∷ []) threads
     (threads_none (world_after (world_after (first_world limit seats) before) since) (pending ++ Retires c.base c.length ∷ []) all))
 
+-- once no look is pending, the keeper knows no more than the world's will once the pending events are made
+knows_then : (limit seats : ℕ) (host : Host) (l : Led limit seats host) (called : Region)
+    → host.handle.region ≡ record called { made = host.handle.region.made } → IsCall seats l.from called (writers l.since ++ host.pending)
+    → All IsNoLook host.pending
+    → KnowsNoMore called.keeper.numbers (world_after (first_world limit seats) (l.before ++ (l.since ++ host.pending))).keeper
+knows_then limit seats host l called pages call none =
+    let own : writers (l.since ++ host.pending) ≡ writers l.since ++ host.pending = writers_own l.since host.pending l.plain in
+    let steps = call_steps seats l.from called (writers l.since ++ host.pending) l.stays.keeper.bounds call in
+    let more : host.steps ++ word_steps host.pending ≡ word_steps (l.before ++ (l.since ++ host.pending)) =
+    ap (λ (h : List WordStep). h ++ word_steps host.pending) l.steps
+    ∙ (sym (steps_append (l.before ++ l.since) host.pending) ∙ ap word_steps (append_assoc l.before l.since host.pending)) in
+    knows_as_much called.keeper.numbers (world_after (first_world limit seats) (l.before ++ (l.since ++ host.pending))).keeper
+    (knows_more limit seats l.before (l.since ++ host.pending) l.from.keeper called.keeper l.stays.keeper
+    (subst (λ (z : List Event). KeeperSteps l.from.keeper called.keeper (filter is_by_keeper (word_steps z))) (sym own) steps)
+    (λ some. subst (λ (h : List WordStep). BeginsWith h called.keeper.history) more
+    (begins_longer host.steps (word_steps host.pending) called.keeper.history
+    (subst (λ (k : KeeperState). BeginsWith host.steps k.history) (ap (λ (r : Region). r.keeper) pages)
+    (l.order (λ all. some (subst (All IsNoLook) (sym own) (All-append IsNoLook (writers l.since) host.pending all none))) none))))).same
+
 -- in every state of a host the events so far are allowed and leave instructions whole
 goes : (limit seats : ℕ) (host : Host) (l : Led limit seats host) → Goes (first_world limit seats) (l.before ++ l.since) host.pending
 goes limit seats host l = go l.phase
@@ -169,12 +192,7 @@ goes limit seats host l = go l.phase
         (threads_append (world_after (first_world limit seats) l.before) l.since host.pending l.threads
         (threads_none (world_after (world_after (first_world limit seats) l.before) l.since) host.pending l.plain))
         (writers_own l.since host.pending l.plain)
-        (λ none. subst (λ (k : KeeperState). KnowsNoMore k.numbers
-        (world_after (first_world limit seats) (l.before ++ (l.since ++ host.pending))).keeper) (ap (λ (r : Region). r.keeper) pages)
-        (subst (λ (w : World). KnowsNoMore host.handle.region.keeper.numbers w.keeper)
-        (ap (λ (w : World). world_after w host.pending) l.world
-        ∙ (sym (after_append (first_world limit seats) (l.before ++ l.since) host.pending)
-        ∙ ap (world_after (first_world limit seats)) (append_assoc l.before l.since host.pending))) (l.found none)))
+        (knows_then limit seats host l called pages call)
         call
     go (Deleting c is at live room ends a) =
         let g = deletion_led limit seats l.before l.since host.called host.pending l.from c live l.stays l.threads l.plain room ends a in
@@ -333,7 +351,7 @@ call_region seats old new own region (Patches at bytes news lawful b is made tri
     still_patched old new at bytes news region lawful b is
 call_region seats old new own region (Deletes base stamp is stops made stamped tried same) = still_deleted old new base stamp region is
 call_region seats old new own region (Reclaims count is same) = still_reclaimed old new count region is
-call_region seats old new own region (UsesKeeper marked chunks all range) = same_region old new marked chunks region
+call_region seats old new own region (UsesKeeper marked chunks all steps range) = same_region old new marked chunks region
 call_region seats old new own region (Refuses is) =
     let pages = refusal_same old new own is in
     same_region old new (ap (λ (r : Region). r.marked) pages) (ap (λ (r : Region). r.chunks) pages) region

@@ -150,6 +150,6 @@ call_writers seats old new own (Reclaims count is same) =
     subst (All IsWriters) (sym same)
     (log_writers (record no_details { seats = seats; spans = retired_spans old.chunks })
     (only_acts (Look ∷ unmarkings (freed (least_number new.keeper.numbers) old.chunks))))
-call_writers seats old new own (UsesKeeper marked chunks all range) = All-weaker IsKeepers IsWriters keepers_writers own all
+call_writers seats old new own (UsesKeeper marked chunks all steps range) = All-weaker IsKeepers IsWriters keepers_writers own all
 call_writers seats old new own (Refuses is) = subst (All IsWriters) (sym (refusal_silent old new own is)) (All-nil IsWriters)
 call_writers seats old new own (Keeps is same) = subst (All IsWriters) (sym same) (All-nil IsWriters)

@@ -1,7 +1,6 @@
 mod Deleting
 mod Interleaving
 mod Looked
-mod Kept
 mod Again
 mod Making
 mod Reaching

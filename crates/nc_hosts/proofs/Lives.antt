@@ -16,7 +16,8 @@ use Rattle.nc_region.specs.Deletion.{IsDeleted}
 use Rattle.nc_calls.specs.Interleaving.{writers}
 use Rattle.nc_calls.specs.Histories.{Turn, IsTurn}
 use Rattle.nc_calls.specs.Example.{first_region, start_of, ThreadIsIn, IsLife}
-use Rattle.nc_calls.proofs.Offered.{lives}
+use Rattle.nc_calls.specs.Steps.{word_steps}
+use Rattle.nc_calls.proofs.Offered.{lives, steps_append}
 use Rattle.nc_handle.specs.RegionHandle.{RegionHandleState, IsFirst}
 use Rattle.nc_hosts.specs.Hosts.{Host, First}
 use Rattle.nc_hosts.specs.Turns.{new_host, GoesOn}
@@ -75,30 +76,34 @@ goes_through bundles first v creation at is life =
     let created : Host = record {
       handle = record first { region = creation.region };
       world = world_after start creation.events;
+      steps = word_steps creation.events;
       pending = [];
       called = writers creation.events;
     } in
     let deleted : Host = record {
       handle = record first { region = deletion.region };
       world = world_after (world_after start creation.events) deletion.events;
+      steps = word_steps creation.events ++ word_steps deletion.events;
       pending = [];
       called = writers deletion.events;
     } in
     let last : Host = record {
       handle = record first { region = reclaim.region };
       world = world_after (world_after (world_after start creation.events) deletion.events) (Exits 0 ∷ Takes 0 ∷ Stores 0 ∷ Looks 0 ∷ []);
+      steps = (word_steps creation.events ++ word_steps deletion.events) ++ word_steps (Exits 0 ∷ Takes 0 ∷ Stores 0 ∷ Looks 0 ∷ []);
       pending = Frees (span_of v) ∷ [];
       called = writers reclaim.events;
     } in
     let creates : GoesOn bundles 1 (new_host bundles 1 first) created =
-    turns bundles 1 (new_host bundles 1 first) [] creation.events [] creation (First is refl refl refl) refl is.begun refl one
+    turns bundles 1 (new_host bundles 1 first) [] creation.events [] creation (First is refl refl refl refl) refl is.begun refl refl one
     (sym (append-nil creation.events)) in
     let deletes : GoesOn bundles 1 created deleted =
     turns bundles 1 created creation.events deletion.events [] deletion
-    (reached_by bundles 1 (new_host bundles 1 first) created creates) refl is.begun refl two (sym (append-nil deletion.events)) in
+    (reached_by bundles 1 (new_host bundles 1 first) created creates) refl is.begun refl refl two (sym (append-nil deletion.events)) in
     let reclaims : GoesOn bundles 1 deleted last =
     turns bundles 1 deleted (creation.events ++ deletion.events) (Exits 0 ∷ Takes 0 ∷ Stores 0 ∷ Looks 0 ∷ []) (Frees (span_of v) ∷ []) reclaim
-    (reached_by bundles 1 created deleted deletes) refl is.begun (sym (after_append start creation.events deletion.events)) three
+    (reached_by bundles 1 created deleted deletes) refl is.begun (sym (after_append start creation.events deletion.events))
+    (sym (steps_append creation.events deletion.events)) three
     life.checks_in in
     let stands : ThreadIsIn limit (creation.events ++ deletion.events) (start_of v) =
     subst (λ (l : ℕ). ThreadIsIn l (creation.events ++ deletion.events) (start_of v)) at life.stays in (
@@ -118,5 +123,5 @@ goes_through bundles first v creation at is life =
 pub frees_next : (bundles : ℕ) (first : RegionHandleState) (v : MarkedChunk) → IsValid v → v.limit ≡ 65536 + 32 * bundles
     → IsFirst bundles 1 first → Lives bundles first v
 frees_next bundles first v valid at is =
-    let all = lives v first.region.keeper valid (ap (λ (k : KeeperState). k.numbers) is.keeper) in
+    let all = lives v first.region.keeper valid is.keeper in
     goes_through bundles first v all.0 at is (all.1 [] tt)

@@ -6,27 +6,8 @@ use Rattle.nc_list.specs.declared.chunk.Chunk.{Chunk}
 use Rattle.nc_region.specs.schedules.Events.{Event, Frees, Looks}
 use Rattle.nc_acts.specs.Log.{only_acts}
 use Rattle.nc_region.specs.Deletion.{unmarkings}
-use Rattle.nc_calls.specs.Interleaving.{IsKeepers}
+use Rattle.nc_calls.specs.Interleaving.{IsKeepers, IsNoLook}
 use Rattle.nc_calls.specs.Calls.{Details, events_of_log, span_from}
-use Rattle.nc_hosts.specs.Hosts.{IsNoLook}
-
--- an event is a look or no look
-look_or_not : (event : Event) → IsNoLook event ⊎ (¬ IsNoLook event)
-look_or_not (Looks k) = inr (λ x. x)
-look_or_not _ = inl tt
-
--- some events have no look among them, or they do
-pub looks_or_not : (events : List Event) → All IsNoLook events ⊎ (¬ All IsNoLook events)
-looks_or_not [] = inl (All-nil IsNoLook)
-looks_or_not (event ∷ events) =
-    elim (look_or_not event) [
-      | inr is ↦ inr (λ all. is (All-head IsNoLook event events all))
-      | inl is_none ↦
-          elim (looks_or_not events) [
-            | inl none ↦ inl (All-cons IsNoLook event events is_none none)
-            | inr some ↦ inr (λ all. some (All-tail IsNoLook event events all))
-          ]
-    ]
 
 -- the last of some elements
 pub all_back : {X : Type 0} (P : X → Type 0) (xs ys : List X) → All P (xs ++ ys) → All P ys

@@ -2,10 +2,12 @@
 use Rattle.std.proofs.Common.{◌≡◌, ℕ, ◌+◌, ◌-◌, ◌/◌, ◌%◌, ◌==◌, take, drop, Bool, true, false, cond, List, [], ◌∷◌, ◌++◌, length, replicate, ◌∙◌, sym, subst, append_assoc}
 use Rattle.std.specs.Prelude.{All}
 use Rattle.std.proofs.lemmas.List.{append_cancel_right}
-use Rattle.std.proofs.lemmas.List.Elements.{All-nil, All-cons, All-append}
+use Rattle.std.proofs.lemmas.List.Elements.{All-nil, All-cons, All-append, All-weaker}
 use Rattle.nc_decode.specs.declared.instruction.Mark.{Mark}
 use Rattle.nc_vet.specs.Chunk.{MarkedChunk, Piece}
-use Rattle.nc_region.specs.schedules.Events.{Event, Puts, Serializes, Marks, Retires}
+use Rattle.nc_region.specs.schedules.Events.{Event, Steps, Enters, Exits, Takes, Sees, Stores, Leaves, Puts, Serializes, Marks, Bumps, Retires, Frees}
+use Rattle.nc_region.specs.schedules.Events.{Looks}
+use Rattle.nc_calls.specs.Interleaving.{IsNoLook}
 use Rattle.nc_acts.specs.declared.acts.Act.TheVariants.{Put}
 use Rattle.nc_acts.specs.Acts.{puts_where, is_inside, is_start, is_marked_at, is_unmarked_at}
 use Rattle.nc_region.specs.Patch.{any_place, stands_there}
@@ -15,6 +17,26 @@ use Rattle.nc_entries.specs.declared.act.NcAct.{NcAct}
 use Rattle.nc_handle.specs.Pending.{puts_pending, events_pending_by, events_pending}
 use Rattle.nc_hosts.specs.Hosts.{IsHosts}
 use Rattle.nc_hosts.proofs.Looked.{all_back}
+
+-- a host makes no looks
+pub hosts_look_not : (events : List Event) → All IsHosts events → All IsNoLook events
+hosts_look_not events all = All-weaker IsHosts IsNoLook no_look events all
+  where
+    no_look : (event : Event) → IsHosts event → IsNoLook event
+    no_look (Puts at byte) is = tt
+    no_look Serializes is = tt
+    no_look (Steps k next) is = tt
+    no_look (Enters k at) is = tt
+    no_look (Exits k) is = tt
+    no_look (Takes k) is = tt
+    no_look (Sees k) is = tt
+    no_look (Stores k) is = tt
+    no_look (Leaves k) is = tt
+    no_look (Marks at marks) is = tt
+    no_look Bumps is = tt
+    no_look (Retires base len) is = tt
+    no_look (Frees span) is = tt
+    no_look (Looks k) is = absurd is
 
 -- a host makes puts at chosen places
 puts_hosts : (d : Details) (chosen : ℕ → Bool) (at : ℕ) (bytes : List ℕ) → All IsHosts (events_of d (puts_where chosen at bytes))

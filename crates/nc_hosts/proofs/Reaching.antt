@@ -1,11 +1,13 @@
 -- What every state that a host can reach keeps: the events so far are those of a history, and those pending complete its last call.
-use Rattle.std.proofs.Common.{◌≡◌, ℕ, ◌+◌, ◌*◌, ◌<◌, false, Option, Some, None, List, [], ◌∷◌, ◌++◌, refl, ◌∙◌, sym, ap}
+use Rattle.std.proofs.Common.{◌≡◌, ℕ, ◌+◌, ◌*◌, ◌<◌, inl, inr, false, Option, Some, None, List, [], ◌∷◌, ◌++◌, refl, ◌∙◌, sym, ap}
 use Rattle.std.proofs.Common.{subst}
 use Rattle.std.specs.Prelude.{All}
 use Rattle.std.proofs.lemmas.List.{append-nil, append_assoc}
-use Rattle.std.proofs.lemmas.List.Elements.{All-nil, All-head, All-tail, All-weaker}
+use Rattle.std.proofs.lemmas.List.Elements.{All-nil, All-append, All-head, All-tail, All-weaker}
 use Rattle.nc_text.specs.MarkedText.{MarkedText, unused_text}
 use Rattle.nc_gens.specs.Rule.{first_keeper_numbers}
+use Rattle.nc_gens.specs.declared.view.WordStep.{WordStep}
+use Rattle.nc_gens.specs.History.{BeginsWith}
 use Rattle.nc_gens.specs.Seen.{KeeperState}
 use Rattle.nc_list.specs.declared.chunk.Chunk.{Chunk}
 use Rattle.nc_region.specs.schedules.World.{World, first_world}
@@ -13,17 +15,18 @@ use Rattle.nc_region.specs.schedules.Events.{Event, Puts, Serializes, Marks, Ret
 use Rattle.nc_region.proofs.Offered.{after_append, region_of_new}
 use Rattle.nc_region.specs.Region.{Region, IsRegion}
 use Rattle.nc_region.specs.Deletion.{IsDeleted}
-use Rattle.nc_calls.specs.Interleaving.{is_writers, writers, ThreadsMay}
+use Rattle.nc_calls.specs.Interleaving.{is_writers, writers, IsNoLook, ThreadsMay}
+use Rattle.nc_calls.specs.Steps.{word_step, word_steps}
 use Rattle.nc_calls.specs.Calls.{HasLedTo, no_details, delete_events}
 use Rattle.nc_calls.specs.Histories.{AreAttempts, NoneYet, OneMore, IsCall, Deletes, Keeps}
 use Rattle.nc_calls.proofs.Offered.{begins_unused}
 use Rattle.nc_acts.specs.Log.{log_of_delete}
 use Rattle.nc_handle.specs.RegionHandle.{RegionHandleState, IsLiveAt, IsFirst, HasEndedDeletion}
 use Rattle.nc_handle.specs.Pending.{IsHandleCall, Changes, Begins, Ends}
-use Rattle.nc_calls.specs.Calls.{KnowsNoMore}
-use Rattle.nc_hosts.specs.Hosts.{Host, IsHostStep, Runs, Makes, Restarts, Calls, Asks, IsHosts, IsNoLook, HasFound, IsReached, First, Then}
+use Rattle.nc_hosts.specs.Hosts.{Host, host_after, IsHostStep, Runs, Makes, Restarts, Calls, Asks, IsHosts, IsInOrder, IsReached, First, Then}
 use Rattle.nc_calls.proofs.Offered.{Stays, same_region, goes_on, call_stays}
-use Rattle.nc_calls.proofs.Offered.{whole_serialized, knows_as_much}
+use Rattle.nc_calls.proofs.Offered.{whole_serialized, KnowsSteps, knows_first, looks_or_not, steps_append}
+use Rattle.nc_hosts.proofs.Making.{rest_hosts, hosts_look_not}
 use Rattle.nc_hosts.proofs.Again.{call_again}
 use Rattle.nc_hosts.proofs.Interleaving.{IsWriters, all_front, one_writers, writers_thread, writers_own, threads_append, threads_none}
 use Rattle.nc_hosts.proofs.Looked.{all_back}
@@ -58,7 +61,8 @@ pub record Led (limit seats : ℕ) (host : Host) : Type 0 where
   pub world : host.world ≡ world_after (first_world limit seats) (before ++ since)
   pub threads : ThreadsMay (world_after (first_world limit seats) before) since
   pub plain : All IsWriters host.pending
-  pub found : HasFound host
+  pub steps : host.steps ≡ word_steps (before ++ since)
+  pub order : ¬ All IsNoLook (writers since) → All IsNoLook host.pending → BeginsWith host.steps host.handle.region.keeper.history
   pub phase : Phase seats from (writers since) host.handle.begun host.handle.region host.called host.pending
 
 -- the world after one more event is that after all events
@@ -74,6 +78,19 @@ led_after limit seats before since w event is =
 led_there : (limit seats : ℕ) (before since : List Event) (w : World) → w ≡ world_after (first_world limit seats) (before ++ since)
     → w ≡ world_after (world_after (first_world limit seats) before) since
 led_there limit seats before since w is = is ∙ after_append (first_world limit seats) before since
+
+-- the steps so far, with those of one more event
+steps_after : (before since : List Event) (steps : List WordStep) (event : Event) → steps ≡ word_steps (before ++ since)
+    → steps ++ word_step event ≡ word_steps (before ++ (since ++ event ∷ []))
+steps_after before since steps event is =
+    ap (λ (l : List WordStep). l ++ word_step event) is
+    ∙ (ap (λ (l : List WordStep). word_steps (before ++ since) ++ l) (sym (append-nil (word_step event)))
+    ∙ (sym (steps_append (before ++ since) (event ∷ [])) ∙ ap word_steps (append_assoc before since (event ∷ []))))
+
+-- steps that begin with a history do so with more of them
+pub begins_longer : (all more known : List WordStep) → BeginsWith all known → BeginsWith (all ++ more) known
+begins_longer all more known b =
+    (b.0 ++ more, ap (λ (l : List WordStep). l ++ more) b.1 ∙ append_assoc known b.0 more)
 
 -- one event of an attempt is made
 attempting_made : (called own pending rest : List Event) (event : Event) → pending ≡ event ∷ rest → Attempting called own pending
@@ -115,8 +132,8 @@ phase_made seats from own begun region event called pending rest is (Deleting c 
 
 -- a host is led over a thread's event
 led_runs : (limit seats : ℕ) (old : Host) (event : Event) → Led limit seats old → is_writers event ≡ false → ThreadMay old.world event
-    → HasFound (record old { world = after old.world event }) → Led limit seats (record old { world = after old.world event })
-led_runs limit seats old event l is may found =
+    → Led limit seats (host_after old event)
+led_runs limit seats old event l is may =
     record {
       before = l.before;
       since = l.since ++ event ∷ [];
@@ -126,16 +143,30 @@ led_runs limit seats old event l is may found =
       threads = threads_append (world_after (first_world limit seats) l.before) l.since (event ∷ []) l.threads
           ((λ no. subst (λ (w : World). ThreadMay w event) (led_there limit seats l.before l.since old.world l.world) may), tt);
       plain = l.plain;
-      found = found;
+      steps = steps_after l.before l.since old.steps event l.steps;
+      order = λ some none. begins_longer old.steps (word_step event) old.handle.region.keeper.history
+          (l.order (subst (λ (own : List Event). ¬ All IsNoLook own) (writers_thread l.since event is) some) none);
       phase = subst (λ (own : List Event). Phase seats l.from own old.handle.begun old.handle.region old.called old.pending)
           (sym (writers_thread l.since event is)) l.phase;
     }
 
+-- the steps are in order once the next event is made, if they are where it is the last look
+order_made : (old : Host) (event : Event) (since rest : List Event) → old.pending ≡ event ∷ rest
+    → (¬ All IsNoLook since → All IsNoLook old.pending → BeginsWith old.steps old.handle.region.keeper.history)
+    → IsInOrder old (record (host_after old event) { pending = rest })
+    → ¬ All IsNoLook (since ++ event ∷ []) → All IsNoLook rest → BeginsWith (old.steps ++ word_step event) old.handle.region.keeper.history
+order_made old event since rest is was last some none =
+    elim (looks_or_not (event ∷ [])) [
+      | inl no_look ↦ begins_longer old.steps (word_step event) old.handle.region.keeper.history
+          (was (λ all. some (All-append IsNoLook since (event ∷ []) all no_look))
+          (subst (All IsNoLook) (sym is) (All-append IsNoLook (event ∷ []) rest no_look none)))
+      | inr look ↦ last (λ all. look (all_front IsNoLook (event ∷ []) rest (subst (All IsNoLook) is all))) none
+    ]
+
 -- the next event that is pending
 led_makes : (limit seats : ℕ) (old : Host) (event : Event) (rest : List Event) → Led limit seats old → old.pending ≡ event ∷ rest
-    → HasFound (record old { world = after old.world event; pending = rest })
-    → Led limit seats (record old { world = after old.world event; pending = rest })
-led_makes limit seats old event rest l is found =
+    → IsInOrder old (record (host_after old event) { pending = rest }) → Led limit seats (record (host_after old event) { pending = rest })
+led_makes limit seats old event rest l is order =
     let plain : All IsWriters (event ∷ rest) = subst (All IsWriters) is l.plain in
     let own : writers (l.since ++ event ∷ []) ≡ writers l.since ++ event ∷ [] =
     writers_own l.since (event ∷ []) (one_writers event (All-head IsWriters event rest plain)) in
@@ -149,7 +180,9 @@ led_makes limit seats old event rest l is found =
           (threads_none (world_after (world_after (first_world limit seats) l.before) l.since) (event ∷ [])
           (one_writers event (All-head IsWriters event rest plain)));
       plain = All-tail IsWriters event rest plain;
-      found = found;
+      steps = steps_after l.before l.since old.steps event l.steps;
+      order = λ some none. order_made old event (writers l.since) rest is l.order order
+          (subst (λ (z : List Event). ¬ All IsNoLook z) own some) none;
       phase = subst (λ (own : List Event). Phase seats l.from own old.handle.begun old.handle.region old.called rest) (sym own)
           (phase_made seats l.from (writers l.since) old.handle.begun old.handle.region event old.called old.pending rest is l.phase);
     }
@@ -189,6 +222,7 @@ pages_stay limit seats before old new s pages =
           (goes_on limit seats before [] old new s.led pages refl tt).led;
       whole = s.whole;
       region = same_region old new (ap (λ (r : Region). r.marked) pages) (ap (λ (r : Region). r.chunks) pages) s.region;
+      keeper = subst (KnowsSteps limit seats before) (sym (ap (λ (r : Region). r.keeper) pages)) s.keeper;
     }
 
 -- where nothing is pending and no deletion is under way, the last call has ended
@@ -202,21 +236,19 @@ finished limit seats host l none idle =
     go (Calling called idle pages call again) =
         let own : writers l.since ++ host.pending ≡ writers l.since =
         ap (λ (z : List Event). writers l.since ++ z) none ∙ append-nil (writers l.since) in
-        let now : KnowsNoMore host.handle.region.keeper.numbers host.world.keeper =
-        subst (λ (z : List Event). KnowsNoMore host.handle.region.keeper.numbers (world_after host.world z).keeper) none
-        (l.found (subst (All IsNoLook) (sym none) (All-nil IsNoLook))) in
         pages_stay limit seats (l.before ++ l.since) called host.handle.region
         (call_stays limit seats l.before l.from (record { events = l.since; region = called }) l.stays l.threads
-        (subst (λ (w : World). KnowsNoMore called.keeper.numbers w.keeper) l.world
-        (subst (λ (k : KeeperState). KnowsNoMore k.numbers host.world.keeper) (ap (λ (r : Region). r.keeper) pages) now))
+        (λ some. subst (λ (h : List WordStep). BeginsWith h called.keeper.history) l.steps
+        (subst (λ (k : KeeperState). BeginsWith host.steps k.history) (ap (λ (r : Region). r.keeper) pages)
+        (l.order some (subst (All IsNoLook) (sym none) (All-nil IsNoLook)))))
         (subst (IsCall seats l.from called) own call)) pages
     go (Deleting c is at live room ends a) = absurd (let bad : None ≡ Some c = sym idle ∙ is in cc)
 
 -- a call that begins where the last one has ended
 led_anew : (limit seats : ℕ) (old new : Host) (l : Led limit seats old) → old.pending ≡ [] → old.handle.begun ≡ None
-    → new.world ≡ old.world → HasFound new → All IsWriters new.pending
+    → new.world ≡ old.world → new.steps ≡ old.steps → All IsWriters new.pending
     → Phase seats old.handle.region [] new.handle.begun new.handle.region new.called new.pending → Led limit seats new
-led_anew limit seats old new l none idle same found plain phase =
+led_anew limit seats old new l none idle same still plain phase =
     record {
       before = l.before ++ l.since;
       since = [];
@@ -225,7 +257,8 @@ led_anew limit seats old new l none idle same found plain phase =
       world = same ∙ (l.world ∙ ap (world_after (first_world limit seats)) (sym (append-nil (l.before ++ l.since))));
       threads = tt;
       plain = plain;
-      found = found;
+      steps = still ∙ (l.steps ∙ ap word_steps (sym (append-nil (l.before ++ l.since))));
+      order = λ some. absurd (some (All-nil IsNoLook));
       phase = phase;
     }
 
@@ -283,19 +316,39 @@ phase_called seats from whole called pending is call = (
   subst (Attempting called []) is (attempting_first called),
 )
 
+-- attempts at events without a look are without one
+attempts_look_not : (events made : List Event) → AreAttempts events made → All IsNoLook events → All IsNoLook made
+attempts_look_not events [] NoneYet none = All-nil IsNoLook
+attempts_look_not events _ (OneMore {earlier} first part rest own) none =
+    All-append IsNoLook earlier part (attempts_look_not events earlier first none)
+    (all_front IsNoLook part rest (subst (All IsNoLook) (sym own) none))
+
+-- while a deletion is under way, there was no look since it began
+deletion_looks_not : (limit seats : ℕ) (host : Host) (c : Chunk) (l : Led limit seats host) → host.handle.begun ≡ Some c
+    → All IsNoLook (writers l.since)
+deletion_looks_not limit seats host c l begun = go l.phase
+  where
+    go : Phase seats l.from (writers l.since) host.handle.begun host.handle.region host.called host.pending → All IsNoLook (writers l.since)
+    go (Calling whole idle pages call again) = absurd (let bad : None ≡ Some c = sym idle ∙ begun in cc)
+    go (Deleting d is at live room ends a) =
+        let none : All IsNoLook host.called = hosts_look_not host.called (rest_hosts l.from.marked.marks d.base d.length [] host.called ends) in
+        subst (All IsNoLook) (sym a.own_is)
+        (All-append IsNoLook a.made a.last (attempts_look_not host.called a.made a.tried none)
+        (all_front IsNoLook a.last host.pending (subst (All IsNoLook) (sym a.last_is) none)))
+
 -- a host is led over a call
 led_calls : (limit seats : ℕ) (old new : Host) → Led limit seats old → old.pending ≡ [] → IsHandleCall seats old.handle new.handle new.pending
-    → new.world ≡ old.world → new.called ≡ new.pending → HasFound new → Led limit seats new
-led_calls limit seats old new l none (Changes idle then call) same called found =
-    led_anew limit seats old new l none idle same found (call_writers seats old.handle.region new.handle.region new.pending call)
+    → new.world ≡ old.world → new.steps ≡ old.steps → new.called ≡ new.pending → Led limit seats new
+led_calls limit seats old new l none (Changes idle then call) same still called =
+    led_anew limit seats old new l none idle same still (call_writers seats old.handle.region new.handle.region new.pending call)
     (Calling new.handle.region then refl call
     (λ hosts. phase_called seats old.handle.region new.handle.region new.called new.pending called call))
-led_calls limit seats old new l none (Begins c begun own) same called found =
-    led_anew limit seats old new l none begun.none same found (stops_plain new.pending old.handle.region c own)
+led_calls limit seats old new l none (Begins c begun own) same still called =
+    led_anew limit seats old new l none begun.none same still (stops_plain new.pending old.handle.region c own)
     (Deleting c (ap (λ (h : RegionHandleState). h.begun) begun.others) (ap (λ (h : RegionHandleState). h.region) begun.others) begun.live begun.room
     (ap (λ (z : List Event). z ++ Retires c.base c.length ∷ []) called ∙ own)
     (subst (Attempting new.called []) called (attempting_first new.called)))
-led_calls limit seats old new l none (Ends stamp is stamped) same called found =
+led_calls limit seats old new l none (Ends stamp is stamped) same still called =
     record {
       before = l.before;
       since = l.since;
@@ -304,17 +357,21 @@ led_calls limit seats old new l none (Ends stamp is stamped) same called found =
       world = same ∙ l.world;
       threads = l.threads;
       plain = subst (All IsWriters) (sym stamped) (one_writers (Retires is.chunk.base is.chunk.length) refl);
-      found = found;
+      steps = still ∙ l.steps;
+      order = λ some. absurd (some (deletion_looks_not limit seats old is.chunk l is.begun));
       phase = phase_ended seats l.from (writers l.since) old.handle new.handle old.called old.pending new.called new.pending stamp is none
           stamped called l.phase;
     }
 
 -- a call that leaves the region as it is, but for pages
 led_asks : (limit seats : ℕ) (old : Host) (handle : RegionHandleState) → Led limit seats old → handle.begun ≡ old.handle.begun
-    → handle.region ≡ record old.handle.region { made = handle.region.made } → HasFound (record old { handle = handle })
-    → Led limit seats (record old { handle = handle })
-led_asks limit seats old handle l begun region found = go l.phase
+    → handle.region ≡ record old.handle.region { made = handle.region.made } → Led limit seats (record old { handle = handle })
+led_asks limit seats old handle l begun region = go l.phase
   where
+    order : ¬ All IsNoLook (writers l.since) → All IsNoLook old.pending → BeginsWith old.steps handle.region.keeper.history
+    order some none =
+        subst (λ (k : KeeperState). BeginsWith old.steps k.history) (sym (ap (λ (r : Region). r.keeper) region)) (l.order some none)
+
     go : Phase seats l.from (writers l.since) old.handle.begun old.handle.region old.called old.pending
         → Led limit seats (record old { handle = handle })
     go (Calling whole idle pages call again) =
@@ -326,7 +383,8 @@ led_asks limit seats old handle l begun region found = go l.phase
           world = l.world;
           threads = l.threads;
           plain = l.plain;
-          found = found;
+          steps = l.steps;
+          order = order;
           phase = Calling whole (begun ∙ idle) (region ∙ ap (λ (r : Region). record r { made = handle.region.made }) pages) call again;
         }
     go (Deleting c is at live room ends a) =
@@ -340,7 +398,8 @@ led_asks limit seats old handle l begun region found = go l.phase
           world = l.world;
           threads = l.threads;
           plain = l.plain;
-          found = found;
+          steps = l.steps;
+          order = order;
           phase = Deleting c (begun ∙ is) refl
               (subst (λ (chunks : List Chunk). IsLiveAt chunks c.base c) (sym (ap (λ (r : Region). r.chunks) from)) live)
               (subst (λ (k : KeeperState). k.numbers.generation < 4611686018427387904) (sym (ap (λ (r : Region). r.keeper) from)) room)
@@ -371,9 +430,8 @@ phase_anew seats from own begun region called pending hosts (Deleting c is at li
     Deleting c is at live room ends (attempting_anew called own pending a)
 
 -- the last call's events are to be made anew
-led_restarts : (limit seats : ℕ) (old : Host) → Led limit seats old → All IsHosts old.called
-    → HasFound (record old { pending = old.called }) → Led limit seats (record old { pending = old.called })
-led_restarts limit seats old l hosts found =
+led_restarts : (limit seats : ℕ) (old : Host) → Led limit seats old → All IsHosts old.called → Led limit seats (record old { pending = old.called })
+led_restarts limit seats old l hosts =
     record {
       before = l.before;
       since = l.since;
@@ -382,26 +440,28 @@ led_restarts limit seats old l hosts found =
       world = l.world;
       threads = l.threads;
       plain = hosts_writers old.called hosts;
-      found = found;
+      steps = l.steps;
+      order = λ some _. l.order some (hosts_look_not old.pending (pending_hosts limit seats old l hosts));
       phase = phase_anew seats l.from (writers l.since) old.handle.begun old.handle.region old.called old.pending hosts l.phase;
     }
 
 -- a host is led over a step
-led_step : (limit seats : ℕ) (old new : Host) → Led limit seats old → IsHostStep seats old new → HasFound new → Led limit seats new
-led_step limit seats old new l (Runs event is may same) found =
-    subst (Led limit seats) (sym same) (led_runs limit seats old event l is may (subst HasFound same found))
-led_step limit seats old new l (Makes event is same) found =
-    subst (Led limit seats) (sym same) (led_makes limit seats old event new.pending l is (subst HasFound same found))
-led_step limit seats old new l (Restarts hosts same) found =
-    subst (Led limit seats) (sym same) (led_restarts limit seats old l hosts (subst HasFound same found))
-led_step limit seats old new l (Calls none call same called) found = led_calls limit seats old new l none call same called found
-led_step limit seats old new l (Asks begun region same) found =
-    subst (Led limit seats) (sym same) (led_asks limit seats old new.handle l begun region (subst HasFound same found))
+led_step : (limit seats : ℕ) (old new : Host) → Led limit seats old → IsHostStep seats old new → IsInOrder old new → Led limit seats new
+led_step limit seats old new l (Runs event is may same) order = subst (Led limit seats) (sym same) (led_runs limit seats old event l is may)
+led_step limit seats old new l (Makes event is same) order =
+    subst (Led limit seats) (sym same) (led_makes limit seats old event new.pending l is (subst (IsInOrder old) same order))
+led_step limit seats old new l (Restarts hosts same) order = subst (Led limit seats) (sym same) (led_restarts limit seats old l hosts)
+led_step limit seats old new l (Calls none call same) order =
+    led_calls limit seats old new l none call (ap (λ (h : Host). h.world) same) (ap (λ (h : Host). h.steps) same)
+    (ap (λ (h : Host). h.called) same)
+led_step limit seats old new l (Asks begun region same) order =
+    subst (Led limit seats) (sym same) (led_asks limit seats old new.handle l begun region)
 
 -- the first state of a host is led
 led_first : (bundles seats : ℕ) (host : Host) → IsFirst bundles seats host.handle
-    → host.world ≡ first_world (65536 + 32 * bundles) seats → host.pending ≡ [] → host.called ≡ [] → Led (65536 + 32 * bundles) seats host
-led_first bundles seats host is world none uncalled =
+    → host.world ≡ first_world (65536 + 32 * bundles) seats → host.steps ≡ [] → host.pending ≡ [] → host.called ≡ []
+    → Led (65536 + 32 * bundles) seats host
+led_first bundles seats host is world steps none uncalled =
     let numbers : host.handle.region.keeper.numbers ≡ first_keeper_numbers seats = ap (λ (k : KeeperState). k.numbers) is.keeper in
     record {
       before = [];
@@ -413,13 +473,14 @@ led_first bundles seats host is world none uncalled =
         region = subst (λ (m : MarkedText). IsRegion m host.handle.region.chunks) (sym is.marked)
             (subst (IsRegion (unused_text (65536 + 32 * bundles))) (sym is.chunks)
             (region_of_new (unused_text (65536 + 32 * bundles)) (65536 + 32 * bundles, is.lawful, refl)));
+        keeper = subst (KnowsSteps (65536 + 32 * bundles) seats []) (sym is.keeper)
+            (knows_first (65536 + 32 * bundles) seats host.handle.region.keeper);
       };
       world = world;
       threads = tt;
       plain = subst (All IsWriters) (sym none) (All-nil IsWriters);
-      found = λ all. subst (λ (z : List Event). KnowsNoMore host.handle.region.keeper.numbers (world_after host.world z).keeper) (sym none)
-          (subst (λ (w : World). KnowsNoMore host.handle.region.keeper.numbers w.keeper) (sym world)
-          (knows_as_much host.handle.region.keeper.numbers (first_keeper_numbers seats) (sym numbers)));
+      steps = steps;
+      order = λ some. absurd (some (All-nil IsNoLook));
       phase = Calling host.handle.region is.begun refl (Keeps refl none)
           (λ hosts. phase_called seats host.handle.region host.handle.region host.called host.pending (uncalled ∙ sym none)
           (Keeps refl none));
@@ -427,6 +488,6 @@ led_first bundles seats host is world none uncalled =
 
 -- every state of a host that is reached is led
 pub led : (bundles seats : ℕ) (host : Host) → IsReached bundles seats host → Led (65536 + 32 * bundles) seats host
-led bundles seats host (First is world none uncalled) = led_first bundles seats host is world none uncalled
-led bundles seats host (Then {old} before step found) =
-    led_step (65536 + 32 * bundles) seats old host (led bundles seats old before) step found
+led bundles seats host (First is world steps none uncalled) = led_first bundles seats host is world steps none uncalled
+led bundles seats host (Then {old} before step order) =
+    led_step (65536 + 32 * bundles) seats old host (led bundles seats old before) step order

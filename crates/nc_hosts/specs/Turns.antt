@@ -6,7 +6,8 @@ use Rattle.nc_hosts.specs.Hosts.{Host, IsHostStep, IsReached}
 
 -- a host with a new handle of a region of this many bundles, for this number of seats
 abbrev pub new_host : ℕ → ℕ → RegionHandleState → Host
-new_host bundles seats handle = record { handle = handle; world = first_world (0x10000 + 32 * bundles) seats; pending = []; called = [] }
+new_host bundles seats handle =
+    record { handle = handle; world = first_world (0x10000 + 32 * bundles) seats; steps = []; pending = []; called = [] }
 
 -- The host goes from one state to the other by steps, none or more, and each state on the way can be reached.
 pub data GoesOn (bundles seats : ℕ) (from : Host) : Host → Type 0 where

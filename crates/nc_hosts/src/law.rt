@@ -35,15 +35,16 @@ ghost use Rattle.nc_hosts.specs.Hosts.{Host, IsHostStep, IsReached};
 /// lent (`ReportsPending` of `nc_handle`), or those that the library makes itself (`DoesItself`). There is a state after each single store,
 /// so `stand` and `whole` are about every moment. The function does nothing when called.
 ///
-/// Its assumptions are in `ThreadMay`, `IsHostStep`, `HasFound` and `IsReached`:
+/// Its assumptions are in `ThreadMay`, `IsHostStep`, `IsInOrder` and `IsReached`:
 ///
 /// - At first the memory is all stops, the host has serialized since they were stored, and all threads are outside.
 /// - A thread inside moves only as the machine does in some view, and by no masked jump or call to the limit or above.
 /// - A thread enters only while it is outside, at bundle starts and while its seat hasn't left. Its pass checks in and leaves only while it
 ///   is outside.
-/// - The keeper has the world's generation and a bound for each of its seats, and finds no word to be greater than it is.
-/// - The host makes the pending events in order, each once, and its stores and serializations reach execution in that order. Where it makes
-///   events again, it makes all of a call's, from the first one on and before the next call that changes the region.
+/// - The events stand in the order in which the atomic steps on the words of the table of check-ins were taken. What each check-in, stamp,
+///   look and meeting finds there is proved (`HasCheckedIn`, `HasRaised`, `HasLooked`, `HasMet` of `nc_gens`).
+/// - The host makes the pending events in order and skips none, and its stores and serializations reach execution in that order. It may
+///   begin a call's events again, but makes all of them without a gap before the next call that changes the region.
 pub fn law_of_hosts()
     ensures stand { (bundles seats : ℕ) (host : Host) → IsReached bundles seats host → AllStand host.world }
     ensures whole { (bundles seats : ℕ) (host : Host) → IsReached bundles seats host → AllFetchWhole host.world }

@@ -7,6 +7,7 @@ ghost use Rattle.nc_region.specs.schedules.Events.{Event, world_after};
 ghost use Rattle.nc_region.specs.Region.{IsCreated};
 ghost use Rattle.nc_region.specs.Deletion.{IsDeleted};
 ghost use Rattle.nc_calls.specs.Interleaving.{writers};
+ghost use Rattle.nc_calls.specs.Steps.{word_steps};
 ghost use Rattle.nc_calls.specs.Histories.{Turn, IsTurn};
 ghost use Rattle.nc_calls.specs.Example.{start_of};
 ghost use Rattle.nc_handle.specs.RegionHandle.{RegionHandleState, IsFirst};
@@ -22,10 +23,11 @@ ghost use Rattle.nc_hosts.specs.Turns.{new_host, GoesOn};
 pub fn law_of_turns()
     ensures turns { (bundles seats : ℕ) (host : Host) (before events later : List Event) (turn : Turn) → IsReached bundles seats host
         → host.pending ≡ [] → host.handle.begun ≡ None → host.world ≡ world_after (first_world (0x10000 + 32 * bundles) seats) before
-        → IsTurn (0x10000 + 32 * bundles) seats before host.handle.region turn → turn.events ≡ events ++ later
+        → host.steps ≡ word_steps before → IsTurn (0x10000 + 32 * bundles) seats before host.handle.region turn → turn.events ≡ events ++ later
         → GoesOn bundles seats host (record {
           handle = record host.handle { region = turn.region };
           world = world_after host.world events;
+          steps = host.steps ++ word_steps events;
           pending = writers later;
           called = writers turn.events;
         }) }

@@ -1,8 +1,7 @@
 -- A region after a chunk was deleted, and after retired chunks were reclaimed.
 use Rattle.std.specs.Prelude.{◌≡◌, ℕ, ◌+◌, ◌-◌, ◌^◌, ◌<◌, List, [], ◌∷◌, ◌++◌, length, map, replicate}
 use Rattle.std.specs.Prelude.{Contains, Some, slice_get, slice_set}
-use Rattle.nc_gens.specs.Rule.{generation_raised}
-use Rattle.nc_gens.specs.Seen.{HasLooked, least_number}
+use Rattle.nc_gens.specs.Seen.{HasRaised, HasLooked, least_number}
 use Rattle.nc_text.specs.MarkedText.{MarkedText, with_span, without_marks}
 use Rattle.nc_list.specs.declared.chunk.Chunk.{Chunk}
 use Rattle.nc_list.specs.declared.chunk.ChunkState.TheVariants.{Live, Retired}
@@ -32,7 +31,7 @@ pub record IsDeleted (old new : Region) (base stamp : ℕ) : Type 0 where
   pub stamp_is : stamp ≡ old.keeper.numbers.generation + 1
   pub bytes : new.marked.bytes ≡ with_span old.marked.bytes (base - 0x10000) (replicate chunk.length 0xF4)
   pub chunks : new.chunks ≡ slice_set old.chunks index (record chunk { state = Retired stamp })
-  pub keeper : new.keeper ≡ record old.keeper { numbers = generation_raised old.keeper.numbers }
+  pub keeper : HasRaised old.keeper new.keeper
   pub others : new ≡ record old {
     marked = record old.marked { bytes = new.marked.bytes };
     chunks = new.chunks;

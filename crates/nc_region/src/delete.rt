@@ -4,7 +4,7 @@ ghost use Rattle.std.specs.Prelude.{◌≡◌, ◌+◌, ◌-◌, ◌<◌, ◌^�
 ghost use Rattle.nc_text.specs.Places.{limit_of};
 ghost use Rattle.nc_text.specs.Ready.{AreReady};
 ghost use Rattle.nc_text.specs.MarkedText.{IsText, with_span};
-ghost use Rattle.nc_gens.specs.Rule.{generation_raised};
+ghost use Rattle.nc_gens.specs.Seen.{HasRaised};
 ghost use Rattle.nc_acts.specs.Log.{Logs, log_of_delete};
 ghost use Rattle.nc_acts.specs.Chunks.{HasGoodSpan};
 
@@ -21,7 +21,7 @@ pub(crate) fn put_stops<A: Acts>(acts: &mut A, base: u32, len: u32) -> u64
     ensures whole { IsText (A.marked acts.new) }
     ensures stamp { result ≡ (A.keeper acts.old).numbers.generation + 1 }
     ensures made { A.made acts.new ≡ A.made acts.old }
-    ensures keeper { A.keeper acts.new ≡ record (A.keeper acts.old) { numbers = generation_raised (A.keeper acts.old).numbers } }
+    ensures keeper { HasRaised (A.keeper acts.old) (A.keeper acts.new) }
     ensures log { Logs (A.logged acts.old) (A.logged acts.new) (log_of_delete (A.marked acts.old).marks base len) }
 {
     acts.stop_span(base, len);

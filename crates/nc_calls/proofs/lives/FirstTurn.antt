@@ -25,7 +25,9 @@ use Rattle.nc_calls.specs.Calls.{Details, no_details, create_events}
 use Rattle.nc_calls.specs.Histories.{NoneYet, Creates, Turn, IsTurn}
 use Rattle.nc_calls.specs.Example.{first_region, PutsSome, start_of, CreatesAround}
 use Rattle.nc_calls.proofs.Entries.{events_of}
-use Rattle.nc_calls.proofs.Knowing.{knows_as_much}
+use Rattle.nc_calls.specs.Steps.{word_steps}
+use Rattle.nc_calls.proofs.WordSteps.{steps_append, begins_with_none}
+use Rattle.nc_calls.proofs.CallSteps.{text_steps}
 use Rattle.nc_calls.proofs.lives.Refilled.{span_over, same_over, unused_over}
 use Rattle.nc_calls.proofs.lives.TextEvents.{own_of_text, own_before, may_before, may_of_text, create_first, create_second, create_parts}
 use Rattle.nc_calls.proofs.lives.TextEvents.{create_first_text, create_second_text}
@@ -85,6 +87,12 @@ own_created v =
     own_before (create_first v) (Enters 0 v.base ∷ create_second v) (create_first_text v)
     ∙ (ap (λ (z : List Event). create_first v ++ z) (own_of_text (create_second v) (create_second_text v)) ∙ sym (create_parts v))
 
+-- the events of the creation's turn take no step on the words
+pub creation_steps : (v : MarkedChunk) → word_steps (creation_events v) ≡ []
+creation_steps v =
+    steps_append (create_first v) (Enters 0 v.base ∷ create_second v)
+    ∙ (λ i. text_steps (create_first v) (create_first_text v) i ++ text_steps (create_second v) (create_second_text v) i)
+
 -- the world of the creation's turn before the thread enters
 stage_first : (v : MarkedChunk) → Stage v.limit (first_keeper_numbers 1) first_seat (world_after (first_world v.limit 1) (create_first v))
 stage_first v =
@@ -132,7 +140,7 @@ may_enter v valid =
 
 -- a keeper with the first numbers
 abbrev pub fresh : KeeperState → KeeperState
-fresh keeper = record keeper { numbers = first_keeper_numbers 1 }
+fresh keeper = record keeper { numbers = first_keeper_numbers 1; history = [] }
 
 -- a chunk inserted in the empty list
 insert_none : (k : ℕ) (c : Chunk) → insert [] k c ≡ c ∷ []
@@ -148,7 +156,7 @@ same_created v keeper created is =
       marked = created.marked;
       made = created.made;
       chunks = z;
-      keeper = record keeper { numbers = first_keeper_numbers 1 };
+      keeper = record keeper { numbers = first_keeper_numbers 1; history = [] };
       logged = created.logged;
     } in r) (is.chunks.2 ∙ insert_none is.chunks.0 (live_chunk v))
 
@@ -167,8 +175,7 @@ pub creation_is_turn : (v : MarkedChunk) (keeper : KeeperState) (created : Regio
 creation_is_turn v keeper created valid is = record {
   call = Creates v valid (same_limit v valid) is [] NoneYet (own_created v);
   threads = may_enter v valid;
-  keeper = knows_as_much created.keeper.numbers (world_after (first_world v.limit 1) (creation_events v)).keeper
-      (ap (λ (x : World). x.keeper) (stage_created v).is ∙ sym (ap (λ (r : Region). r.keeper.numbers) is.others));
+  order = λ made later parts some none. begins_with_none (word_steps made) created.keeper.history (ap (λ (r : Region). r.keeper.history) is.others);
 }
 
 -- the turn of the creation stands around the thread's entering

@@ -8,9 +8,9 @@ use Rattle.nc_text.specs.Machine.{State, Joined}
 use Rattle.nc_text.specs.MarkedText.{MarkedText, with_span, unused_text}
 use Rattle.nc_text.proofs.Offered.{length-with_span}
 use Rattle.nc_gens.specs.Rule.{first_keeper_numbers}
-use Rattle.nc_gens.specs.Seen.{KeeperState}
+use Rattle.nc_gens.specs.Seen.{KeeperState, first_keeper}
 use Rattle.nc_list.specs.declared.chunk.Chunk.{Chunk}
-use Rattle.nc_region.specs.schedules.World.{World, first_world}
+use Rattle.nc_region.specs.schedules.World.{first_world}
 use Rattle.nc_region.specs.schedules.Events.{world_after}
 use Rattle.nc_region.specs.Region.{Region, IsCreated, live_chunk}
 use Rattle.nc_region.specs.Patch.{IsPatch, log_of_modify}
@@ -20,15 +20,17 @@ use Rattle.nc_calls.specs.Calls.{modify_events}
 use Rattle.nc_calls.specs.Histories.{NoneYet, Patches, Turn, IsTurn}
 use Rattle.nc_calls.specs.Example.{first_region, start_of, PatchesAt}
 use Rattle.nc_calls.proofs.AllTurns.{text_at_end}
-use Rattle.nc_calls.proofs.Knowing.{knows_as_much}
+use Rattle.nc_calls.specs.Steps.{word_steps}
+use Rattle.nc_calls.proofs.WordSteps.{steps_append, begins_with_none}
+use Rattle.nc_calls.proofs.CallSteps.{text_steps}
 use Rattle.nc_calls.proofs.lives.Refilled.{span_over}
 use Rattle.nc_calls.proofs.lives.TextEvents.{own_of_text, may_of_text, modify_text}
 use Rattle.nc_calls.proofs.lives.OneSeat.{Stage, stage_of_text, seat_in}
 use Rattle.nc_calls.proofs.lives.LastTurns.{with_live, Ended, Begun, ended}
-use Rattle.nc_calls.proofs.lives.FirstTurn.{creation_events, stage_created, fresh, same_created, creation_turn, creation_is_turn}
+use Rattle.nc_calls.proofs.lives.FirstTurn.{creation_events, creation_steps, stage_created, fresh, same_created, creation_turn, creation_is_turn}
 use Rattle.nc_calls.proofs.lives.FirstTurn.{lies_in, bytes_back, marks_back}
 use Rattle.nc_calls.proofs.RetiredSpans.{one_is}
-use Rattle.nc_calls.proofs.lives.WithoutPatch.{HasLives, history_of, life_of, same_keeper}
+use Rattle.nc_calls.proofs.lives.WithoutPatch.{HasLives, history_of, life_of}
 
 -- the patch lies in the chunk
 patch_lies : (v : MarkedChunk) (keeper : KeeperState) (created : Region) (at : ℕ) (bytes : List ℕ) → IsValid v
@@ -90,11 +92,7 @@ patch_is_turn v keeper created at bytes is lawful =
           (modify_text created.marked.bytes at lawful.1.2.0.run.news));
       threads = may_of_text (world_after (first_world v.limit 1) (creation_events v))
           (modify_events created.marked.bytes at lawful.1.2.0.run.news) (modify_text created.marked.bytes at lawful.1.2.0.run.news);
-      keeper = knows_as_much created.keeper.numbers
-          (world_after (first_world v.limit 1)
-          (creation_events v ++ modify_events created.marked.bytes at lawful.1.2.0.run.news)).keeper
-          (ap (λ (x : World). x.keeper) (stage_patched v created.marked.bytes at lawful.1.2.0.run.news).is
-          ∙ sym (ap (λ (r : Region). r.keeper.numbers) is.others));
+      order = λ made later parts some none. begins_with_none (word_steps (creation_events v ++ made)) created.keeper.history (ap (λ (r : Region). r.keeper.history) is.others);
     }
 
 -- the bytes of the patched chunk, set to stops, are those of the unused text
@@ -126,6 +124,9 @@ begun_patched v keeper created at bytes valid is lawful =
     record {
       stage = stage_patched v created.marked.bytes at lawful.1.2.0.run.news;
       text_is = ap (λ (m : MarkedText). m.bytes) stands.marked;
+      steps = steps_append (creation_events v) (modify_events created.marked.bytes at lawful.1.2.0.run.news)
+          ∙ (λ i. creation_steps v i ++ text_steps (modify_events created.marked.bytes at lawful.1.2.0.run.news)
+          (modify_text created.marked.bytes at lawful.1.2.0.run.news) i);
     }
 
 -- the region after the patch, by its parts
@@ -177,13 +178,13 @@ HasPatchedLife v created at bytes keeper =
 
 -- each valid chunk has a life with any lawful patch
 pub lives_patched : (v : MarkedChunk) (keeper : KeeperState) (created : Region) (at : ℕ) (bytes : List ℕ) → IsValid v
-    → keeper.numbers ≡ first_keeper_numbers 1 → IsCreated (first_region v.limit keeper) created v → IsPatch created at bytes
+    → keeper ≡ first_keeper keeper.table 1 → IsCreated (first_region v.limit keeper) created v → IsPatch created at bytes
     → (creation patch : Turn) × (creation.region ≡ created) × PatchesAt created at bytes patch
     × HasLives v keeper creation (patch ∷ []) patch.region.marked.bytes
 lives_patched v keeper created at bytes valid first is lawful =
     let new : IsCreated (first_region v.limit (fresh keeper)) created v =
-    subst (λ (k : KeeperState). IsCreated (first_region v.limit k) created v) (sym (same_keeper keeper first)) is in
-    subst (HasPatchedLife v created at bytes) (same_keeper keeper first) (
+    subst (λ (k : KeeperState). IsCreated (first_region v.limit k) created v) first is in
+    subst (HasPatchedLife v created at bytes) (sym first) (
       creation_turn v created,
       patch_turn created at bytes lawful,
       refl,

@@ -7,9 +7,8 @@ use Rattle.nc_vet.specs.Chunk.{MarkedChunk, IsValid}
 use Rattle.nc_text.specs.Machine.{State, Joined}
 use Rattle.nc_text.specs.MarkedText.{MarkedText}
 use Rattle.nc_text.specs.Ready.{unmade_pages}
-use Rattle.nc_gens.specs.declared.view.KeeperNumbers.{KeeperNumbers}
-use Rattle.nc_gens.specs.Rule.{first_keeper_numbers}
-use Rattle.nc_gens.specs.Seen.{KeeperState}
+use Rattle.nc_gens.specs.Seen.{KeeperState, first_keeper}
+use Rattle.nc_gens.proofs.Offered.{no_steps}
 use Rattle.nc_region.specs.schedules.Events.{Event}
 use Rattle.nc_region.specs.Region.{Region, IsCreated}
 use Rattle.nc_region.proofs.Offered.{created_region, created_at, pages_made, pages_get_ready}
@@ -17,9 +16,8 @@ use Rattle.nc_calls.specs.Interleaving.{IsKeepers}
 use Rattle.nc_calls.specs.Histories.{Turn, AreTurns, IsHistory, happened, region_at_end}
 use Rattle.nc_calls.specs.Example.{first_region, start_of, last_of, ThreadIsIn, IsLife}
 use Rattle.nc_calls.proofs.AllTurns.{text_at_end}
-use Rattle.nc_calls.proofs.Knowing.{knows_as_much}
 use Rattle.nc_calls.proofs.lives.LastTurns.{Ended, Begun, ended}
-use Rattle.nc_calls.proofs.lives.FirstTurn.{creation_events, stage_created, fresh, same_created, creation_turn, creation_is_turn, creates_around}
+use Rattle.nc_calls.proofs.lives.FirstTurn.{creation_events, creation_steps, stage_created, fresh, same_created, creation_turn, creation_is_turn, creates_around}
 use Rattle.nc_calls.proofs.lives.FirstTurn.{lies_in, bytes_back, marks_back}
 
 -- the chunk has a life along each path through this text that begins at its base
@@ -34,7 +32,8 @@ history_of v keeper turns valid are = record {
   lawful = valid.range.0;
   keepers = All-nil IsKeepers;
   threads = tt;
-  keeper = knows_as_much (first_keeper_numbers 1) (first_keeper_numbers 1) refl;
+  keeper = no_steps (fresh keeper) (fresh keeper) refl;
+  order = λ _. ([], refl);
   in_range = omega arith;
   marked = refl;
   chunks = refl;
@@ -68,7 +67,7 @@ begun_created : (v : MarkedChunk) (keeper : KeeperState) (created : Region) → 
 begun_created v keeper created valid is =
     let h = history_of v keeper (creation_turn v created ∷ []) valid (creation_is_turn v keeper created valid is, tt) in
     let stands = text_at_end v.limit 1 [] (first_region v.limit (fresh keeper)) (creation_turn v created ∷ []) h in
-    record { stage = stage_created v; text_is = ap (λ (m : MarkedText). m.bytes) stands.marked }
+    record { stage = stage_created v; text_is = ap (λ (m : MarkedText). m.bytes) stands.marked; steps = creation_steps v }
 
 -- the last turns after the creation
 ended_created : (v : MarkedChunk) (keeper : KeeperState) (created : Region) → IsValid v
@@ -100,17 +99,13 @@ created_first v keeper valid =
           (omega (arith, pages, lies_in v valid))),
     )
 
--- the numbers of a keeper are its first ones
-pub same_keeper : (keeper : KeeperState) → keeper.numbers ≡ first_keeper_numbers 1 → fresh keeper ≡ keeper
-same_keeper keeper first = ap (λ (n : KeeperNumbers). record keeper { numbers = n }) (sym first)
-
 -- what is to be shown of each chunk, for a keeper
 abbrev HasLife : MarkedChunk → KeeperState → Type 0
 HasLife v keeper = (creation : Turn) × HasLives v keeper creation [] creation.region.marked.bytes
 
 -- each valid chunk has a life
-pub lives : (v : MarkedChunk) (keeper : KeeperState) → IsValid v → keeper.numbers ≡ first_keeper_numbers 1
+pub lives : (v : MarkedChunk) (keeper : KeeperState) → IsValid v → keeper ≡ first_keeper keeper.table 1
     → (creation : Turn) × HasLives v keeper creation [] creation.region.marked.bytes
 lives v keeper valid first =
     let c = created_first v keeper valid in
-    subst (HasLife v) (same_keeper keeper first) (creation_turn v c.0, life_created v keeper c.0 valid c.1)
+    subst (HasLife v) (sym first) (creation_turn v c.0, life_created v keeper c.0 valid c.1)

@@ -1,16 +1,19 @@
 -- The initial views, and the views that splits and joins make.
-use Rattle.std.specs.Prelude.{ℕ, ◌+◌, true, false}
+use Rattle.std.specs.Prelude.{ℕ, ◌+◌, true, false, []}
 use Rattle.nc_gens.specs.declared.view.View.{View}
 use Rattle.nc_gens.specs.Rule.{first_pass_numbers, first_keeper_numbers}
 
 -- the keeper's view once it has given out the passes of the seats below i
 abbrev pub giving_view : ℕ → ℕ → View
 giving_view seats i = record {
+  seats = seats;
   is_pass = false;
   seat = 0;
   pass = first_pass_numbers;
+  pass_history = [];
   is_keeper = true;
   keeper = first_keeper_numbers seats;
+  keeper_history = [];
   given = i;
 }
 
@@ -24,13 +27,12 @@ given_one_more v = record v { given = v.given + 1 }
 
 -- the view of the pass that the keeper gives out next
 abbrev pub new_pass_view : View → View
-new_pass_view v = record {
+new_pass_view v = record v {
   is_pass = true;
   seat = v.given;
   pass = first_pass_numbers;
+  pass_history = [];
   is_keeper = false;
-  keeper = v.keeper;
-  given = v.given;
 }
 
 -- the view without its pass
@@ -43,7 +45,7 @@ without_keeper v = record v { is_keeper = false }
 
 -- the view with the pass of the other view
 abbrev pub with_pass_of : View → View → View
-with_pass_of v other = record v { is_pass = other.is_pass; seat = other.seat; pass = other.pass }
+with_pass_of v other = record v { is_pass = other.is_pass; seat = other.seat; pass = other.pass; pass_history = other.pass_history }
 
 -- the view with neither pass nor keeper
 abbrev pub spent_view : View

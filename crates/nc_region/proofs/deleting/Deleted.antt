@@ -17,7 +17,7 @@ use Rattle.nc_list.specs.Chunks.{IsRetired}
 use Rattle.nc_list.proofs.Offered.{each_get, each_set, each_set_but, each_at_set, each_unset}
 use Rattle.nc_acts.specs.Chunks.{HasGoodSpan}
 use Rattle.nc_region.specs.Each.{Each}
-use Rattle.nc_gens.specs.Rule.{generation_raised}
+use Rattle.nc_gens.specs.Seen.{HasRaised}
 use Rattle.nc_acts.specs.Acts.{acts_of_delete}
 use Rattle.nc_acts.specs.Log.{Logs, log_of_delete}
 use Rattle.nc_region.specs.Deletion.{IsDeleted}
@@ -189,7 +189,7 @@ abbrev pub deleted_is : (old new : Region) (k base stamp : ℕ) (chunk : Chunk) 
     → chunk.base ≡ base → old.keeper.numbers.generation < 4611686018427387904 → stamp ≡ old.keeper.numbers.generation + 1
     → new.marked.bytes ≡ with_span old.marked.bytes (base - 65536) (replicate chunk.length 244) → new.marked.marks ≡ old.marked.marks
     → new.made ≡ old.made → new.chunks ≡ set old.chunks k (record chunk { state = Retired stamp })
-    → new.keeper ≡ record old.keeper { numbers = generation_raised old.keeper.numbers }
+    → HasRaised old.keeper new.keeper
     → Logs old.logged new.logged (log_of_delete old.marked.marks base chunk.length) → IsDeleted old new base stamp
 deleted_is old new k base stamp chunk listed live base_is room stamp_is bytes marks made chunks keeper log =
     record {

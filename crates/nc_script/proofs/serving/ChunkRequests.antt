@@ -83,8 +83,8 @@ deleted_follows old new base stamp is d state seats freed fits =
     let placed = each_contains _ old.chunks d.chunk is.placed listed in
     let span_fits : base - 0x10000 + length stops ≤ length text =
     omega (arith, length-replicate {A = ℕ} d.chunk.length 0xF4, d.base_is, placed.low, placed.high) in
-    let now : new.keeper.numbers.generation ≡ generation + 1 = ap (λ (k : KeeperState). k.numbers.generation) d.keeper in
-    let bounds : new.keeper.numbers.bounds ≡ old.keeper.numbers.bounds = ap (λ (k : KeeperState). k.numbers.bounds) d.keeper in
+    let now : new.keeper.numbers.generation ≡ generation + 1 = ap (λ (k : KeeperState). k.numbers.generation) d.keeper.others in
+    let bounds : new.keeper.numbers.bounds ≡ old.keeper.numbers.bounds = ap (λ (k : KeeperState). k.numbers.bounds) d.keeper.others in
     let limit : limit_of new.marked.bytes ≡ limit_of text =
     ap limit_of d.bytes ∙ ap (λ (n : ℕ). 0x10000 + n) (length-with_span text (base - 0x10000) stops span_fits) in
     let chunks : map (script_chunk new.marked.bytes) new.chunks ≡ map (retired_at base (generation + 1)) (map (script_chunk text) old.chunks) =

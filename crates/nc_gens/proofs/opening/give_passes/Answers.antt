@@ -2,7 +2,7 @@ use Rattle.std.proofs.Common.{rules, arith, ◌≡◌, All, length, sym, ap, ◌
 use Rattle.std.proofs.lemmas.Result.{IfOk-from_err}
 use lib.ListN.{length-replicate}
 use Rattle.nc_gens.proofs.FirstTable.{length-new_passes, tables-new_passes}
-use Rattle.nc_gens.proofs.HandingOver.{gives_pass}
+use Rattle.nc_gens.proofs.HandingHistory.{gives_pass_recorded}
 use Rattle.nc_gens.proofs.opening.give_passes.Goals as goal
 
 pub split_seat-token-requires : goal.split_seat-token-requires
@@ -12,7 +12,7 @@ split_seat-token-requires c =
     let long : length c.loop-seat.keeper.me.0.keeper.bounds ≡ c.args.seats = ap (λ m. length m.0.keeper.bounds) me
     ∙ length-replicate c.args.seats 0 in
     let given : c.loop-seat.keeper.me.0.given ≡ c.loop-seat.seat = ap (λ m. m.0.given) me in
-    (search rules, search rules, gives_pass _ _ (ap (λ m. m.0.is_pass) me) (ap (λ m. m.0.is_keeper) me) (omega arith))
+    (search rules, search rules, gives_pass_recorded _ _ (ap (λ m. m.0.is_pass) me) (ap (λ m. m.0.is_keeper) me) (omega arith))
 
 pub returns-in_err-push-clause-passes : goal.returns-in_err-push-clause-passes
 returns-in_err-push-clause-passes c = IfOk-from_err _ _ c.from_residual-in_err-push.ensures.0

@@ -1,6 +1,6 @@
 use Rattle.std.proofs.Common.{rules}
-use Rattle.nc_gens.proofs.FirstTable.{starts}
+use Rattle.nc_gens.proofs.HandingHistory.{starts_recorded}
 use Rattle.nc_gens.proofs.opening.lay_words.Goals as goal
 
 pub of_words-requires : goal.of_words-requires
-of_words-requires c = starts c.args.seats c.as_slice.result.now (search rules)
+of_words-requires c = starts_recorded c.args.seats c.as_slice.result.now (search rules)

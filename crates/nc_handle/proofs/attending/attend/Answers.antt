@@ -1,4 +1,9 @@
-use Rattle.std.proofs.Common.{◌<◌, ◌≤◌, ℕ, length, get_or, arith, sym, subst, ◌∙◌}
+use Rattle.std.proofs.Common.{◌<◌, ◌≤◌, ℕ, List, [], ◌∷◌, length, get_or, arith, sym, subst, ◌∙◌}
+use Rattle.std.proofs.lemmas.List.{take_all}
+use Rattle.nc_gens.specs.declared.view.WordStep.TheVariants.{TookWord}
+use Rattle.nc_gens.specs.Seen.{PassState, KeeperSteps}
+use Rattle.nc_calls.specs.Steps.{word_steps}
+use Rattle.nc_handle.specs.RegionHandle.{meetings}
 use Rattle.nc_handle.proofs.Attended.{attended_next, attended_all}
 use Rattle.nc_handle.proofs.attending.attend.Goals as goal
 
@@ -13,11 +18,18 @@ loop-i-preserved c =
     (subst (λ (n : ℕ). n < length c.attend_one.new.region.keeper.numbers.bounds) (sym c.attend_one.ensures.same.1) c.attend_one.ensures.inside)
     (subst (λ (n : ℕ). c.loop-i.region.keeper.numbers.generation ≤ get_or c.attend_one.new.region.keeper.numbers.bounds n 0)
     (sym c.attend_one.ensures.same.1) c.attend_one.ensures.bound)
+    (subst (λ (n : ℕ). KeeperSteps c.loop-i.region.keeper c.attend_one.new.region.keeper (TookWord n ∷ TookWord n ∷ []))
+    (sym c.attend_one.ensures.same.1) c.attend_one.ensures.steps)
 
 pub returns-clause-outside : goal.returns-clause-outside
 returns-clause-outside c =
     attended_all c.args.gens.now c.args.region.now c.args.passes.now c.loop-i.region c.loop-i.passes c.loop-i.i c.loop-i.invariant
     (omega (arith, c.loop-i-test.false, c.loop-i.invariant.as_many))
+
+pub returns-clause-steps : goal.returns-clause-steps
+returns-clause-steps c =
+    subst (λ (l : List PassState). KeeperSteps c.args.region.now.keeper c.loop-i.region.keeper (word_steps (meetings l)))
+    (take_all c.loop-i.i c.args.passes.now (omega (arith, c.loop-i-test.false, c.loop-i.invariant.as_many))) c.loop-i.invariant.steps
 
 pub returns-clause-unmet : goal.returns-clause-unmet
 returns-clause-unmet c = c.loop-i.invariant.unmet

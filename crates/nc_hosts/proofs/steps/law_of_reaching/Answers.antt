@@ -1,4 +1,4 @@
-use Rattle.nc_hosts.proofs.Going.{makes_next, loads, patches, begins, again, restarts, anew, ends, looks, reclaims, asks, fails, runs}
+use Rattle.nc_hosts.proofs.Going.{makes_next, loads, patches, begins, again, restarts, anew, ends, calls, reclaims, asks, fails, runs}
 use Rattle.nc_hosts.proofs.Making.{create_hosts, modify_hosts, buffer_hosts}
 use Rattle.nc_hosts.proofs.steps.law_of_reaching.Goals as goal
 
@@ -32,8 +32,8 @@ returns-clause-anew c = anew
 pub returns-clause-ends : goal.returns-clause-ends
 returns-clause-ends c = ends
 
-pub returns-clause-looks : goal.returns-clause-looks
-returns-clause-looks c = looks
+pub returns-clause-calls : goal.returns-clause-calls
+returns-clause-calls c = calls
 
 pub returns-clause-reclaims : goal.returns-clause-reclaims
 returns-clause-reclaims c = reclaims

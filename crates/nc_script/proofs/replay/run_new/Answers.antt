@@ -10,7 +10,7 @@ use Rattle.nc_lines.specs.Answering.{IsAnswered, IsBegun, IsCutShort}
 use Rattle.nc_script.specs.Answers.{AnswersOnly, new_script}
 use Rattle.nc_script.specs.Run.{HasAnswered}
 use Rattle.nc_script.specs.Script.{ScriptSeat, Staying}
-use Rattle.nc_script.specs.machinery.Session.{SessionOf, SessionState, FollowsLine}
+use Rattle.nc_script.specs.machinery.Session.{SessionOf, FollowsLine}
 use Rattle.nc_script.proofs.seating.FirstState.{begins_run}
 use Rattle.nc_script.proofs.serving.Carried.{answered_script, begun_script, cut_script}
 use Rattle.nc_script.proofs.replay.run_new.Goals as goal

@@ -1,5 +1,5 @@
 use Rattle.std.proofs.Common.{rules, arith}
-use Rattle.nc_gens.proofs.StepsKeep.{adds_one}
+use Rattle.nc_gens.proofs.Recording.{adds_one}
 use Rattle.nc_gens.proofs.table.Gens.bump.Goals as goal
 
 pub fetch_add-requires : goal.fetch_add-requires

@@ -1,6 +1,6 @@
 use Rattle.std.proofs.Common.{rules, arith, length, ap}
 use Rattle.std.proofs.lemmas.Grind.{common_steps}
-use Rattle.nc_gens.proofs.StepsKeep.{takes_word}
+use Rattle.nc_gens.proofs.Recording.{takes_word}
 use Rattle.nc_gens.proofs.table.Gens.look_at.Goals as goal
 
 pub load-found-requires : goal.load-found-requires

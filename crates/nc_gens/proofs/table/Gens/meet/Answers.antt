@@ -1,14 +1,14 @@
 use Rattle.std.proofs.Common.{rules, arith, ◌≡◌, true, false, length, ap, ◌∙◌, sym, length-set}
 use Rattle.std.proofs.lemmas.Grind.{common_steps}
-use Rattle.nc_gens.proofs.StepsKeep.{sees_generation, takes_word}
-use Rattle.nc_gens.proofs.HandingOver.{passes_out, passes_in}
+use Rattle.nc_gens.proofs.Recording.{sees_generation, takes_word}
+use Rattle.nc_gens.proofs.HandingHistory.{passes_out_recorded, passes_in_recorded}
 use Rattle.nc_gens.proofs.table.Gens.meet.Goals as goal
 
 pub split_seat-lent-requires : goal.split_seat-lent-requires
 split_seat-lent-requires c = (
   search rules,
   search rules,
-  passes_out _ _ c.pass.invariant.is_pass (λ h. let no : false ≡ true = sym c.pass.invariant.alone ∙ h in cc),
+  passes_out_recorded _ _ c.pass.invariant.is_pass (λ h. let no : false ≡ true = sym c.pass.invariant.alone ∙ h in cc),
 )
 
 pub join_seat-requires : goal.join_seat-requires
@@ -18,17 +18,19 @@ join_seat-requires c =
       search rules,
       ap (λ m. m.1) lent,
       search rules,
-      passes_in _ _ _ _ c.keeper.invariant.alone (ap (λ m. m.0.is_pass) lent ∙ c.pass.invariant.is_pass) (ap (λ m. m.0.is_keeper) lent),
+      passes_in_recorded _ _ _ _ c.keeper.invariant.alone c.keeper.invariant.is_keeper (ap (λ m. m.0.is_pass) lent ∙ c.pass.invariant.is_pass) (ap (λ m. m.0.is_keeper) lent),
     )
 
 pub load-requires : goal.load-requires
 load-requires c =
     let lent = c.split_seat-lent.ensures.4 in
-    let joint = c.join_seat.ensures.2 in (
+    let joint = c.join_seat.ensures.2 in
+    let given = ap (λ m. m.0.given) joint in
+    let all = c.keeper.invariant.all_given in
+    let long = ap (λ m. length m.0.keeper.bounds) joint ∙ ap length c.keeper.invariant.bounds_are in (
       search rules,
       search rules,
-      sees_generation _ _ _ (ap (λ m. m.0.is_pass) joint
-          ∙ (ap (λ m. m.0.is_pass) lent ∙ c.pass.invariant.is_pass)),
+      sees_generation _ _ _ (ap (λ m. m.0.is_pass) joint ∙ (ap (λ m. m.0.is_pass) lent ∙ c.pass.invariant.is_pass)) (λ _. omega arith),
     )
 
 pub load-found-requires : goal.load-found-requires
@@ -63,7 +65,7 @@ split_seat-requires c =
     ap (λ m. length m.0.keeper.bounds) found ∙ length-set c.load.new.seat.me.0.keeper.bounds _ _ in (
       search rules,
       search rules,
-      passes_out _ _ (ap (λ m. m.0.is_pass) found
+      passes_out_recorded _ _ (ap (λ m. m.0.is_pass) found
           ∙ (ap (λ m. m.0.is_pass) after ∙ (ap (λ m. m.0.is_pass) joint ∙ (ap (λ m. m.0.is_pass) lent ∙ c.pass.invariant.is_pass))))
           (λ _. omega arith),
     )

@@ -1,5 +1,5 @@
 use Rattle.std.proofs.Common.{rules, arith, ◌+◌, ap, refl}
-use Rattle.nc_gens.proofs.StepsKeep.{stores_left}
+use Rattle.nc_gens.proofs.Recording.{stores_left}
 use Rattle.nc_gens.proofs.table.Gens.store_left.Goals as goal
 
 pub store-requires : goal.store-requires

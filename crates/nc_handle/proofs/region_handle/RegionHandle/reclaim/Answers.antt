@@ -1,7 +1,8 @@
 use Rattle.std.proofs.Common.{◌≡◌, ◌≤◌, ◌^◌, List, [], ◌∷◌, ap, arith, rules}
 use Rattle.std.specs.Prelude.{All}
 use Rattle.std.proofs.lemmas.List.Elements.{All-nil, All-cons}
-use Rattle.nc_gens.specs.Seen.{PassState}
+use Rattle.nc_gens.specs.Seen.{PassState, KeeperSteps}
+use Rattle.nc_calls.specs.Steps.{word_steps}
 use Rattle.nc_region.specs.Region.{Region}
 use Rattle.nc_region.specs.schedules.Events.{Looks}
 use Rattle.nc_calls.specs.Interleaving.{IsKeepers}
@@ -24,6 +25,8 @@ pub returns-clause-reclaimed : goal.returns-clause-reclaimed
 returns-clause-reclaimed c =
     let same : c.attend.new.region ≡ record c.args.self.now.region { keeper = c.attend.new.region.keeper } = search rules in
     let low : c.attend.new.region.keeper.numbers.generation ≤ 2 ^ 62 = grind (arith, common_steps) in
+    let steps : KeeperSteps c.args.self.now.region.keeper c.attend.new.region.keeper (word_steps (meetings c.args.self.now.passes)) =
+    search rules in
     record {
       none = search rules;
       met = c.attend.new.region;
@@ -32,7 +35,7 @@ returns-clause-reclaimed c =
       raised = search rules;
       unmet = search rules;
       meets = λ seats. UsesKeeper (ap (λ (r : Region). r.marked) same) (ap (λ (r : Region). r.chunks) same)
-          (all_keepers c.args.self.now.passes) low;
+          (all_keepers c.args.self.now.passes) steps low;
       reclaimed = search rules;
       call = c.reclaim.ensures.call;
       outside = grind (arith, common_steps);
