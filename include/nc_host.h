@@ -391,8 +391,9 @@ NcChange nc_region_deletion_runs(NcRegion *region, NcAct *acts, size_t acts_len)
 /* Checks in for seats that nobody was given, looks at each seat, and removes retired chunks. Their spans may be reused, and keep only the
    marks of bundle starts.
    Promised: exactly the `count` retired chunks that no seat holds back, according to the looks, are removed, in two calls of a history
-   (HasReclaimed) [reclaimed]. Only looks and freed spans are pending, which the library has made (DoesItself) [pending]. A look finds a
-   seat's last check-in, or that it was left [tested].
+   (HasReclaimed) [reclaimed]. A look finds a seat's last check-in before it, or that it was left (HasFound) [reclaimed]. A chunk is removed
+   if each seat that was given has checked in since its deletion, or was left, at some moment before the looks (HasFreedPassed)
+   [reclaimed]. Only looks and freed spans are pending, which the library has made (DoesItself) [pending].
    Refused: NC_UNDER_WAY [refused, unchanged]. */
 NcCount nc_region_reclaim(NcRegion *region);
 

@@ -123,7 +123,7 @@ first_knows limit seats first r turns h =
     (subst (KeeperSteps (first_keeper r.keeper.table seats) r.keeper) (sym (all_keepers (writers first) h.keepers)) h.keeper) h.order
 
 -- a whole history keeps what each turn does (`Stays`)
-history_stays : (limit seats : ℕ) (first : List Event) (r : Region) (turns : List Turn) → IsHistory limit seats first r turns
+pub history_stays : (limit seats : ℕ) (first : List Event) (r : Region) (turns : List Turn) → IsHistory limit seats first r turns
     → Stays limit seats (happened first turns) (region_at_end r turns)
 history_stays limit seats first r turns h =
     let k = first_knows limit seats first r turns h in

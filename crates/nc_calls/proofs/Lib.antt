@@ -36,3 +36,4 @@ pub mod AllTurns
 pub mod LoggedCalls
 pub mod lives
 pub mod Offered
+pub mod Progressing

@@ -2,7 +2,7 @@
 use Rattle.std.proofs.Common.{◌≡◌, ℕ, zero, suc, List, [], ◌∷◌, ◌++◌, filter, length, map, replicate, get_or, set, ◌⊎◌, inl, inr, refl, sym, ap, subst, ◌∙◌}
 use Rattle.std.specs.Prelude.{All}
 use Rattle.std.proofs.lemmas.Grind.{flat_map-append}
-use Rattle.std.proofs.lemmas.List.{length-replicate, map-set}
+use Rattle.std.proofs.lemmas.List.{length-map, length-replicate, map-set}
 use Rattle.std.proofs.lemmas.List.Elements.{filter-append, All-nil, All-cons, All-head, All-tail}
 use Rattle.std.proofs.Math.ListN.{get_or-map}
 use Rattle.std.proofs.Math.Seq.{map-set_same}
@@ -12,7 +12,7 @@ use Rattle.nc_gens.specs.declared.view.WordStep.TheVariants.{AddedOne, TookWord}
 use Rattle.nc_gens.specs.Rule.{first_pass_numbers, generation_taken, generation_seen, since_stored, left_stored, generation_raised, word_taken}
 use Rattle.nc_gens.specs.History.{AllNumbers, BeginsWith, is_by_keeper, numbers_after_all, numbers_by, pass_in}
 use Rattle.nc_gens.specs.Seen.{KeeperState, KeeperSteps, IsLedTo, first_keeper}
-use Rattle.nc_gens.proofs.Offered.{after_both, IsNoTake, same_raises, keeper_untouched}
+use Rattle.nc_gens.proofs.Offered.{as_many_by, after_both, IsNoTake, same_raises, keeper_untouched}
 use Rattle.nc_region.specs.schedules.World.{Seat, World, first_seat, first_world, seat_at}
 use Rattle.nc_region.specs.schedules.Events.{Event, Steps, Enters, Exits, Takes, Sees, Stores, Leaves, Puts, Serializes, Marks, Bumps, Retires, Frees}
 use Rattle.nc_region.specs.schedules.Events.{Looks, after, world_after}
@@ -92,6 +92,20 @@ matches_first limit seats = record { keeper = refl; passes = copies seats }
     copies zero = refl
     copies (suc k) = ap (λ (l : List PassNumbers). first_pass_numbers ∷ l) (copies k)
 
+-- the pass of each seat has the numbers that the steps of the events lead to
+pub pass_after : (limit seats : ℕ) (events : List Event) (k : ℕ)
+    → (seat_at (world_after (first_world limit seats) events) k).pass ≡ pass_in (numbers_by seats (word_steps events)) k
+pass_after limit seats events k =
+    one_pass (world_after (first_world limit seats) events) (numbers_by seats (word_steps events)) k
+    (matches_all (first_world limit seats) (numbers_by seats []) events (matches_first limit seats))
+
+-- a world keeps its seats
+pub as_many_seats : (limit seats : ℕ) (events : List Event) → length (world_after (first_world limit seats) events).seats ≡ seats
+as_many_seats limit seats events =
+    sym (length-map (world_after (first_world limit seats) events).seats pass_of)
+    ∙ (ap length (matches_all (first_world limit seats) (numbers_by seats []) events (matches_first limit seats)).passes
+    ∙ as_many_by seats (word_steps events))
+
 -- ---- what a keeper knows
 
 -- a list with which nothing is added is empty
@@ -137,7 +151,7 @@ looks_or_not (event ∷ events) =
     ]
 
 -- where the writer looks at no word, its keeper loads none
-takes_none : (events : List Event) → All IsNoLook (writers events) → All IsNoTake (filter is_by_keeper (word_steps events))
+pub takes_none : (events : List Event) → All IsNoLook (writers events) → All IsNoTake (filter is_by_keeper (word_steps events))
 takes_none [] none = All-nil IsNoTake
 takes_none (Steps k next ∷ events) none = takes_none events none
 takes_none (Enters k at ∷ events) none = takes_none events none

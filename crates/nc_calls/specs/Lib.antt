@@ -5,3 +5,4 @@ pub mod Calls
 pub mod Histories
 pub mod Whole
 pub mod Example
+pub mod Progress

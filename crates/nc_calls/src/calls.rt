@@ -12,7 +12,7 @@ ghost use Rattle.nc_list.specs.declared.chunk.Chunk.{Chunk};
 ghost use Rattle.nc_acts.specs.Log.{Logs, log_of_create};
 ghost use Rattle.nc_region.specs.Region.{IsCreated, IsRefused, MayRefuse, Meets};
 ghost use Rattle.nc_region.specs.Patch.{AreBytesOf, IsPatch, IsModified, MayRefusePatch, log_of_modify};
-ghost use Rattle.nc_region.specs.Deletion.{IsDeleted, MayRefuseDelete, IsReclaimed};
+ghost use Rattle.nc_region.specs.Deletion.{IsDeleted, MayRefuseDelete, IsReclaimed, HasProgressed};
 ghost use Rattle.nc_region.specs.schedules.Events.{Event};
 ghost use Rattle.nc_region.specs.Quiet.{retired_spans};
 ghost use Rattle.nc_calls.specs.Calls.{no_details};
@@ -80,6 +80,7 @@ pub fn delete<A: Acts + Drop>(region: &mut RegionOf<A>, base: u32) -> Result<u64
 pub fn reclaim<A: Acts + Drop>(region: &mut RegionOf<A>) -> u32
     // As `RegionOf::reclaim` ensures it.
     ensures reclaimed { IsReclaimed region.old region.new result }
+    ensures progress { HasProgressed region.new }
     ensures call { (seats : ℕ)
         → LogsCall seats (record no_details { seats = seats; spans = retired_spans region.old.chunks }) region.old region.new }
 {

@@ -14,6 +14,8 @@
 //! [`law_of_example`] says that histories exist: each valid chunk has one in which it is created, perhaps patched, deleted and
 //! freed, with a thread in it.
 //!
+//! [`law_of_progress`] says that a reclaim frees each chunk whose stamp every seat has passed: it has checked in since, or has left.
+//!
 //! [`create`], [`modify`], [`delete`], [`reclaim`] and [`meet`] make these calls of a region, and their contracts say that the
 //! logged entries are a call of a history. Nobody has to compare `IsCall`, the calls that the laws are about, with the
 //! contracts of `nc_region`. A host calls the region itself: these functions do the same and promise nothing more.
@@ -22,21 +24,25 @@
 //! law_of_histories();   // does nothing; what it promises is its contract
 //! law_of_calls();
 //! law_of_example();
+//! law_of_progress();
 //! ```
 //!
-//! - `specs/Interleaving` separates the writer's events from those of the threads.
+//! - `specs/Interleaving` separates the writer's events from those of the threads. `specs/Steps` says which steps on the table's
+//!   words events are.
 //! - `specs/Calls` turns the acts and serializations of each call into events.
 //! - `specs/Views` has the properties of every view between two calls.
 //! - `specs/Histories` defines a history. `specs/Whole` says that threads fetch whole instructions. `specs/Example` has a
-//!   chunk's life in a history.
+//!   chunk's life in a history. `specs/Progress` has a reclaim in a history, and what it is that every seat has passed a stamp.
 #![tactic(auto)]
 
 mod calls;
 mod example;
 mod history;
 mod law;
+mod progress;
 
 pub use calls::{create, delete, meet, modify, reclaim};
 pub use example::law_of_example;
 pub use history::law_of_histories;
 pub use law::law_of_calls;
+pub use progress::law_of_progress;

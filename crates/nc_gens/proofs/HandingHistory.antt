@@ -12,6 +12,7 @@ use Rattle.nc_gens.proofs.ChangedViews.{views_stay, split_views_stay}
 use Rattle.nc_gens.proofs.FirstTable.{starts, alone}
 use Rattle.nc_gens.proofs.HandingOver.{gives_pass, passes_out, passes_in}
 use Rattle.nc_gens.proofs.Histories.{as_at_first, none_since}
+use Rattle.nc_gens.proofs.Rising.{rising_none}
 
 -- the rule holds of a new table, in which no step was taken
 pub starts_recorded : (seats : ℕ) (words : List ℕ) → words ≡ replicate (seats + 1) 0 → Recorded (opening words [] (first_view seats))
@@ -20,6 +21,7 @@ starts_recorded seats words e = record {
   seats = seats;
   wide = ap length e ∙ length-replicate (seats + 1) 0;
   history = [];
+  rising = rising_none seats;
   each_view = alone (λ _. Recalls seats []) (first_view seats) record {
     pass = λ h. let no : false ≡ true = h in cc;
     keeper = λ _. record { seats_are = refl; numbers = refl; known = none_since is_by_keeper []; not_given = λ i l. refl };
@@ -35,6 +37,7 @@ gives_pass_recorded id v bare is room s r at =
       seats = r.seats;
       wide = r.wide;
       history = r.history;
+      rising = r.rising;
       each_view = split_views_stay (λ _. Recalls r.seats r.history) s.views id (given_one_more v) (new_pass_view v)
           record {
             pass = λ h. let no : false ≡ true = sym bare ∙ h in cc;
@@ -65,6 +68,7 @@ passes_out_recorded id v is all_given s r at =
       seats = r.seats;
       wide = r.wide;
       history = r.history;
+      rising = r.rising;
       each_view = split_views_stay (λ _. Recalls r.seats r.history) s.views id (without_pass v) (without_keeper v)
           record {
             pass = λ h. let no : false ≡ true = h in cc;
@@ -89,6 +93,7 @@ passes_in_recorded id v other w bare keeps is apart s r at ne there =
       seats = r.seats;
       wide = r.wide;
       history = r.history;
+      rising = r.rising;
       each_view = views_stay (λ _. Recalls r.seats r.history) (set s.views id both) other spent_view
           record { pass = λ h. let no : false ≡ true = h in cc; keeper = λ h. let no : false ≡ true = h in cc }
           (λ j x _ here. views_stay (λ _. Recalls r.seats r.history) s.views id both

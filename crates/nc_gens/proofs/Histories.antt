@@ -28,7 +28,7 @@ pub by_longer : (seats : ℕ) (history : List WordStep) (step : WordStep)
 by_longer seats history step = after_both (first_numbers seats) history (step ∷ [])
 
 -- a step adds no pass and takes none away
-as_many_after : (n : AllNumbers) (step : WordStep) → length (numbers_after n step).passes ≡ length n.passes
+pub as_many_after : (n : AllNumbers) (step : WordStep) → length (numbers_after n step).passes ≡ length n.passes
 as_many_after n (TookGeneration k) = length-set n.passes k _
 as_many_after n (SawGeneration k) = length-set n.passes k _
 as_many_after n (StoredSince k) = length-set n.passes k _

@@ -73,3 +73,30 @@ least_below g (b ∷ bs) (suc k) lt ne =
         → least_or g (cond t (b ∷ staying bs) (staying bs)) ≤ get_or bs k 0
     go true counted passed = counted
     go false counted passed = passed
+
+-- the least number that is found is at least what each is
+fold-above : (stamp a : ℕ) (bs : List ℕ) → stamp ≤ a → ((k : ℕ) → k < length bs → stamp ≤ get_or bs k 0) → stamp ≤ fold min a (staying bs)
+fold-above stamp a [] first each = first
+fold-above stamp a (b ∷ bs) first each =
+    go (not (b == left_word))
+    (fold-above stamp (min a b) bs (let here = each zero (omega arith) in omega (arith, here)) (λ k lt. each (suc k) (omega (arith, lt))))
+    (fold-above stamp a bs first (λ k lt. each (suc k) (omega (arith, lt))))
+  where
+    go : (t : Bool) → stamp ≤ fold min (min a b) (staying bs) → stamp ≤ fold min a (staying bs)
+        → stamp ≤ fold min a (cond t (b ∷ staying bs) (staying bs))
+    go true counted _ = counted
+    go false _ passed = passed
+
+-- the least number is at least a stamp that is at most the generation and each bound
+pub least_above : (stamp g : ℕ) (bs : List ℕ) → stamp ≤ g → ((k : ℕ) → k < length bs → stamp ≤ get_or bs k 0)
+    → stamp ≤ least_or g (staying bs)
+least_above stamp g [] drawn each = drawn
+least_above stamp g (b ∷ bs) drawn each =
+    go (not (b == left_word))
+    (fold-above stamp b bs (each zero (omega arith)) (λ k lt. each (suc k) (omega (arith, lt))))
+    (least_above stamp g bs drawn (λ k lt. each (suc k) (omega (arith, lt))))
+  where
+    go : (t : Bool) → stamp ≤ fold min b (staying bs) → stamp ≤ least_or g (staying bs)
+        → stamp ≤ least_or g (cond t (b ∷ staying bs) (staying bs))
+    go true counted _ = counted
+    go false _ passed = passed

@@ -5,5 +5,8 @@ pub mod LeastNumber
 pub mod StepsKeep
 pub mod ChangedViews
 pub mod Histories
+pub mod Rising
 pub mod Recording
 pub mod HandingHistory
+pub mod Loads
+pub mod Passing

@@ -10,13 +10,14 @@ use Rattle.nc_gens.specs.declared.view.WordStep.{WordStep}
 use Rattle.nc_gens.specs.declared.view.WordStep.TheVariants.{TookGeneration, SawGeneration, StoredSince, StoredLeft, AddedOne, TookWord}
 use Rattle.nc_gens.specs.Rule.{left_word, last_generation, generation_taken, generation_seen, since_stored, left_stored}
 use Rattle.nc_gens.specs.Rule.{generation_raised, word_taken, Ruled}
-use Rattle.nc_gens.specs.History.{Adds, AllNumbers, is_by_pass, is_by_keeper, numbers_after, numbers_by, pass_in}
+use Rattle.nc_gens.specs.History.{Adds, AllNumbers, is_by_pass, is_by_keeper, numbers_after, numbers_by, pass_in, IsRising}
 use Rattle.nc_gens.specs.Record.{Recalls, RecallsPass, RecallsKeeper, Recorded}
 use Rattle.nc_gens.specs.machinery.Steps.{Known, TakesGeneration, HasStepped, KeeperHasStepped}
 use Rattle.nc_gens.specs.machinery.Steps.{SeesGeneration, StoresSince, StoresLeft, AddsOne, TakesWord}
 use Rattle.nc_gens.proofs.ChangedViews.{views_stay}
 use Rattle.nc_gens.proofs.StepsKeep.{Words, sees, stores, raises, looks, word_in_range}
 use Rattle.nc_gens.proofs.Histories.{by_longer, as_many_by, this_pass, other_pass, other_keeper, as_at_first, none_since, since_other, adds_mine, still_none}
+use Rattle.nc_gens.proofs.Rising.{LowersNone, lowers_none, rising_more}
 
 -- the step is neither by the pass of the view nor by its keeper, nor by a pass that the keeper hasn't given out
 record IsByOthers (v : View) (one : WordStep) : Type 0 where
@@ -45,16 +46,17 @@ keeper_recalls seats history v one other not_given k = record {
   not_given = λ i l. still_none i history one (k.not_given i l) (not_given i l);
 }
 
--- a step is added by the view w, and no other view has a part in it
+-- a step that lowers no word is added by the view w, and no other view has a part in it
 recorded : (s : Words) (r : Recorded s) (id i x : ℕ) (me : Known) (w : View) (one : WordStep)
-    → Ruled (stepped s i x id me.1 w keeps) → Recalls r.seats (r.history ++ one ∷ []) w
+    → Ruled (stepped s i x id me.1 w keeps) → LowersNone (numbers_by r.seats r.history) one → Recalls r.seats (r.history ++ one ∷ []) w
     → ((j : ℕ) (v : View) → j ≢ id → get_elem? s.views j ≡ some v → IsByOthers v one)
     → Recorded (stepped s i x id me.1 w keeps)
-recorded s r id i x me w one ruled mine others = record {
+recorded s r id i x me w one ruled up mine others = record {
   ruled = ruled;
   seats = r.seats;
   wide = length-set s.words i x ∙ r.wide;
   history = r.history ++ one ∷ [];
+  rising = rising_more r.seats r.history one up r.rising;
   each_view = views_stay (λ _. Recalls r.seats (r.history ++ one ∷ [])) s.views id w mine
       (λ j v ne e. let o = others j v ne e in let c = r.each_view j v e in record {
         pass = λ h. pass_recalls r.seats r.history v one (o.pass h) (c.pass h);
@@ -153,6 +155,7 @@ takes_generation slots id me is alone s r _ at _ =
       tt,
       recorded s r id 0 n me (record me.0 { pass = generation_taken n me.0.pass; pass_history = r.history ++ one ∷ [] }) one
           (sees s r.ruled id me (generation_taken n me.0.pass) (r.history ++ one ∷ []) at is refl (le_trans p.saw p.current) (le_refl n) refl)
+          (lowers_none now me.0.seat _ (is_seat s r id me.0 at is) (le_refl (pass_in now me.0.seat).word))
           (recalls_own s r id me.0 (generation_taken n me.0.pass) one at is (λ h. let no : false ≡ true = sym alone ∙ h in cc) refl only leads)
           (by_other_passes s r.ruled id me.0 one at is refl only),
       record {
@@ -184,6 +187,7 @@ sees_generation slots id me is all_given s r _ at _ =
       recorded s r id 0 n me (record me.0 { pass = generation_seen n me.0.pass; pass_history = r.history ++ one ∷ [] }) one
           (sees s r.ruled id me (generation_seen n me.0.pass) (r.history ++ one ∷ []) at is refl (le_refl me.0.pass.since)
           (le_trans p.saw p.current) refl)
+          (lowers_none now me.0.seat _ (is_seat s r id me.0 at is) (le_refl (pass_in now me.0.seat).word))
           (recalls_own s r id me.0 (generation_seen n me.0.pass) one at is all_given refl only leads)
           (by_other_passes s r.ruled id me.0 one at is refl only),
       record {
@@ -197,16 +201,16 @@ sees_generation slots id me is all_given s r _ at _ =
       },
     )
 
--- a pass stores x in its own word, which is a step that leads to this word
+-- a pass stores x in its own word, which is a step that leads to this word and lowers none
 stores_own : (s : Words) (r : Recorded s) (id i x : ℕ) (me : Known) (one : WordStep) → get_elem? s.views id ≡ some me.0
     → me.0.is_pass ≡ true → me.0.is_keeper ≡ false → me.0.seat + 1 ≡ i
     → me.0.pass.word ≤ x → (x ≢ left_word → x ≤ me.0.pass.since) → me.0.pass.word ≢ left_word → is_by_keeper one ≡ false
-    → ((k : ℕ) → me.0.seat ≢ k → is_by_pass k one ≡ false)
+    → ((k : ℕ) → me.0.seat ≢ k → is_by_pass k one ≡ false) → LowersNone (numbers_by r.seats r.history) one
     → record me.0.pass { word = x } ≡ pass_in (numbers_after (numbers_by r.seats r.history) one) me.0.seat
     → Recorded (stepped s i x id me.1 (record me.0 { pass = record me.0.pass { word = x }; pass_history = r.history ++ one ∷ [] }) keeps)
-stores_own s r id i x me one at is apart here above below unheld no_keeper only leads =
+stores_own s r id i x me one at is apart here above below unheld no_keeper only up leads =
     recorded s r id i x me (record me.0 { pass = record me.0.pass { word = x }; pass_history = r.history ++ one ∷ [] }) one
-    (stores s r.ruled id i x me (r.history ++ one ∷ []) at is apart here above below unheld)
+    (stores s r.ruled id i x me (r.history ++ one ∷ []) at is apart here above below unheld) up
     (recalls_own s r id me.0 (record me.0.pass { word = x }) one at is (λ h. let no : false ≡ true = sym apart ∙ h in cc) no_keeper only leads)
     (by_other_passes s r.ruled id me.0 one at is no_keeper only)
 
@@ -229,6 +233,8 @@ stores_since slots id i x me is apart here same above small s r _ at _ =
             ++ one ∷ [];
       }) keeps)) same
           (stores_own s r id i x me one at is apart here above (λ _. omega arith) (λ e. omega arith) refl only
+          (lowers_none now me.0.seat (since_stored (pass_in now me.0.seat)) (is_seat s r id me.0 at is)
+          (subst (λ (p : PassNumbers). p.word ≤ p.since) ((r.each_view id me.0 at).pass is).numbers (omega arith)))
           (ap (λ (y : ℕ). record me.0.pass { word = y }) same ∙ leads)),
       record {
         after = refl;
@@ -258,6 +264,8 @@ stores_left slots id i x me is apart here same small s r _ at _ =
             ++ one ∷ [];
       }) keeps)) same
           (stores_own s r id i x me one at is apart here (omega arith) (λ ne. absurd (ne same)) (λ e. omega arith) refl only
+          (lowers_none now me.0.seat (left_stored (pass_in now me.0.seat)) (is_seat s r id me.0 at is)
+          (subst (λ (p : PassNumbers). p.word ≤ left_word) ((r.each_view id me.0 at).pass is).numbers (omega arith)))
           (ap (λ (y : ℕ). record me.0.pass { word = y }) same ∙ leads)),
       record {
         after = refl;
@@ -303,14 +311,17 @@ keeper_recalls_own s r id v w one at is apart same leads =
 
 -- what the keeper tells of its step
 keeper_has_stepped : (s : Words) (r : Recorded s) (id : ℕ) (v w : View) (one : WordStep) → get_elem? s.views id ≡ some v
-    → v.is_keeper ≡ true → is_by_keeper one ≡ true → w.keeper_history ≡ r.history ++ one ∷ []
+    → v.is_keeper ≡ true → is_by_keeper one ≡ true → LowersNone (numbers_by r.seats r.history) one
+    → w.keeper_history ≡ r.history ++ one ∷ []
     → w.keeper ≡ (numbers_after (numbers_by r.seats r.history) one).keeper → KeeperHasStepped v w one
-keeper_has_stepped s r id v w one at is own same leads =
+keeper_has_stepped s r id v w one at is own up same leads =
     let c = (r.each_view id v at).keeper is in record {
       adds = subst (λ (h : List WordStep). Adds is_by_keeper v.keeper_history h (one ∷ [])) (sym same)
           (adds_mine is_by_keeper v.keeper_history r.history one own c.known);
       numbers = leads ∙ (sym (ap (λ (n : AllNumbers). n.keeper) (by_longer r.seats r.history one))
           ∙ (λ i. (numbers_by (sym c.seats_are i) (sym same i)).keeper));
+      rising = subst (λ (z : ℕ). IsRising z w.keeper_history) (sym c.seats_are)
+          (subst (IsRising r.seats) (sym same) (rising_more r.seats r.history one up r.rising));
     }
 
 -- the keeper adds one to the generation
@@ -318,17 +329,18 @@ pub adds_one : (slots id : ℕ) (me : Known) → me.0.is_keeper ≡ true → me.
     → Allows Recorded slots id me 0 (λ n. (n + 1) % 2 ^ 64) (AddsOne (step slots 0 1 0 none) me)
 adds_one slots id me is room s r _ at _ =
     let one : WordStep = AddedOne in
+    let up : LowersNone (numbers_by r.seats r.history) one = λ k. le_refl (pass_in (numbers_by r.seats r.history) k).word in
     let w : View = record me.0 { keeper = generation_raised me.0.keeper; keeper_history = r.history ++ one ∷ [] } in
     let leads : w.keeper ≡ (numbers_after (numbers_by r.seats r.history) one).keeper =
     ap generation_raised ((r.each_view id me.0 at).keeper is).numbers in (
       w,
       keeps,
       tt,
-      recorded s r id 0 _ me w one (raises s r.ruled id me (r.history ++ one ∷ []) at is room)
+      recorded s r id 0 _ me w one (raises s r.ruled id me (r.history ++ one ∷ []) at is room) up
           (keeper_recalls_own s r id me.0 w one at is (λ k. refl) refl leads) (by_other_keepers s r.ruled id me.0 one at is (λ k. refl)),
       record {
         after = refl;
-        stepped = keeper_has_stepped s r id me.0 w one at is refl refl leads;
+        stepped = keeper_has_stepped s r id me.0 w one at is refl up refl leads;
         by_keeper = is;
         word = refl;
         added = refl;
@@ -345,6 +357,7 @@ takes_word slots id i me is room s r _ at _ =
     let q = f.keeper is in
     let back : (i + 1) - 1 ≡ i = omega arith in
     let one : WordStep = TookWord i in
+    let up : LowersNone (numbers_by r.seats r.history) one = λ k. le_refl (pass_in (numbers_by r.seats r.history) k).word in
     let w : View = record me.0 { keeper = word_taken i n me.0.keeper; keeper_history = r.history ++ one ∷ [] } in
     let inside : i + 1 < length s.words = let h = q.wide in omega arith in
     let leads : w.keeper ≡ (numbers_after (numbers_by r.seats r.history) one).keeper =
@@ -352,11 +365,12 @@ takes_word slots id i me is room s r _ at _ =
       w,
       keeps,
       tt,
-      recorded s r id (i + 1) n me w one (looks s r.ruled id i me (r.history ++ one ∷ []) at is room)
+      recorded s r id (i + 1) n me w one (looks s r.ruled id i me (r.history ++ one ∷ []) at is room) up
           (keeper_recalls_own s r id me.0 w one at is (λ k. refl) refl leads) (by_other_keepers s r.ruled id me.0 one at is (λ k. refl)),
       record {
         after = λ j. (record me.0 { keeper = word_taken (sym back j) n me.0.keeper; keeper_history = r.history ++ one ∷ [] }, me.1);
-        stepped = subst (λ (k : ℕ). KeeperHasStepped me.0 w (TookWord k)) (sym back) (keeper_has_stepped s r id me.0 w one at is refl refl leads);
+        stepped = subst (λ (k : ℕ). KeeperHasStepped me.0 w (TookWord k)) (sym back)
+            (keeper_has_stepped s r id me.0 w one at is refl up refl leads);
         by_keeper = is;
         word = omega arith;
         rises = subst (λ (z : ℕ). get_or me.0.keeper.bounds z 0 ≤ n) (sym back) (q.below i room);

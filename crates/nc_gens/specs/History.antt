@@ -1,5 +1,5 @@
 -- The history of a table: the atomic steps on its words, in their order, and the numbers that they lead to.
-use Rattle.std.specs.Prelude.{◌≡◌, ℕ, ◌++◌, ◌==◌, Bool, true, false, List, [], ◌∷◌, filter, replicate, slice_index_or, slice_set}
+use Rattle.std.specs.Prelude.{◌≡◌, ℕ, ◌≤◌, ◌++◌, ◌==◌, Bool, true, false, List, [], ◌∷◌, filter, replicate, slice_index_or, slice_set}
 use Rattle.nc_gens.specs.declared.view.PassNumbers.{PassNumbers}
 use Rattle.nc_gens.specs.declared.view.KeeperNumbers.{KeeperNumbers}
 use Rattle.nc_gens.specs.declared.view.WordStep.{WordStep}
@@ -72,3 +72,12 @@ numbers_after_all n (step ∷ steps) = numbers_after_all (numbers_after n step) 
 -- the numbers that a history leads to, from those of a new table with this number of seats
 abbrev pub numbers_by : ℕ → List WordStep → AllNumbers
 numbers_by seats history = numbers_after_all record { keeper = first_keeper_numbers seats; passes = replicate seats first_pass_numbers } history
+
+-- the word of a seat where a history ends: the number that its last check-in has stored, or "left"
+abbrev pub seat_word : ℕ → List WordStep → ℕ → ℕ
+seat_word seats history k = (pass_in (numbers_by seats history) k).word
+
+-- no step of the history has lowered a seat's word
+abbrev pub IsRising : ℕ → List WordStep → Type 0
+IsRising seats history = (k : ℕ) (first more later : List WordStep) → history ≡ first ++ (more ++ later)
+    → seat_word seats first k ≤ seat_word seats (first ++ more) k

@@ -6,7 +6,7 @@ use Rattle.atomic_table.specs.Table.{State}
 use Rattle.nc_gens.specs.declared.view.WordStep.{WordStep}
 use Rattle.nc_gens.specs.declared.view.View.{View}
 use Rattle.nc_gens.specs.Rule.{Ruled}
-use Rattle.nc_gens.specs.History.{NoneSince, is_by_pass, is_by_keeper, numbers_by, pass_in}
+use Rattle.nc_gens.specs.History.{NoneSince, is_by_pass, is_by_keeper, numbers_by, pass_in, IsRising}
 
 module _ (seats : ℕ) (history : List WordStep) (v : View) where
   -- the view has the numbers that the history leads to for its pass, which has taken no step since the part that it recalls
@@ -26,10 +26,11 @@ module _ (seats : ℕ) (history : List WordStep) (v : View) where
     pub pass : v.is_pass ≡ true → RecallsPass
     pub keeper : v.is_keeper ≡ true → RecallsKeeper
 
--- the rule: the words are ruled, and there is one history that each view recalls a part of
+-- the rule: the words are ruled, and there is one history, in which no seat's word falls, and of which each view recalls a part
 pub record Recorded (s : State (Unit {0}) View) : Type 0 where
   pub ruled : Ruled s
   pub seats : ℕ
   pub wide : length s.words ≡ seats + 1
   pub history : List WordStep
+  pub rising : IsRising seats history
   pub each_view : (j : ℕ) (v : View) → get_elem? s.views j ≡ some v → Recalls seats history v

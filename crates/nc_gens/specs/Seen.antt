@@ -6,7 +6,8 @@ use Rattle.nc_gens.specs.declared.view.PassNumbers.{PassNumbers}
 use Rattle.nc_gens.specs.declared.view.KeeperNumbers.{KeeperNumbers}
 use Rattle.nc_gens.specs.declared.view.WordStep.{WordStep}
 use Rattle.nc_gens.specs.declared.view.WordStep.TheVariants.{TookGeneration, SawGeneration, StoredSince, AddedOne, TookWord}
-use Rattle.nc_gens.specs.History.{Adds, NoneSince, is_by_pass, is_by_keeper, numbers_by, pass_in}
+use Rattle.nc_gens.specs.History.{Adds, NoneSince, is_by_pass, is_by_keeper, numbers_by, pass_in, IsRising}
+use Rattle.nc_gens.specs.Progress.{HasFound}
 use Rattle.nc_gens.specs.Rule.{generation_raised, left_word, last_generation, first_pass_numbers, first_keeper_numbers, generation_taken, since_stored, generation_seen, word_taken}
 
 -- a table has 1 to 256 seats
@@ -94,7 +95,8 @@ abbrev pub RaisedByOne : List ℕ → List ℕ → Type 0
 RaisedByOne old new = (length new ≡ length old) × ((i : ℕ) → i < length old → slice_index new i ≡ slice_index old i + 1)
 
 -- The keeper after a look: table and generation are unchanged, each seat's word was loaded once, in the order of the seats, and no
--- bound decreased. By the history (`IsLedTo`), each bound is what its seat stored last before the load, or 0.
+-- bound decreased. By the history (`HasFound`, `IsLedTo`), in which no word falls, each bound is what its seat stored last before the
+-- load, or 0.
 pub record HasLooked (old new : KeeperState) : Type 0 where
   pub table : new.table ≡ old.table
   pub generation : new.numbers.generation ≡ old.numbers.generation
@@ -103,6 +105,9 @@ pub record HasLooked (old new : KeeperState) : Type 0 where
   pub raised : Raised old.numbers.bounds new.numbers.bounds
   pub steps : KeeperSteps old new (map TookWord (range_with_len 0 (length new.numbers.bounds)))
   pub led_to : IsLedTo new
+  pub rising : IsRising (length new.numbers.bounds) new.history
+  pub found : (k : ℕ) → k < length new.numbers.bounds
+      → HasFound (length new.numbers.bounds) old.history new.history k (slice_index new.numbers.bounds k)
 
 -- A pass and the keeper after they met. The pass has seen the generation, and its `since` is unchanged. The keeper's bound
 -- for the seat hasn't decreased and is the pass's own word. The word is at most the pass's `since`, `since` at most the
@@ -122,3 +127,4 @@ pub record HasMet (old : PassState) (before : KeeperState) (new : PassState) (af
   pub steps_of_pass : PassSteps old new (SawGeneration old.seat ∷ [])
   pub steps_of_keeper : KeeperSteps before after (TookWord old.seat ∷ [])
   pub led_to : IsLedTo after
+  pub rising : IsRising (length after.numbers.bounds) after.history

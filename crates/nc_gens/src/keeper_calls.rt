@@ -2,6 +2,7 @@
 ghost use Rattle.std.specs.Prelude.{◌≡◌, ◌≢◌, ◌+◌, ◌^◌, ◌<◌, ◌≤◌, ◌↔◌, [], ◌∷◌, All, length, slice_index, IfOk, IsOk, OnOk, OnErr};
 ghost use Rattle.nc_gens.specs.declared.view.WordStep.{WordStep};
 ghost use Rattle.nc_gens.specs.Rule.{left_word, word_taken};
+ghost use Rattle.nc_gens.specs.History.{IsRising};
 ghost use Rattle.nc_gens.specs.Seen.{HasLooked, HasRaised, IsLedTo, KeeperSteps, least_number, least_or, staying};
 
 use crate::fault::GensFull;
@@ -38,7 +39,8 @@ impl Gens {
     /// Loads each seat's word, and raises the keeper's bound for that seat to the number loaded.
     /// Returns the least bound of the seats whose word it didn't find to be "left", or the
     /// generation if there are none. A span retired with a stamp of at most the result can be
-    /// reclaimed: every seat has checked in since, or has left.
+    /// reclaimed: every seat has checked in since, or has left. Conversely, the result is at least
+    /// each stamp for which that was so before the look ([`law_of_progress`](crate::law_of_progress)).
     ///
     /// It allocates nothing, never waits, and is never refused.
     ///
@@ -47,8 +49,8 @@ impl Gens {
     /// after the other, and never decrease.
     pub fn look(&self, keeper: &mut Keeper) -> u64
         requires { keeper.old.table ≡ self.now }
-        // Each seat's word is loaded once, no bound decreases, and the generation is unchanged. Each bound is what the keeper's history
-        // has left in the word.
+        // Each seat's word is loaded once, no bound decreases, and the generation is unchanged. Each bound is what the seat's last
+        // check-in or its leaving has stored.
         ensures looked { HasLooked keeper.old keeper.new }
         ensures seats { self.now.words ≡ length keeper.new.numbers.bounds + 1 }
 
@@ -72,6 +74,7 @@ impl Gens {
         ensures raised { slice_index keeper.old.numbers.bounds seat ≤ slice_index keeper.new.numbers.bounds seat }
         ensures stepped { KeeperSteps keeper.old keeper.new (WordStep.TookWord seat ∷ []) }
         ensures led_to { IsLedTo keeper.new }
+        ensures rising { IsRising (length keeper.new.numbers.bounds) keeper.new.history }
     {
         let found = self
             .words

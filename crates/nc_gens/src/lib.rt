@@ -14,8 +14,9 @@
 //! Native Client deletes dynamic code in this way (Ansel et al. 2011, "Language-independent
 //! sandboxing of just-in-time compilation and self-modifying code"); the technique is
 //! quiescent-state-based reclamation. A pass stores only to its own seat's word, and only the
-//! keeper changes the generation. Nothing here waits, and progress is not guaranteed. A seat that
-//! neither checks in nor leaves holds back every later stamp for good.
+//! keeper changes the generation. Nothing here waits. Once every seat has checked in since a stamp,
+//! or has left, the next look shows it ([`law_of_progress`]). A seat that neither checks in nor
+//! leaves holds back every later stamp for good.
 #![tactic(auto)]
 
 mod fault;
@@ -23,6 +24,7 @@ mod keeper_calls;
 mod meeting;
 mod opening;
 mod pass_calls;
+mod progress;
 mod steps;
 mod table;
 mod view;
@@ -30,5 +32,6 @@ mod view;
 pub use fault::{GensFault, GensFull};
 pub use keeper_calls::LAST_GENERATION;
 pub use opening::MOST_SEATS;
+pub use progress::law_of_progress;
 pub use table::{Gens, Keeper, Pass};
 pub use view::{KeeperNumbers, PassNumbers, WordStep};

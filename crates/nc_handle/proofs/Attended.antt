@@ -48,7 +48,7 @@ met_more [] p = refl
 met_more (q ∷ rest) p = ap (λ (l : List WordStep). TookWord q.seat ∷ TookWord q.seat ∷ l) (met_more rest p)
 
 -- a pass has the same seat in two lists with the same seats
-same_seat : (now before : List PassState) (i : ℕ) (d : PassState)
+pub same_seat : (now before : List PassState) (i : ℕ) (d : PassState)
     → map (λ (q : PassState). q.seat) now ≡ map (λ (q : PassState). q.seat) before → (get_or now i d).seat ≡ (get_or before i d).seat
 same_seat now before i d same =
     sym (get_or-map (λ (q : PassState). q.seat) now i d)

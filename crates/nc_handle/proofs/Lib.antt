@@ -7,3 +7,4 @@ pub mod Pointers
 pub mod Offered
 pub mod Reporting
 pub mod RunsPending
+pub mod Progress

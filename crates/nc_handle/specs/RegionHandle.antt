@@ -1,6 +1,9 @@
 -- The contracts' view of a region that owns everything it needs, and when its calls are refused.
-use Rattle.std.specs.Prelude.{◌≡◌, ℕ, ◌+◌, ◌*◌, ◌^◌, ◌<◌, ◌≤◌, List, [], ◌∷◌, ◌++◌, Option, Some, None, Contains, IfSome, IsSome, All, length, map, slice_index}
+use Rattle.std.specs.Prelude.{◌≡◌, ◌≢◌, ℕ, ◌+◌, ◌*◌, ◌^◌, ◌<◌, ◌≤◌, List, [], ◌∷◌, ◌++◌, Option, Some, None, Contains, IfSome, IsSome, All, length, map, slice_index}
 use Rattle.nc_decode.specs.Bundles.{IsLawfulLimit}
+use Rattle.nc_gens.specs.declared.view.WordStep.{WordStep}
+use Rattle.nc_gens.specs.History.{seat_word}
+use Rattle.nc_gens.specs.Progress.{IsBeforeLook}
 use Rattle.nc_gens.specs.Seen.{AreSeats, PassState, Raised, first_keeper, new_passes}
 use Rattle.nc_text.specs.MarkedText.{unused_text}
 use Rattle.nc_text.specs.Ready.{unmade_pages}
@@ -9,7 +12,7 @@ use Rattle.nc_list.specs.declared.chunk.Chunk.{Chunk}
 use Rattle.nc_list.specs.declared.chunk.ChunkState.TheVariants.{Live}
 use Rattle.nc_text.specs.Places.{limit_of}
 use Rattle.nc_region.specs.Region.{Region, IsCreated, IsRefused, MayRefuse, Meets}
-use Rattle.nc_region.specs.Deletion.{IsDeleted, MayRefuseDelete, IsReclaimed}
+use Rattle.nc_region.specs.Deletion.{IsDeleted, MayRefuseDelete, IsReclaimed, AreFreedUpTo}
 use Rattle.nc_region.specs.Patch.{IsModified, IsPatch, MayRefusePatch}
 use Rattle.nc_region.specs.Quiet.{retired_spans}
 use Rattle.nc_region.specs.schedules.Events.{Event, Looks}
@@ -139,11 +142,24 @@ abbrev pub meetings : List PassState → List Event
 meetings [] = []
 meetings (p ∷ rest) = Looks p.seat ∷ Looks p.seat ∷ meetings rest
 
+-- where this history ends, each seat but those of these passes has checked in since the stamp or has left (as in `HavePassed` of
+-- nc_gens)
+abbrev pub HaveOthersPassed : List PassState → ℕ → ℕ → List WordStep → Type 0
+HaveOthersPassed passes seats stamp known =
+    (k : ℕ) → k < seats → All (λ (p : PassState). p.seat ≢ k) passes → stamp ≤ seat_word seats known k
+
+-- The progress of a reclaim. For each stamp drawn so far: if at some moment before the look each seat that was given out had checked in
+-- since the stamp or had left, then no chunk with a stamp of at most that one is in the list. No other seat delays that.
+abbrev pub HasFreedPassed : RegionHandleState → Region → Type 0
+HasFreedPassed old new = (stamp : ℕ) (known : List WordStep) → stamp ≤ old.region.keeper.numbers.generation
+    → IsBeforeLook (length new.keeper.numbers.bounds) known new.keeper.history
+    → HaveOthersPassed old.passes (length new.keeper.numbers.bounds) stamp known → AreFreedUpTo stamp new.chunks
+
 -- No deletion was under way. The keeper met the passes not given out, by which its bounds may have risen. If there were
 -- none, it met nobody, and the region is as it was. Then this many retired chunks were reclaimed (`IsReclaimed` of
--- nc_region). These are two calls of a history (`IsCall` and `LogsCall` of nc_calls); the first one logs nothing. The
--- passes not given out keep their seat numbers, and the keeper's bounds for these are at least the generation. All else
--- is as before.
+-- nc_region), among them each whose stamp the seats that were given out had passed (`HasFreedPassed`). These are two calls of a
+-- history (`IsCall` and `LogsCall` of nc_calls); the first one logs nothing. The passes not given out keep their seat numbers, and
+-- the keeper's bounds for these are at least the generation. All else is as before.
 pub record HasReclaimed (old new : RegionHandleState) (count : ℕ) : Type 0 where
   pub none : old.begun ≡ None
   pub met : Region
@@ -153,6 +169,7 @@ pub record HasReclaimed (old new : RegionHandleState) (count : ℕ) : Type 0 whe
   pub unmet : old.passes ≡ [] → met ≡ old.region
   pub meets : (seats : ℕ) → IsCall seats old.region met (meetings old.passes)
   pub reclaimed : IsReclaimed met new.region count
+  pub progress : HasFreedPassed old new.region
   pub call : (seats : ℕ)
       → LogsCall seats (record no_details { seats = seats; spans = retired_spans met.chunks }) met new.region
   pub outside : All (IsIn new.region old.region.keeper.numbers.generation) new.passes

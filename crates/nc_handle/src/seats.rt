@@ -67,7 +67,8 @@ impl RegionHandle {
     /// Checks in for each seat not given out yet, then frees the chunks that are due, as `RegionOf::reclaim` does, and returns their
     /// number. While a deletion is under way it does nothing, and returns none. It puts no byte and takes no memory.
     pub fn reclaim(&mut self) -> Option<u32>
-        // No seat that wasn't given out delays reclaiming.
+        // Each chunk is freed for which the seats that were given out had checked in since its deletion, or had left, at some moment
+        // before the looks. No other seat delays that.
         ensures reclaimed { IfSome result (HasReclaimed self.old self.new) }
         // The library makes all that is pending itself, first for the seats not given out.
         ensures pending { (seats : ℕ) → OnSome result ((met : RegionHandleState) × DoesItself seats self.old met × DoesItself seats met self.new) }

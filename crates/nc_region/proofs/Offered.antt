@@ -16,6 +16,7 @@ pub use Rattle.nc_acts.proofs.Offered.{is_start_false, start_or_not, span_within
 pub use Rattle.nc_region.proofs.deleting.Deleted.{region_deleted, listed_there}
 pub use Rattle.nc_acts.proofs.Offered.{all_stops, admits_is_mark}
 pub use Rattle.nc_region.proofs.deleting.Due.{due_dead}
+pub use Rattle.nc_region.proofs.deleting.Progress.{freed_from, freed_past, progressed}
 pub use Rattle.nc_region.proofs.deleting.QuietSpans.{quiet_chunks, quiet_spans}
 pub use Rattle.nc_region.proofs.patching.Runs.{held_same}
 pub use Rattle.nc_region.proofs.patching.Standing.{lies, all_long, Standing, stands_with}

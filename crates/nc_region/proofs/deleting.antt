@@ -5,3 +5,4 @@ pub mod Due
 pub mod Least
 pub mod TakingOut
 pub mod Deleted
+pub mod Progress

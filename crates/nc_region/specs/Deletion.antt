@@ -1,7 +1,9 @@
 -- A region after a chunk was deleted, and after retired chunks were reclaimed.
-use Rattle.std.specs.Prelude.{◌≡◌, ℕ, ◌+◌, ◌-◌, ◌^◌, ◌<◌, List, [], ◌∷◌, ◌++◌, length, map, replicate}
+use Rattle.std.specs.Prelude.{◌≡◌, ℕ, ◌+◌, ◌-◌, ◌^◌, ◌<◌, ◌≤◌, List, [], ◌∷◌, ◌++◌, length, map, replicate}
 use Rattle.std.specs.Prelude.{Contains, Some, slice_get, slice_set}
+use Rattle.nc_gens.specs.declared.view.WordStep.{WordStep}
 use Rattle.nc_gens.specs.Seen.{HasRaised, HasLooked, least_number}
+use Rattle.nc_gens.specs.Progress.{HavePassed, IsBeforeLook}
 use Rattle.nc_text.specs.MarkedText.{MarkedText, with_span, without_marks}
 use Rattle.nc_list.specs.declared.chunk.Chunk.{Chunk}
 use Rattle.nc_list.specs.declared.chunk.ChunkState.TheVariants.{Live, Retired}
@@ -69,3 +71,14 @@ pub record IsReclaimed (old new : Region) (count : ℕ) : Type 0 where
   pub others : new ≡ record old { marked = new.marked; chunks = new.chunks; keeper = new.keeper; logged = new.logged }
   pub acts : told new ≡ told old ++ Look ∷ unmarkings (freed (least_number new.keeper.numbers) old.chunks)
   pub log : Logs old.logged new.logged (only_acts (Look ∷ unmarkings (freed (least_number new.keeper.numbers) old.chunks)))
+
+-- each retired chunk that is in the list has a stamp above this number
+abbrev pub AreFreedUpTo : ℕ → List Chunk → Type 0
+AreFreedUpTo stamp chunks = (c : Chunk) (drawn : ℕ) → Contains chunks c → c.state ≡ Retired drawn → stamp < drawn
+
+-- The progress of a look that has led to this region. For each stamp drawn so far: if at some moment before the look each seat had
+-- checked in since the stamp or had left, then no chunk with a stamp of at most that one is in the list.
+abbrev pub HasProgressed : Region → Type 0
+HasProgressed r = (stamp : ℕ) (known : List WordStep) → stamp ≤ r.keeper.numbers.generation
+    → IsBeforeLook (length r.keeper.numbers.bounds) known r.keeper.history
+    → HavePassed (length r.keeper.numbers.bounds) stamp known → AreFreedUpTo stamp r.chunks

@@ -1,4 +1,5 @@
-//! Laws: a valid chunk is closed by itself, a log has the acts of its call, and every schedule is safe.
+//! Laws: a valid chunk is closed by itself, a log has the acts of its call, a reclaim frees what every seat has passed, and every
+//! schedule is safe.
 
 ghost use Rattle.std.specs.Prelude.{◌≡◌, ◌≢◌, ◌⊎◌, ℕ, length, List, [], ◌∷◌, ◌++◌};
 ghost use Rattle.nc_decode.specs.Bundles.{IsLawfulLimit};
@@ -9,6 +10,9 @@ ghost use Rattle.nc_acts.specs.Acts.{acts_of_create, acts_of_delete};
 ghost use Rattle.nc_acts.specs.Chunks.{IsClosedChunk};
 ghost use Rattle.nc_acts.specs.Log.{acts_in, log_of_create, log_of_delete};
 ghost use Rattle.nc_region.specs.Patch.{acts_of_modify, log_of_modify};
+ghost use Rattle.nc_gens.specs.Progress.{IsBeforeLook};
+ghost use Rattle.nc_region.specs.Region.{Region};
+ghost use Rattle.nc_region.specs.Deletion.{IsReclaimed, HasProgressed};
 ghost use Rattle.nc_region.specs.schedules.Spans.{RetiredSpan};
 ghost use Rattle.nc_region.specs.schedules.World.{World, first_world, IsViewOf, IsUsable, AllStandSafe, NoneIsWithin};
 ghost use Rattle.nc_region.specs.schedules.Events.{Event, after, world_after, AreAllowed, AllMove, ChangesBytes};
@@ -25,6 +29,17 @@ pub fn law_of_logs()
     ensures create { (base : ℕ) (code : List ℕ) → acts_in (log_of_create base code) ≡ acts_of_create base code }
     ensures delete { (marks : List Mark) (base len : ℕ) → acts_in (log_of_delete marks base len) ≡ acts_of_delete marks base len }
     ensures modify { (text : List ℕ) (at : ℕ) (news : List Piece) → acts_in (log_of_modify text at news) ≡ acts_of_modify text at news }
+{}
+
+/// A reclaim frees each chunk for which, at some moment before its look, each seat had checked in since the stamp or had left. The
+/// moment is a part of the history that the keeper recalls (`IsBeforeLook` of `nc_gens`). The history that the keeper recalled when
+/// the call began is such a part. The function does nothing when called.
+///
+/// Not promised: that any seat ever checks in or leaves.
+pub fn law_of_progress()
+    ensures before { (old new : Region) (count : ℕ) → IsReclaimed old new count
+        → IsBeforeLook (length new.keeper.numbers.bounds) old.keeper.history new.keeper.history }
+    ensures freed { (old new : Region) (count : ℕ) → IsReclaimed old new count → HasProgressed new }
 {}
 
 /// The law holds for every lawful limit, every number of seats and every list of events, each of which is allowed where it

@@ -12,7 +12,7 @@ ghost use Rattle.nc_acts.specs.Acts.{acts_of_create};
 ghost use Rattle.nc_acts.specs.Log.{Logs, log_of_create};
 ghost use Rattle.nc_gens.specs.Seen.{HasMet};
 ghost use Rattle.nc_region.specs.Quiet.{AreQuiet};
-ghost use Rattle.nc_region.specs.Deletion.{HasLive, IsDeleted, MayRefuseDelete, IsReclaimed};
+ghost use Rattle.nc_region.specs.Deletion.{HasLive, IsDeleted, MayRefuseDelete, IsReclaimed, HasProgressed};
 ghost use Rattle.nc_vet.specs.Faults.{HasGoodSpan};
 ghost use Rattle.nc_region.specs.Region.{Region, IsRegion, AreChunksReady, IsNew, IsAboveAll, IsNextChunk, IsCreated, IsRefused, MayRefuse, Meets, told};
 ghost use Rattle.nc_vet.specs.Chunk.{Piece};
@@ -298,11 +298,13 @@ impl<A: Acts + Drop> RegionOf<A> {
     /// returns, in ascending order, removes these chunks from the list, and returns their number. Their spans may be used
     /// again. No memory is allocated, and the call can't fail.
     ///
-    /// Not promised: that any chunk is ever freed. A seat that neither checks in nor leaves holds back every later stamp.
+    /// Not promised: that a seat ever checks in or leaves. Until then it holds back every later stamp.
     pub fn reclaim(&mut self) -> u32
         // Exactly the chunks that are due have been removed; the keeper has looked, and all else is as before. Exactly the acts
         // of a reclaim are told and logged.
         ensures reclaimed { IsReclaimed self.old self.new result }
+        // A chunk is freed if each seat had checked in since its stamp, or had left, at some moment before the look.
+        ensures progress { HasProgressed self.new }
         ensures confined { IsConfined self.new.marked.bytes }
     {
         // Called for its postconditions.

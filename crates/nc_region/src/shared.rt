@@ -5,7 +5,7 @@ ghost use Rattle.nc_gens.specs.Seen.{HasCheckedIn};
 ghost use Rattle.nc_decode.specs.Bundles.{IsLawfulLimit};
 ghost use Rattle.nc_text.specs.Machine.{IsConfined};
 ghost use Rattle.nc_text.specs.Places.{limit_of};
-ghost use Rattle.nc_region.specs.Deletion.{IsDeleted, IsReclaimed, MayRefuseDelete};
+ghost use Rattle.nc_region.specs.Deletion.{IsDeleted, IsReclaimed, MayRefuseDelete, HasProgressed};
 ghost use Rattle.nc_region.specs.Patch.{IsModified, IsPatch, MayRefusePatch};
 ghost use Rattle.nc_region.specs.Region.{IsRegion, IsCreated, IsRefused, MayRefuse};
 ghost use Rattle.nc_region.specs.Region as spec;
@@ -102,8 +102,9 @@ impl<'g, A: Acts + Drop> SharedOf<'g, A> {
 
     /// `Region::reclaim` under the lock.
     pub fn reclaim(&self, rt: &impl Wait) -> u32
-        // This many chunks were due in the region found under the lock, and were freed.
-        ensures reclaimed { (old new : spec.Region) × IsRegion old.marked old.chunks × IsReclaimed old new result }
+        // This many chunks were due in the region found under the lock, and were freed: each for which every seat had checked in
+        // since its stamp, or had left, at some moment before the look.
+        ensures reclaimed { (old new : spec.Region) × IsRegion old.marked old.chunks × IsReclaimed old new result × HasProgressed new }
     {
         reclaim_in(&mut self.region.lock(rt))
     }
@@ -199,6 +200,7 @@ fn delete_in<A: Acts + Drop>(region: &mut RegionOf<A>, base: u32) -> Result<u64,
 fn reclaim_in<A: Acts + Drop>(region: &mut RegionOf<A>) -> u32
     ensures found { IsRegion region.old.marked region.old.chunks }
     ensures reclaimed { IsReclaimed region.old region.new result }
+    ensures progress { HasProgressed region.new }
 {
     // Called for its postconditions.
     let _facts = region.limit();

@@ -1,6 +1,6 @@
 -- The last turns of a chunk's life: the thread goes along a path, the chunk is deleted, the thread checks in, the span is freed.
 use Rattle.std.proofs.Common.{◌≡◌, ℕ, zero, suc, ◌+◌, ◌-◌, ◌≤◌, ◌<◌, Bool, cond, List, [], ◌∷◌, ◌++◌, length, map, take, replicate}
-use Rattle.std.proofs.Common.{arith, refl, ◌∙◌, sym, ap, subst}
+use Rattle.std.proofs.Common.{arith, refl, ◌∙◌, sym, ap, subst, le_refl}
 use Rattle.std.specs.Prelude.{All, slice_index}
 use Rattle.std.proofs.lemmas.Bool.{eq-eqb}
 use Rattle.std.proofs.lemmas.List.{take_at}
@@ -13,8 +13,8 @@ use Rattle.nc_gens.specs.declared.view.KeeperNumbers.{KeeperNumbers}
 use Rattle.nc_gens.specs.declared.view.WordStep.{WordStep}
 use Rattle.nc_gens.specs.declared.view.WordStep.TheVariants.{AddedOne, TookGeneration, StoredSince, TookWord}
 use Rattle.nc_gens.specs.Rule.{first_keeper_numbers, generation_raised}
-use Rattle.nc_gens.specs.History.{BeginsWith, is_by_keeper}
-use Rattle.nc_gens.proofs.Offered.{one_last}
+use Rattle.nc_gens.specs.History.{BeginsWith, is_by_keeper, IsRising, numbers_by, seat_word}
+use Rattle.nc_gens.proofs.Offered.{one_last, found_after, each_loaded, lowers_none, rising_none, rising_more}
 use Rattle.nc_gens.specs.Seen.{KeeperState, HasLooked}
 use Rattle.nc_list.specs.declared.chunk.ChunkState.TheVariants.{Retired}
 use Rattle.nc_region.specs.schedules.Spans.{RetiredSpan}
@@ -221,6 +221,15 @@ not_lower : (i : ℕ) → i < 1 → slice_index second_numbers.bounds i ≤ slic
 not_lower zero lt = omega arith
 not_lower (suc i) lt = absurd (omega (arith, lt))
 
+-- no step of the history lowers the one seat's word
+rises : IsRising 1 last_history
+rises =
+    rising_more 1 (AddedOne ∷ TookGeneration 0 ∷ StoredSince 0 ∷ []) (TookWord 0) (λ k. le_refl (seat_word 1 last_history k))
+    (rising_more 1 (AddedOne ∷ TookGeneration 0 ∷ []) (StoredSince 0)
+    (lowers_none (numbers_by 1 (AddedOne ∷ TookGeneration 0 ∷ [])) 0 _ (omega arith) (omega arith))
+    (rising_more 1 (AddedOne ∷ []) (TookGeneration 0) (lowers_none (numbers_by 1 (AddedOne ∷ [])) 0 _ (omega arith) (omega arith))
+    (rising_more 1 [] AddedOne (λ k. le_refl (seat_word 1 [] k)) (rising_none 1))))
+
 -- the keeper has looked at the one seat
 has_looked : (keeper : KeeperState)
     → HasLooked (record keeper { numbers = second_numbers; history = AddedOne ∷ [] })
@@ -242,6 +251,9 @@ has_looked keeper = record {
     led_to = λ led. refl;
   };
   led_to = refl;
+  rising = rises;
+  found = λ k inside. found_after 1 k (AddedOne ∷ []) (TookGeneration 0 ∷ StoredSince 0 ∷ TookWord 0 ∷ []) inside
+      (each_loaded 1 k (TookGeneration 0 ∷ StoredSince 0 ∷ TookWord 0 ∷ []) [] inside refl);
 }
 
 -- the reclaim leaves the region reclaimed (`IsReclaimed`)

@@ -8,7 +8,7 @@ use Rattle.nc_gens.specs.declared.view.WordStep.{WordStep}
 use Rattle.nc_gens.specs.declared.view.WordStep.TheVariants.{TookGeneration, SawGeneration, StoredSince, StoredLeft, AddedOne, TookWord}
 use Rattle.nc_gens.specs.Rule.{left_word, last_generation, generation_taken, generation_seen, since_stored, left_stored}
 use Rattle.nc_gens.specs.Rule.{generation_raised, word_taken}
-use Rattle.nc_gens.specs.History.{Adds, NoneSince, is_by_pass, is_by_keeper, numbers_by, pass_in}
+use Rattle.nc_gens.specs.History.{Adds, NoneSince, is_by_pass, is_by_keeper, numbers_by, pass_in, IsRising}
 
 -- what a token knows: its view (and its slots, of which this table has none)
 abbrev pub Known : Type 0
@@ -19,10 +19,11 @@ pub record HasStepped (v v' : View) (step : WordStep) : Type 0 where
   pub adds : Adds (is_by_pass v.seat) v.pass_history v'.pass_history (step ∷ [])
   pub numbers : v'.pass ≡ pass_in (numbers_by v.seats v'.pass_history) v.seat
 
--- the same for the keeper of this view
+-- the same for the keeper of this view; no step of its history has lowered a seat's word
 pub record KeeperHasStepped (v v' : View) (step : WordStep) : Type 0 where
   pub adds : Adds is_by_keeper v.keeper_history v'.keeper_history (step ∷ [])
   pub numbers : v'.keeper ≡ (numbers_by v.seats v'.keeper_history).keeper
+  pub rising : IsRising v.seats v'.keeper_history
 
 -- 1: a pass loads the generation
 pub record TakesGeneration (st : Step (Unit {0})) (m : Known) (n : ℕ) (m' : Known) : Type 0 where

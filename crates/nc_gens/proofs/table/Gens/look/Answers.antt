@@ -5,6 +5,7 @@ use Rattle.nc_gens.specs.declared.view.WordStep.TheVariants.{TookWord}
 use Rattle.nc_gens.specs.History.{Adds, is_by_keeper, numbers_by}
 use Rattle.nc_gens.specs.Seen.{IsLedTo}
 use Rattle.nc_gens.proofs.Histories.{adds_none, adds_both}
+use Rattle.nc_gens.proofs.Loads.{looked_found}
 use Rattle.std.proofs.lemmas.Grind.{common_steps}
 use Rattle.nc_gens.proofs.table.Gens.look.Goals as goal
 
@@ -21,6 +22,7 @@ loop-seat-init c =
       λ k low. refl,
       adds_none is_by_keeper c.args.keeper.now.history,
       subst IsLedTo c.keeper.view_is led,
+      λ some. absurd (omega arith),
     )
 
 pub loop-seat-preserved : goal.loop-seat-preserved
@@ -37,6 +39,7 @@ loop-seat-preserved c =
           (adds_both is_by_keeper c.args.keeper.now.history c.loop-seat.keeper.history c.look_at.new.keeper.history
           (map TookWord (range_with_len 0 c.loop-seat.seat)) (TookWord c.loop-seat.seat ∷ []) i.6 one.stepped.adds),
       one.led_to,
+      λ _. one.rising,
     )
 
 pub returns-clause-looked : goal.returns-clause-looked
@@ -49,6 +52,9 @@ returns-clause-looked c =
     let e = i.2.0 in
     let f = ap (λ k. length k.numbers.bounds) c.keeper.view_is in
     let g = ap length c.keeper.invariant.bounds_are in omega arith in
+    let adds : Adds is_by_keeper c.args.keeper.now.history c.loop-seat.keeper.history
+    (map TookWord (range_with_len 0 (length c.loop-seat.keeper.numbers.bounds))) =
+    subst (λ (z : ℕ). Adds is_by_keeper c.args.keeper.now.history c.loop-seat.keeper.history (map TookWord (range_with_len 0 z))) end i.6 in
     record {
       table = i.0;
       generation = i.1;
@@ -56,11 +62,15 @@ returns-clause-looked c =
       counted = search rules;
       raised = i.2;
       steps = record {
-        adds = subst (λ (z : ℕ). Adds is_by_keeper c.args.keeper.now.history c.loop-seat.keeper.history (map TookWord (range_with_len 0 z))) end i.6;
+        adds = adds;
         seats = i.2.0;
         led_to = λ _. i.7;
       };
       led_to = i.7;
+      rising = i.8 (let few = c.keeper.invariant.few in let wide = c.keeper.invariant.wide in
+          let g = ap length c.keeper.invariant.bounds_are in let f = ap (λ k. length k.numbers.bounds) c.keeper.view_is in
+          let e = i.2.0 in omega arith);
+      found = λ k inside. looked_found c.args.keeper.now c.loop-seat.keeper k adds i.7 inside;
     }
 
 pub least_bound-requires : goal.least_bound-requires

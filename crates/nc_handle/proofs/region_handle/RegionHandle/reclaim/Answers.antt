@@ -9,6 +9,7 @@ use Rattle.nc_calls.specs.Interleaving.{IsKeepers}
 use Rattle.nc_calls.specs.Histories.{UsesKeeper}
 use Rattle.nc_handle.specs.RegionHandle.{meetings}
 use Rattle.std.proofs.lemmas.Grind.{common_steps}
+use Rattle.nc_handle.proofs.Progress.{freed_given}
 use Rattle.nc_handle.proofs.Reporting.{reclaims}
 use Rattle.nc_handle.proofs.region_handle.RegionHandle.reclaim.Goals as goal
 
@@ -37,6 +38,8 @@ returns-clause-reclaimed c =
       meets = λ seats. UsesKeeper (ap (λ (r : Region). r.marked) same) (ap (λ (r : Region). r.chunks) same)
           (all_keepers c.args.self.now.passes) steps low;
       reclaimed = search rules;
+      progress = freed_given c.args.self.now c.attend.new.region c.reclaim.new.region c.attend.new.passes c.reclaim.result (search rules)
+          (search rules) (search rules) (search rules);
       call = c.reclaim.ensures.call;
       outside = grind (arith, common_steps);
       seats = grind (arith, common_steps);

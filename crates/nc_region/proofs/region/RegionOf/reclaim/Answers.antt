@@ -9,6 +9,7 @@ use Rattle.nc_region.specs.Deletion.{freed, unmarked}
 use Rattle.nc_region.proofs.chunks.ReadyPlaces.{ready_kept}
 use Rattle.nc_region.proofs.deleting.Due.{few, reclaimed_is}
 use Rattle.nc_region.proofs.deleting.Least.{least_below}
+use Rattle.nc_region.proofs.deleting.Progress.{progressed}
 use Rattle.nc_region.proofs.RegionParts.{region_of}
 use Rattle.nc_region.proofs.region.RegionOf.reclaim.Goals as goal
 
@@ -52,6 +53,9 @@ returns-clause-reclaimed g c =
     (c.free_due.ensures.made ∙ c.look-least.ensures.made)
     c.look-least.ensures.logged
     c.free_due.ensures.freed.unmarks.logs)
+
+pub returns-clause-progress : goal.returns-clause-progress
+returns-clause-progress g c = progressed _ _ c.free_due.result (returns-clause-reclaimed g c)
 
 pub returns-clause-confined : goal.returns-clause-confined
 returns-clause-confined g c = confined_if_closed _ _ c.free_due.ensures.freed.region.whole.closed
