@@ -13,7 +13,7 @@ use std::time::{Clock, Duration};
 /// Checks in `times` times.
 #[inline(never)]
 fn check_in_times<A: Acts + Drop>(shared: &SharedOf<'_, A>, pass: &mut Pass, times: u32)
-    requires { pass.old.table ≡ shared.now }
+    requires { pass.old.table ≡ shared.now.table }
     ensures { pass.new.table ≡ pass.old.table }
 {
     for _ in 0..times {

@@ -32,7 +32,7 @@ fn serve<A: Acts + Drop>(
     turns: &Turns,
     pass: &mut Pass,
 ) -> Result<u64, WalkFault>
-    requires { pass.old.table ≡ shared.now }
+    requires { pass.old.table ≡ shared.now.table }
     ensures { pass.new.table ≡ pass.old.table }
 {
     let mut astray = 0u64;
@@ -74,7 +74,7 @@ fn enter_again<A: Acts + Drop>(
     turns: &Turns,
     pass: &mut Pass,
 ) -> Result<u64, WalkFault>
-    requires { pass.old.table ≡ shared.now }
+    requires { pass.old.table ≡ shared.now.table }
     ensures { pass.new.table ≡ pass.old.table }
 {
     shared.check_in(pass);
@@ -92,7 +92,7 @@ fn visit<A: Acts + Drop>(
     pass: &mut Pass,
     stays: bool,
 ) -> Result<u64, WalkFault>
-    requires { pass.old.table ≡ shared.now }
+    requires { pass.old.table ≡ shared.now.table }
     ensures { pass.new.table ≡ pass.old.table }
 {
     let served = serve(rt, shared, turns, pass)?;
@@ -115,7 +115,7 @@ pub fn live<A: Acts + Drop>(
     pass: Pass,
     stays: bool,
 ) -> Result<u64, WalkFault>
-    requires { pass.table ≡ shared.now }
+    requires { pass.table ≡ shared.now.table }
 {
     let mut pass = pass;
     let astray = visit(rt, shared, turns, &mut pass, stays);

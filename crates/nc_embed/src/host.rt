@@ -178,7 +178,7 @@ fn run_both<R: Threads + Wait + Print + Sync, A: Acts + Drop + Send>(
     one: Pass,
     other: Pass,
 ) -> Result<(u64, u64), HostFault>
-    requires { (one.table ≡ shared.now) × (other.table ≡ shared.now) }
+    requires { (one.table ≡ shared.now.table) × (other.table ≡ shared.now.table) }
 {
     let turns = Turns::new();
     let turns = &turns;
@@ -186,13 +186,13 @@ fn run_both<R: Threads + Wait + Print + Sync, A: Acts + Drop + Send>(
         thread::scope_env(),
         rt,
         move |scope|
-            requires { (one.table ≡ shared.now) × (other.table ≡ shared.now) }
+            requires { (one.table ≡ shared.now.table) × (other.table ≡ shared.now.table) }
         {
             let stays = move ||
-                requires { one.table ≡ shared.now }
+                requires { one.table ≡ shared.now.table }
             { live(rt, shared, turns, one, true) };
             let goes = move ||
-                requires { other.table ≡ shared.now }
+                requires { other.table ≡ shared.now.table }
             { live(rt, shared, turns, other, false) };
             let first = scope.spawn(stays).ok();
             let second = scope.spawn(goes).ok();
@@ -209,7 +209,7 @@ pub fn run<R: Threads + Wait + Print + Sync, A: Acts + Drop + Send>(
     one: Pass,
     other: Pass,
 ) -> Result<(), HostFault>
-    requires { (one.table ≡ shared.now) × (other.table ≡ shared.now) }
+    requires { (one.table ≡ shared.now.table) × (other.table ≡ shared.now.table) }
 {
     let (first, second) = run_both(rt, alloc, shared, one, other)?;
     print_outcome(rt, "the first thread's runs that went astray", first)?;

@@ -1,3 +1,5 @@
+pub mod Locking
+pub mod Reaching
 pub mod events
 pub mod RegionParts
 pub mod chunks

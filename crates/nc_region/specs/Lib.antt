@@ -6,3 +6,5 @@ pub mod Quiet
 pub mod Deletion
 pub mod Patch
 pub mod Trace
+pub mod Reached
+pub mod Locks

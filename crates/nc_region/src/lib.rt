@@ -49,6 +49,7 @@ mod delete;
 mod fault;
 mod law;
 mod listing;
+mod lock;
 mod patch;
 mod reclaim;
 mod region;

@@ -35,7 +35,7 @@ fn all_calls<T: Threads>(
     shared: &Shared<'_>,
     mut visitor: Pass,
 ) -> [u64; 4]
-    requires { (keeper.old.table ≡ gens.now) × (pass.table ≡ gens.now) × (visitor.table ≡ shared.now) }
+    requires { (keeper.old.table ≡ gens.now) × (pass.table ≡ gens.now) × (visitor.table ≡ shared.now.table) }
 {
     let stamp = gens.bump(keeper).unwrap_or(0);
     gens.meet(&mut pass, keeper);

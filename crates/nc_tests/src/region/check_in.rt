@@ -18,7 +18,7 @@ const LIMIT: u32 = 0x11000;
 
 /// Checks in several times, without the lock.
 fn check_in_often<A: Acts + Drop>(shared: &SharedOf<'_, A>, pass: &mut Pass, times: usize)
-    requires { pass.old.table ≡ shared.now }
+    requires { pass.old.table ≡ shared.now.table }
     ensures { pass.new.table ≡ pass.old.table }
 {
     for _ in 0..times {
@@ -33,8 +33,8 @@ fn all_check_in<R: Threads + Sync, A: Acts + Drop + Send>(
     passes: &mut [Pass],
     times: usize,
 )
-    requires { All (λ p. p.table ≡ shared.now) passes.old }
-    ensures { All (λ p. p.table ≡ shared.now) passes.new }
+    requires { All (λ p. p.table ≡ shared.now.table) passes.old }
+    ensures { All (λ p. p.table ≡ shared.now.table) passes.new }
 {
     for_each_mut(
         rt,
@@ -71,14 +71,14 @@ fn check_in_beside<R: Threads + Wait + Sync, A: Acts + Drop + Send>(
     shared: &SharedOf<'_, A>,
     passes: &mut [Pass],
 ) -> Option<u32>
-    requires { All (λ p. p.table ≡ shared.now) passes.old }
-    ensures { All (λ p. p.table ≡ shared.now) passes.new }
+    requires { All (λ p. p.table ≡ shared.now.table) passes.old }
+    ensures { All (λ p. p.table ≡ shared.now.table) passes.new }
 {
     let (_, wrote) = join_mut(
         rt,
         &mut ||
-            requires { IsSync R.row × All (λ p. p.table ≡ shared.now) passes.now }
-            ensures { All (λ p. p.table ≡ shared.entry.now) passes.exit.now }
+            requires { IsSync R.row × All (λ p. p.table ≡ shared.now.table) passes.now }
+            ensures { All (λ p. p.table ≡ shared.entry.now.table) passes.exit.now }
         { all_check_in(rt, shared, passes, 1000) },
         &mut || write_all(alloc, &mut Locked { rt, shared }),
     );
@@ -92,7 +92,7 @@ fn last_leaves<R: Threads + Sync, A: Acts + Drop + Send>(
     shared: &SharedOf<'_, A>,
     passes: Vec<Pass>,
 )
-    requires { All (λ p. p.table ≡ shared.now) passes.items }
+    requires { All (λ p. p.table ≡ shared.now.table) passes.items }
 {
     let mut passes = passes;
     if let Some(last) = passes.pop() {
@@ -124,7 +124,7 @@ fn check_in_and_leave<R: Threads + Wait + Sync, A: Acts + Drop + Send>(
     shared: SharedOf<'_, A>,
     passes: Vec<Pass>,
 ) -> bool
-    requires { All (λ p. p.table ≡ shared) passes.items }
+    requires { All (λ p. p.table ≡ shared.table) passes.items }
 {
     let shared = &shared;
     let mut passes = passes;

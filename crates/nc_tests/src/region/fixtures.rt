@@ -44,7 +44,7 @@ fn is_created<A: Acts + Drop>(region: &mut RegionOf<A>, vetted: Vetted) -> bool
 
 /// A region for threads to share, once this chunk is created in it.
 fn share<'g>(region: Region<'g>, vetted: Vetted) -> Option<Shared<'g>>
-    ensures { IfSome result (λ s. s ≡ region.entry.keeper.table) }
+    ensures { IfSome result (λ s. s.table ≡ region.entry.keeper.table) }
 {
     let mut region = region;
     if is_created(&mut region, vetted) {
@@ -61,7 +61,7 @@ pub(crate) fn shared_anew<'g>(
     keeper: Keeper,
 ) -> Option<Shared<'g>>
     requires { keeper.table ≡ gens.now }
-    ensures { IfSome result (λ s. s ≡ gens.now) }
+    ensures { IfSome result (λ s. s.table ≡ gens.now) }
 {
     match Region::new(alloc, bundles, gens, keeper) {
         Ok(region) => Some(Shared::new(region)),
@@ -79,7 +79,7 @@ pub(crate) fn shared<'g>(
     keeper: Keeper,
 ) -> Option<Shared<'g>>
     requires { keeper.table ≡ gens.now }
-    ensures { IfSome result (λ s. s ≡ gens.now) }
+    ensures { IfSome result (λ s. s.table ≡ gens.now) }
 {
     let limit = 0x10000u32.wrapping_add(bundles.wrapping_mul(32));
     let vetted = chunk(alloc, base, limit, 1, &[0xEB, 0xFE])?;

@@ -113,7 +113,7 @@ fn calls_are_right<C: Calls, A: Acts + Drop>(
     shared: &SharedOf<'_, A>,
     mut pass: Pass,
 ) -> bool
-    requires { pass.table ≡ shared.now }
+    requires { pass.table ≡ shared.now.table }
 {
     let joined = take_steps(alloc, region, LIMIT, &JOINED);
     shared.check_in(&mut pass);
@@ -130,7 +130,7 @@ fn is_shared<R: Threads + Wait + Sync, A: Acts + Drop + Send>(
     shared: SharedOf<'_, A>,
     pass: Pass,
 ) -> bool
-    requires { pass.table ≡ shared }
+    requires { pass.table ≡ shared.table }
 {
     let shared = &shared;
     let lengths = run_two(rt, alloc, shared);

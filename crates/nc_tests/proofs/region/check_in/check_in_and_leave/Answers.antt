@@ -11,6 +11,6 @@ kept_back P old new n before now = All-take P n (new ++ drop (length new) old)
 
 pub last_leaves-requires-after_bounds : goal.last_leaves-requires-after_bounds
 last_leaves-requires-after_bounds g c κs _ =
-    let P : Pass → Type 0 = λ p. p.table ≡ c.args.shared in
+    let P : Pass → Type 0 = λ p. p.table ≡ c.args.shared.table in
     let before : All P c.args.passes.items = c.requires in
     kept_back P c.args.passes.items c.check_in_beside-freed.new.passes c.args.passes.len before c.check_in_beside-freed.ensures
