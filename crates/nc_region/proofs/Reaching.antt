@@ -1,6 +1,6 @@
 -- A call keeps what a lock's rule says: the region that it leaves was reached from the same first one.
 use Rattle.std.proofs.Common.{◌≡◌, ℕ, List, length, Option, None, Some, Result, Ok, Err, OnOk, OnErr, IfOk, IfErr, sym, subst}
-use Rattle.nc_vet.specs.Chunk.{MarkedChunk}
+use Rattle.nc_vet.specs.Chunk.{MarkedChunk, IsValid}
 use Rattle.nc_text.specs.Places.{limit_of}
 use Rattle.nc_region.specs.declared.fault.CreateFault.{CreateFault}
 use Rattle.nc_region.specs.declared.fault.ModifyFault.{ModifyFault}
@@ -29,8 +29,8 @@ after-modify first (Ok _) old new at bytes under lawful is _ = after-call first 
 after-modify first (Err fault) old new at bytes under _ _ same = kept first under same
 
 pub after-create : (first : Option Region) (answer : Result (Unit {0}) (MarkedChunk × CreateFault)) (old new : Region) (v : MarkedChunk)
-    → IsUnderRule first old → OnOk answer (IsCreated old new v)
+    → IsUnderRule first old → IsValid v → OnOk answer (IsCreated old new v)
     → OnOk answer ((v.limit ≡ limit_of old.marked.bytes) × ¬ Meets v.base (length v.code) old.chunks)
     → IfErr answer (λ e. (e.0 ≡ v) × IsRefused old new v e.1) → IfErr answer (λ e. MayRefuse old v e.1) → IsUnderRule first new
-after-create first (Ok _) old new v under is free _ _ = after-call first under (OfCreate v free.0 free.1 is)
-after-create first (Err e) old new v under _ _ refused may = after-call first under (OfRefusedCreate v e.1 may refused.1)
+after-create first (Ok _) old new v under valid is free _ _ = after-call first under (OfCreate v valid free.0 free.1 is)
+after-create first (Err e) old new v under _ _ _ refused may = after-call first under (OfRefusedCreate v e.1 may refused.1)

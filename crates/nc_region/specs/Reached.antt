@@ -8,10 +8,10 @@ use Rattle.nc_region.specs.Region.{Region, IsCreated, IsRefused, MayRefuse, Meet
 use Rattle.nc_region.specs.Patch.{IsPatch, IsModified}
 use Rattle.nc_region.specs.Deletion.{IsDeleted, IsReclaimed}
 
--- One call made the new region of the old one, as the call's contract says: it created, patched or deleted a chunk, or reclaimed. A
--- refused creation may have made pages; every other refusal, and every call that only reads, leaves the region as it was.
+-- One call made the new region of the old one, as the call's contract says: it created a valid chunk, patched or deleted one, or
+-- reclaimed. A refused creation may have made pages. Every other refusal, and every call that only reads, leaves the region as it was.
 pub data IsOneCall (old new : Region) : Type 0 where
-  OfCreate : (v : vet.MarkedChunk) → v.limit ≡ limit_of old.marked.bytes → ¬ Meets v.base (length v.code) old.chunks
+  OfCreate : (v : vet.MarkedChunk) → vet.IsValid v → v.limit ≡ limit_of old.marked.bytes → ¬ Meets v.base (length v.code) old.chunks
       → IsCreated old new v → IsOneCall old new
   OfRefusedCreate : (v : vet.MarkedChunk) (fault : CreateFault) → MayRefuse old v fault → IsRefused old new v fault → IsOneCall old new
   OfModify : (at : ℕ) (bytes : List ℕ) → IsPatch old at bytes → IsModified old new at bytes → IsOneCall old new

@@ -265,8 +265,9 @@ fn create_in<A: Acts + Drop, K: Rule>(
     ensures unchanged { IfErr result (λ e. (e.0 ≡ vetted) × IsRefused ruled.old ruled.new vetted e.1) }
     ensures refused { IfErr result (λ e. MayRefuse ruled.old vetted e.1) }
 {
-    // Called for its postconditions.
+    // Both are called for their postconditions.
     let _facts = ruled.value.limit();
+    let _facts = vetted.code();
     ruled.value.create(vetted)
 }
 
