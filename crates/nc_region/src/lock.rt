@@ -62,8 +62,10 @@ impl<T: HasRegion + Drop> Drop for Lock<T> {
     }
 }
 
+// SAFETY: What a `Lock` owns is what a `RuledLock` owns, which may be sent where its value may.
 unsafe impl<T: HasRegion + Send> Send for Lock<T> {}
 
+// SAFETY: What `&Lock` shares is what `&RuledLock` shares, a mutex.
 unsafe impl<T: HasRegion + Send> Sync for Lock<T> {}
 
 /// A value behind a lock, under a rule that says which region the value has.
