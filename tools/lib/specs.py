@@ -10,9 +10,9 @@ STANDS_FOR = {("nc_decode", "specs/machinery/Reading.antt", "reading"): ("nc_dec
 # A definition that is only a premise, with the files whose public functions are each proved to meet it, and the clauses that say so. (The
 # other clauses of these functions say what else their bodies do.)
 MET_BY = {
-    ("nc_calls", "specs/Histories.antt", "IsCall"): [("nc_calls", "src/calls.rt", ("call", "refused", "logged"))],
-    ("nc_calls", "specs/Histories.antt", "IsRefusal"): [("nc_calls", "src/calls.rt", ("refused",))],
-    ("nc_handle", "specs/Pending.antt", "IsHandleCall"): [
+    ("nc_histories", "specs/Histories.antt", "IsCall"): [("nc_histories", "src/calls.rt", ("call", "refused", "logged"))],
+    ("nc_histories", "specs/Histories.antt", "IsRefusal"): [("nc_histories", "src/calls.rt", ("refused",))],
+    ("nc_host_handles", "specs/Pending.antt", "IsHandleCall"): [
         ("nc_host", "src/region_change.rt", ("pending",)),
         ("nc_host", "src/region_delete.rt", ("pending",)),
         ("nc_host", "src/vetted.rt", ("pending",)),

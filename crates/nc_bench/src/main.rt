@@ -41,7 +41,7 @@ use command_line::{Ask, asked};
 use idle::measure_idle;
 use lookups::measure_lookups;
 use measurements::matches;
-use nc_usage::arguments;
+use nc_cli::arguments;
 use reclaim::measure_reclaim;
 use std::process::ExitCode;
 use std::rt::{Env, Files};

@@ -2,7 +2,7 @@
 
 use clap::builder::ValueParser;
 use clap::{ArgAction, ArgMatches, Error};
-use nc_usage::{Program, Usage, Word};
+use nc_cli::{Program, Usage, Word};
 use std::alloc::Global;
 
 /// The parser of a number from 1 on.
@@ -158,5 +158,5 @@ pub fn matches<'a>(alloc: Global, words: &'a [&'a str]) -> Result<ArgMatches<'a>
     } else {
         words
     };
-    nc_usage::matches(alloc, &BENCH, words)
+    nc_cli::matches(alloc, &BENCH, words)
 }

@@ -10,10 +10,10 @@ mod halt;
 
 use clap::error::ErrorKind as ClapKind;
 use halt::Halt;
+use nc_cli::arguments;
 use nc_command::{CheckAsk, ask_check, check_words};
 use nc_files::{Failure, Progress, check_files};
 use nc_output::PipeWriter;
-use nc_usage::arguments;
 use std::io::{self, ErrorKind, Input, IsTerminal};
 use std::process::ExitCode;
 use std::rt::{Env, Files};

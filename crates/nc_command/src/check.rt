@@ -10,9 +10,9 @@ use crate::replay::number;
 use clap::builder::ValueParser;
 use clap::error::ErrorKind;
 use clap::{ArgAction, ArgMatches, Error};
+use nc_cli::{FLAG, OPTION, Program, Usage, Word, command_words, fault, matches};
 use nc_decode::MAX_BUNDLES;
 use nc_output::{Detail, Format, Style};
-use nc_usage::{FLAG, OPTION, Program, Usage, Word, command_words, fault, matches};
 use std::alloc::{AllocError, Global};
 use std::rt::Env;
 

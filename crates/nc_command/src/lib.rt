@@ -1,7 +1,7 @@
 //! The command lines of `nc_replay` and `nc_check`, and the requests that their words make.
 //!
 //! [`ask_replay`] and [`ask_check`] parse the words of the two programs, which [`replay_words`] and [`check_words`] take from the
-//! system. [`ask`] parses words that ask for the work of `nc_replay` alone. Each command line is a table of `nc_usage`.
+//! system. [`ask`] parses words that ask for the work of `nc_replay` alone. Each command line is a table of `nc_cli`.
 #![tactic(auto)]
 
 mod asked;

@@ -1,8 +1,8 @@
 //! Options that both programs have.
 
 use clap::builder::ValueParser;
+use nc_cli::{OPTION, Word};
 use nc_decode::MAX_BUNDLES;
-use nc_usage::{OPTION, Word};
 
 /// The option for the size of the region, before it has a value.
 pub(crate) const BUNDLES: Word = Word {

@@ -8,9 +8,9 @@ use crate::options::{BUNDLES, WORKERS};
 use clap::builder::ValueParser;
 use clap::error::ErrorKind;
 use clap::{ArgMatches, Error};
+use nc_cli::{FLAG, OPTION, Program, Usage, Word, command_words, fault, matches};
 use nc_decode::MAX_BUNDLES;
 use nc_gens::MOST_SEATS;
-use nc_usage::{FLAG, OPTION, Program, Usage, Word, command_words, fault, matches};
 use std::alloc::Global;
 use std::rt::Env;
 

@@ -1,8 +1,8 @@
 -- Refusals that are reported by numbers.
 use Rattle.std.proofs.Common.{◌≡◌, ℕ, ◌<◌, Ok, Err, inr, arith, ap, subst}
 use Rattle.std.specs.Prelude.{Option, Some, Result, IfOk, IfErr}
-use Rattle.nc_handle.specs.declared.fault.RunsFault.{RunsFault}
-use Rattle.nc_handle.specs.RegionHandle.{RegionHandleState}
+use Rattle.nc_host_handles.specs.declared.fault.RunsFault.{RunsFault}
+use Rattle.nc_host_handles.specs.RegionHandle.{RegionHandleState}
 use Rattle.nc_host.specs.declared.region_answers.NcChange.{NcChange}
 use Rattle.nc_host.specs.Handles.{IsNumberedRefusal}
 use Rattle.nc_host.specs.Running.{runs_number, runs_wanted}

@@ -4,8 +4,8 @@ use Rattle.std.specs.Prelude.{map, slice_get}
 use Rattle.std.proofs.lemmas.List.{length-map, map-append, length-take-le, take_more}
 use Rattle.std.proofs.lemmas.Option.{get_or_from_slice_get}
 use Rattle.nc_decode.specs.declared.instruction.Mark.{Mark}
-use Rattle.nc_entries.specs.Shown.{over}
-use Rattle.nc_entries.proofs.Offered.{over_more}
+use Rattle.nc_host_acts.specs.Shown.{over}
+use Rattle.nc_host_acts.proofs.Offered.{over_more}
 use Rattle.nc_host.specs.Shown.{mark_number}
 
 -- a mark written behind the first ones in a buffer is one more of them

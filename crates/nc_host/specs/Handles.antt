@@ -5,19 +5,19 @@ use Rattle.nc_text.specs.Ready.{GetsReady}
 use Rattle.nc_vet.specs.Chunk.{MarkedChunk, IsValid}
 use Rattle.nc_region.specs.declared.fault.CreateFault.TheVariants.{WrongLimit, Occupied, OutOfMemory}
 use Rattle.nc_region.specs.declared.fault.DeleteFault.TheVariants.{NoChunk, GensFull}
-use Rattle.nc_handle.specs.declared.fault.NewFault.{NewFault}
-use Rattle.nc_handle.specs.declared.fault.NewFault.TheVariants as new
-use Rattle.nc_handle.specs.declared.fault.SeatFault.{SeatFault}
-use Rattle.nc_handle.specs.declared.fault.SeatFault.TheVariants as seat
-use Rattle.nc_handle.specs.declared.fault.LoadFault.{LoadFault}
-use Rattle.nc_handle.specs.declared.fault.LoadFault.TheVariants as load
-use Rattle.nc_handle.specs.declared.fault.PatchFault.{PatchFault}
-use Rattle.nc_handle.specs.declared.fault.PatchFault.TheVariants as patch
-use Rattle.nc_handle.specs.declared.fault.RetireFault.{RetireFault}
-use Rattle.nc_handle.specs.declared.fault.RetireFault.TheVariants as retire
-use Rattle.nc_handle.specs.declared.vetted_handle.VettedHandle.{VettedHandle}
-use Rattle.nc_handle.specs.RegionHandle.{RegionHandleState}
-use Rattle.nc_handle.specs.Pending.{ChangesPages}
+use Rattle.nc_host_handles.specs.declared.fault.NewFault.{NewFault}
+use Rattle.nc_host_handles.specs.declared.fault.NewFault.TheVariants as new
+use Rattle.nc_host_handles.specs.declared.fault.SeatFault.{SeatFault}
+use Rattle.nc_host_handles.specs.declared.fault.SeatFault.TheVariants as seat
+use Rattle.nc_host_handles.specs.declared.fault.LoadFault.{LoadFault}
+use Rattle.nc_host_handles.specs.declared.fault.LoadFault.TheVariants as load
+use Rattle.nc_host_handles.specs.declared.fault.PatchFault.{PatchFault}
+use Rattle.nc_host_handles.specs.declared.fault.PatchFault.TheVariants as patch
+use Rattle.nc_host_handles.specs.declared.fault.RetireFault.{RetireFault}
+use Rattle.nc_host_handles.specs.declared.fault.RetireFault.TheVariants as retire
+use Rattle.nc_host_handles.specs.declared.vetted_handle.VettedHandle.{VettedHandle}
+use Rattle.nc_host_handles.specs.RegionHandle.{RegionHandleState}
+use Rattle.nc_host_handles.specs.Pending.{ChangesPages}
 use Rattle.nc_host.specs.Shown.{patch_number}
 
 -- the handle had a value and has one, and the relation holds between the two

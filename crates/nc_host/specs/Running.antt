@@ -1,7 +1,7 @@
 -- The numbers reported to a host if runs are refused.
 use Rattle.std.specs.Prelude.{ℕ}
-use Rattle.nc_handle.specs.declared.fault.RunsFault.{RunsFault}
-use Rattle.nc_handle.specs.declared.fault.RunsFault.TheVariants.{NoChunk, NoRoom}
+use Rattle.nc_host_handles.specs.declared.fault.RunsFault.{RunsFault}
+use Rattle.nc_host_handles.specs.declared.fault.RunsFault.TheVariants.{NoChunk, NoRoom}
 
 -- the number of a refusal of runs: `none` if there is no chunk, 9 for no room
 abbrev pub runs_number : ℕ → RunsFault → ℕ

@@ -3,7 +3,7 @@ use Rattle.std.specs.Prelude.{◌≡◌, ◌⊎◌, ◌<◌, ℕ, List, length}
 use Rattle.nc_region.specs.declared.trace.End.{End}
 use Rattle.nc_region.specs.declared.trace.End.TheVariants.{Stop, Trampoline, Beyond, More}
 use Rattle.nc_region.specs.Trace.{IsTrace, IsOnlyTrace, IsSafeWalk, IsWalkStart}
-use Rattle.nc_entries.specs.Shown.{over}
+use Rattle.nc_host_acts.specs.Shown.{over}
 use Rattle.nc_host.specs.declared.region_answers.NcWalk.{NcWalk}
 
 -- the number of an end

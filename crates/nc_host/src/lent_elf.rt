@@ -5,7 +5,7 @@ ghost use Rattle.nc_elf.specs.declared.fault.ElfFault.{ElfFault};
 ghost use Rattle.nc_elf.specs.declared.fault.LoadedFault.{LoadedFault};
 ghost use Rattle.nc_elf.specs.Faults.{HasElfFault, MayRefuseLoaded};
 ghost use Rattle.nc_elf.specs.Segments.{IsLoadable, IsLoadedBelow, IsWellFormed, loaded_segments_of};
-ghost use Rattle.nc_entries.specs.Shown.{over};
+ghost use Rattle.nc_host_acts.specs.Shown.{over};
 ghost use Rattle.nc_host.specs.Files.{elf_header, elf_number, refused_file, segment_number};
 
 use crate::lent_answers::{NO_MEMORY, NO_ROOM, NcSegments};

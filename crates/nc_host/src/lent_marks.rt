@@ -4,7 +4,7 @@ ghost use Rattle.std.specs.Prelude.{◌≡◌, ◌<◌, ◌≤◌, ◌⊎◌, �
 ghost use Rattle.nc_decode.specs.declared.instruction.Mark.{Mark};
 ghost use Rattle.nc_text.specs.MarkedText.{NamesRegister};
 ghost use Rattle.nc_vet.specs.Listed.{listed};
-ghost use Rattle.nc_entries.specs.Shown.{over};
+ghost use Rattle.nc_host_acts.specs.Shown.{over};
 ghost use Rattle.nc_host.specs.Shown.{mark_number};
 ghost use Rattle.nc_host.specs.Outcomes.{IsAccepted, IsOutcome};
 

@@ -54,7 +54,7 @@ pub use lent_image::nc_host_image;
 pub use lent_marks::nc_host_marks;
 pub use lent_vet::nc_host_vet;
 pub use nc_elf::NcSegment;
-pub use nc_handle::NcAct;
+pub use nc_host_handles::NcAct;
 pub use region_answers::{NcChange, NcChunk, NcCount, NcPlace, NcStamp, NcWalk};
 pub use region_change::{nc_region_create, nc_region_patch};
 pub use region_delete::{nc_region_begin_delete, nc_region_end_delete, nc_region_reclaim};

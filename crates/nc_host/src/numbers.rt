@@ -5,7 +5,7 @@ ghost use Rattle.nc_host.specs.Shown.{patch_number};
 ghost use Rattle.nc_host.specs.Handles.{new_number, seat_number, load_number, load_wanted, modify_number, modify_wanted, retire_number, retire_wanted};
 
 use crate::lent_answers::{NO_MEMORY, NO_ROOM};
-use nc_handle::{LoadFault, NewFault, PatchFault, RetireFault, SeatFault};
+use nc_host_handles::{LoadFault, NewFault, PatchFault, RetireFault, SeatFault};
 use nc_region::{CreateFault, DeleteFault, ModifyFault};
 
 /// The handle is empty.

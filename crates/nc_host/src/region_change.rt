@@ -5,18 +5,18 @@ ghost use Rattle.nc_text.specs.Places.{limit_of};
 ghost use Rattle.nc_vet.specs.Chunk.{MarkedChunk, Piece};
 ghost use Rattle.nc_acts.specs.Log.{log_of_create};
 ghost use Rattle.nc_region.specs.Patch.{AreBytesOf, log_of_modify};
-ghost use Rattle.nc_handle.specs.RegionHandle.{HasLoaded, HasPatched, RegionHandleState, IsShortForPatch, MayRefuseLoad, MayRefuseModify};
-ghost use Rattle.nc_handle.specs.Pending.{ReportsPending};
-ghost use Rattle.nc_handle.specs.Lent.{IsReported};
-ghost use Rattle.nc_handle.specs.declared.fault.LoadFault.{LoadFault};
-ghost use Rattle.nc_handle.specs.declared.fault.PatchFault.{PatchFault};
+ghost use Rattle.nc_host_handles.specs.RegionHandle.{HasLoaded, HasPatched, RegionHandleState, IsShortForPatch, MayRefuseLoad, MayRefuseModify};
+ghost use Rattle.nc_host_handles.specs.Pending.{ReportsPending};
+ghost use Rattle.nc_host_handles.specs.Lent.{IsReported};
+ghost use Rattle.nc_host_handles.specs.declared.fault.LoadFault.{LoadFault};
+ghost use Rattle.nc_host_handles.specs.declared.fault.PatchFault.{PatchFault};
 ghost use Rattle.nc_host.specs.Handles.{IsChunkFor, IsDone, IsNumberedRefusal, IsSameButPages, load_number, load_wanted, modify_number, modify_wanted};
 ghost use Rattle.nc_host.specs.Outcomes.{IsChunkFault};
 
 use crate::chunks::vet_copy;
 use crate::numbers::{NOTHING, load_numbers, modify_numbers};
 use crate::region_answers::{NcChange, no_change};
-use nc_handle::{NcAct, NcRegion, RegionHandle};
+use nc_host_handles::{NcAct, NcRegion, RegionHandle};
 use nc_vet::Vetted;
 use std::alloc::Global;
 

@@ -4,15 +4,15 @@ ghost use Rattle.std.specs.Prelude.{◌≡◌, ◌<◌, ◌⊎◌, ℕ, None, So
 ghost use Rattle.nc_vet.specs.Chunk.{MarkedChunk};
 ghost use Rattle.nc_list.specs.declared.chunk.Chunk.{Chunk};
 ghost use Rattle.nc_acts.specs.Log.{log_of_delete};
-ghost use Rattle.nc_handle.specs.RegionHandle.{RegionHandleState, HasBegunDeletion, HasEndedDeletion, HasReclaimed, MayRefuseBegin};
-ghost use Rattle.nc_handle.specs.Pending.{ReportsPending, DoesItself};
-ghost use Rattle.nc_handle.specs.Lent.{IsReported};
-ghost use Rattle.nc_handle.specs.declared.fault.RetireFault.{RetireFault};
+ghost use Rattle.nc_host_handles.specs.RegionHandle.{RegionHandleState, HasBegunDeletion, HasEndedDeletion, HasReclaimed, MayRefuseBegin};
+ghost use Rattle.nc_host_handles.specs.Pending.{ReportsPending, DoesItself};
+ghost use Rattle.nc_host_handles.specs.Lent.{IsReported};
+ghost use Rattle.nc_host_handles.specs.declared.fault.RetireFault.{RetireFault};
 ghost use Rattle.nc_host.specs.Handles.{IsDone, IsNumberedRefusal, retire_number, retire_wanted};
 
 use crate::numbers::{NOT_BEGUN, NOTHING, UNDERWAY, retire_numbers};
 use crate::region_answers::{NcChange, NcCount, NcStamp, no_change};
-use nc_handle::{NcAct, NcRegion, RegionHandle};
+use nc_host_handles::{NcAct, NcRegion, RegionHandle};
 use std::alloc::Global;
 
 /// The first call of a deletion, with its result as numbers.

@@ -5,14 +5,14 @@ ghost use Rattle.nc_text.specs.Places.{InRegion, limit_of};
 ghost use Rattle.nc_vet.specs.Faults.{HasGoodSpan};
 ghost use Rattle.nc_list.specs.declared.chunk.Chunk.{Chunk};
 ghost use Rattle.nc_region.specs.Region.{IsAboveAll, IsNextChunk};
-ghost use Rattle.nc_handle.specs.RegionHandle.{RegionHandleState};
+ghost use Rattle.nc_host_handles.specs.RegionHandle.{RegionHandleState};
 ghost use Rattle.nc_host.specs.Shown.{mark_number};
 ghost use Rattle.nc_host.specs.Looks.{shown_chunk, no_chunk, shown_place, no_place};
 
 use crate::numbers::{NO_CHUNK, NO_PLACE, NOTHING};
 use crate::region_answers::{NcChunk, NcPlace, NcStamp, no_chunk, no_place};
 use nc_decode::Mark;
-use nc_handle::{NcRegion, RegionHandle};
+use nc_host_handles::{NcRegion, RegionHandle};
 use nc_region::{Chunk, ChunkState};
 use std::alloc::Global;
 

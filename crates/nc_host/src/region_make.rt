@@ -2,13 +2,13 @@
 
 ghost use Rattle.std.specs.Prelude.{◌≡◌, ◌<◌, ◌≤◌, ◌⊎◌, None, Some, IfOk, IfErr};
 ghost use Rattle.nc_gens.specs.Seen.{PassState};
-ghost use Rattle.nc_handle.specs.RegionHandle.{RegionHandleState, IsFirst, MayRefuseNew, MayRefuseSeat, HasGiven};
-ghost use Rattle.nc_handle.specs.declared.fault.NewFault.{NewFault};
-ghost use Rattle.nc_handle.specs.declared.fault.SeatFault.{SeatFault};
+ghost use Rattle.nc_host_handles.specs.RegionHandle.{RegionHandleState, IsFirst, MayRefuseNew, MayRefuseSeat, HasGiven};
+ghost use Rattle.nc_host_handles.specs.declared.fault.NewFault.{NewFault};
+ghost use Rattle.nc_host_handles.specs.declared.fault.SeatFault.{SeatFault};
 ghost use Rattle.nc_host.specs.Handles.{IsDone, new_number, seat_number};
 
 use crate::numbers::{NOTHING, TAKEN, new_number, seat_number};
-use nc_handle::{NcRegion, NcSeat, NewFault, RegionHandle};
+use nc_host_handles::{NcRegion, NcSeat, NewFault, RegionHandle};
 use std::alloc::Global;
 
 /// A new region in a box.

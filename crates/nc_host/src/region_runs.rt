@@ -2,15 +2,15 @@
 
 ghost use Rattle.std.specs.Prelude.{◌≡◌, ◌<◌, Some, IfOk, IfErr, length};
 ghost use Rattle.nc_list.specs.declared.chunk.Chunk.{Chunk};
-ghost use Rattle.nc_handle.specs.RegionHandle.{RegionHandleState, IsLiveAt};
-ghost use Rattle.nc_handle.specs.RunCalls.{AreCreationRuns, AreDeletionRuns, MayRefuseCreationRuns, MayRefuseDeletionRuns};
+ghost use Rattle.nc_host_handles.specs.RegionHandle.{RegionHandleState, IsLiveAt};
+ghost use Rattle.nc_host_handles.specs.RunCalls.{AreCreationRuns, AreDeletionRuns, MayRefuseCreationRuns, MayRefuseDeletionRuns};
 ghost use Rattle.nc_host.specs.Handles.{IsNumberedRefusal};
 ghost use Rattle.nc_host.specs.Running.{runs_number, runs_wanted};
 
 use crate::lent_answers::NO_ROOM;
 use crate::numbers::{NO_CHUNK, NOT_BEGUN, NOTHING};
 use crate::region_answers::{NcChange, no_change};
-use nc_handle::{NcAct, NcRegion, RunsFault};
+use nc_host_handles::{NcAct, NcRegion, RunsFault};
 use std::alloc::Global;
 
 /// The result of a call for runs, with this number if there is no chunk.

@@ -1,14 +1,14 @@
 //! Walks through a region's text, written into a host's buffer.
 
 ghost use Rattle.std.specs.Prelude.{◌≡◌, ◌<◌, ◌≤◌, ◌⊎◌, None, Some, length};
-ghost use Rattle.nc_entries.specs.Shown.{over};
-ghost use Rattle.nc_handle.specs.RegionHandle.{RegionHandleState};
+ghost use Rattle.nc_host_acts.specs.Shown.{over};
+ghost use Rattle.nc_host_handles.specs.RegionHandle.{RegionHandleState};
 ghost use Rattle.nc_host.specs.Walked.{end_number, no_walk, IsShownWalk, MayRefuseShownWalk};
 
 use crate::lent_answers::{NO_MEMORY, NO_ROOM};
 use crate::numbers::{NO_START, NOTHING};
 use crate::region_answers::{NcWalk, no_walk};
-use nc_handle::{NcRegion, RegionHandle};
+use nc_host_handles::{NcRegion, RegionHandle};
 use nc_region::{End, WalkFault};
 use std::alloc::Global;
 

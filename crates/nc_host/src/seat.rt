@@ -5,7 +5,7 @@ ghost use Rattle.nc_gens.specs.Seen.{HasCheckedIn};
 ghost use Rattle.nc_host.specs.Handles.{IsDone};
 
 use crate::numbers::NOTHING;
-use nc_handle::NcSeat;
+use nc_host_handles::NcSeat;
 use std::alloc::Global;
 
 /// Checks in for a seat whose thread is outside the region. It takes no lock and no memory, and never waits.

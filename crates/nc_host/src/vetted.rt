@@ -3,11 +3,11 @@
 ghost use Rattle.std.specs.Prelude.{◌≡◌, ◌<◌, ◌⊎◌, None, Some, IfOk, IfErr, length};
 ghost use Rattle.nc_vet.specs.Chunk.{MarkedChunk};
 ghost use Rattle.nc_acts.specs.Log.{log_of_create};
-ghost use Rattle.nc_handle.specs.RegionHandle.{HasLoaded, RegionHandleState, MayRefuseLoad};
-ghost use Rattle.nc_handle.specs.Pending.{ReportsPending};
-ghost use Rattle.nc_handle.specs.Lent.{IsReported};
-ghost use Rattle.nc_handle.specs.declared.fault.LoadFault.{LoadFault};
-ghost use Rattle.nc_handle.specs.declared.vetted_handle.VettedHandle.{VettedHandle};
+ghost use Rattle.nc_host_handles.specs.RegionHandle.{HasLoaded, RegionHandleState, MayRefuseLoad};
+ghost use Rattle.nc_host_handles.specs.Pending.{ReportsPending};
+ghost use Rattle.nc_host_handles.specs.Lent.{IsReported};
+ghost use Rattle.nc_host_handles.specs.declared.fault.LoadFault.{LoadFault};
+ghost use Rattle.nc_host_handles.specs.declared.vetted_handle.VettedHandle.{VettedHandle};
 ghost use Rattle.nc_host.specs.Handles.{HoldsVetted, IsDone, IsSameButPages, IsVetted, load_number, load_wanted};
 ghost use Rattle.nc_host.specs.Outcomes.{IsChunkFault};
 
@@ -16,7 +16,7 @@ use crate::lent_answers::NcVerdict;
 use crate::lent_vet::verdict_of;
 use crate::numbers::{NOTHING, TAKEN, load_numbers};
 use crate::region_answers::{NcChange, no_change};
-use nc_handle::{NcAct, NcRegion, NcVetted, RegionHandle, VettedHandle};
+use nc_host_handles::{NcAct, NcRegion, NcVetted, RegionHandle, VettedHandle};
 use nc_vet::VetFault;
 use std::alloc::Global;
 

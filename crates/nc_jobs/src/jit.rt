@@ -7,7 +7,7 @@ use crate::loading::{NONE, load};
 use crate::pieces::Pieces;
 use crate::plan::{Live, Plan, SEATS};
 use nc_decode::MAX_BUNDLES;
-use nc_handle::{NcAct, RegionHandle, SeatHandle};
+use nc_host_handles::{NcAct, RegionHandle, SeatHandle};
 use std::alloc::{AllocError, Global};
 
 /// The number of slots, of which half are live.

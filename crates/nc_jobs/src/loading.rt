@@ -1,7 +1,7 @@
 //! Loading a chunk into a region.
 
 use crate::digest::Digest;
-use nc_handle::{NcAct, RegionHandle};
+use nc_host_handles::{NcAct, RegionHandle};
 use nc_vet::vet;
 
 /// An act that stands for none.

@@ -11,7 +11,7 @@
 //! | `lines`, `refusals` | `lines` |
 //! | `replay` | `texts` |
 //!
-//! `names` is no job: it names the instructions of a file of code, by which `tools/try/names` tries `nc_names`.
+//! `names` is no job: it names the instructions of a file of code, by which `tools/try/names` tries `nc_disasm`.
 #![tactic(auto)]
 
 mod digest;
@@ -33,7 +33,7 @@ use clap::Error;
 use digest::Digest;
 use input::Input;
 use lines::Kind;
-use nc_usage::arguments;
+use nc_cli::arguments;
 use pieces::Pieces;
 use std::alloc::AllocError;
 use std::io::Write;

@@ -5,7 +5,7 @@ use crate::input::Input;
 use crate::loading::{NONE, load};
 use crate::random::Random;
 use nc_decode::MAX_BUNDLES;
-use nc_handle::{NcAct, RegionHandle};
+use nc_host_handles::{NcAct, RegionHandle};
 use std::alloc::{AllocError, Global};
 
 /// The address of the first module.

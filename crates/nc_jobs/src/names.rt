@@ -1,7 +1,7 @@
 //! The names of the instructions of some code, one on each line after its address.
 
 use nc_decode::decode;
-use nc_names::push_instruction;
+use nc_disasm::push_instruction;
 use nc_output::push_address;
 use std::alloc::{AllocError, Global};
 

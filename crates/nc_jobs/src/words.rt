@@ -2,7 +2,7 @@
 
 use clap::builder::ValueParser;
 use clap::{ArgAction, ArgMatches, Error};
-use nc_usage::{Program, Usage, Word};
+use nc_cli::{Program, Usage, Word};
 use std::alloc::Global;
 
 /// A job.
@@ -104,7 +104,7 @@ static PROGRAM: Program = Program {
 
 /// Reads the words of a command line, without the program's own name.
 pub fn matches<'a>(alloc: Global, words: &'a [&'a str]) -> Result<ArgMatches<'a>, Error> {
-    nc_usage::matches(alloc, &PROGRAM, words)
+    nc_cli::matches(alloc, &PROGRAM, words)
 }
 
 /// The job of this name, if there is one.

@@ -5,7 +5,7 @@ use Rattle.std.specs.Prelude.{nat_le}
 use Rattle.std.proofs.lemmas.Bool.{and_parts, leb-true}
 use Rattle.std.proofs.lemmas.List.{take-append-drop, take_more_set}
 use Rattle.std.proofs.lemmas.List.Folds.{list_all-append}
-use Rattle.nc_names.specs.Names.{is_printable}
+use Rattle.nc_disasm.specs.Names.{is_printable}
 use Rattle.nc_output.specs.Shown.{is_shown, detail_line}
 use Rattle.nc_output.proofs.Offered.{eqb_no}
 

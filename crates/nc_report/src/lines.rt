@@ -2,7 +2,7 @@
 
 ghost use Rattle.std.specs.Prelude.{◌≡◌, ◌≤◌, ◌<◌, true, OnOk};
 ghost use Rattle.std.specs.List.{list_all};
-ghost use Rattle.nc_names.specs.Names.{is_printable};
+ghost use Rattle.nc_disasm.specs.Names.{is_printable};
 ghost use Rattle.nc_output.specs.Shown.{is_shown, AreDetails};
 ghost use Rattle.nc_output.specs.Adds.{Adds};
 

@@ -1,7 +1,7 @@
 //! The bundle of a fault, read as code: a line for each instruction, with its address, its bytes and its name.
 
 ghost use Rattle.std.specs.Prelude.{◌≡◌, ◌≤◌, ◌<◌, ◌+◌, ◌-◌, true, length, IfSome, OnOk};
-ghost use Rattle.nc_names.specs.Names.{IsName};
+ghost use Rattle.nc_disasm.specs.Names.{IsName};
 ghost use Rattle.nc_output.specs.Shown.{AreDetails};
 ghost use Rattle.nc_output.specs.Adds.{Adds};
 
@@ -10,7 +10,7 @@ use crate::hexadecimal::{put_address, put_byte};
 use crate::lines::push_line;
 use crate::numbers::choose;
 use nc_decode::BUNDLE;
-use nc_names::{Name, front_name};
+use nc_disasm::{Name, front_name};
 use nc_output::push_detail;
 use std::alloc::AllocError;
 

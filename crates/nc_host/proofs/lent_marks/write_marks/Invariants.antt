@@ -1,6 +1,6 @@
 use Rattle.std.specs.Prelude.{◌≡◌, length, map, take}
 use Rattle.nc_vet.specs.Listed.{listed}
-use Rattle.nc_entries.specs.Shown.{over}
+use Rattle.nc_host_acts.specs.Shown.{over}
 use Rattle.nc_host.specs.Shown.{mark_number}
 use Rattle.nc_host.proofs.lent_marks.write_marks.Given as goal
 

@@ -1,5 +1,5 @@
 use Rattle.std.proofs.Common.{◌≡◌, sym, subst}
-use Rattle.nc_handle.specs.declared.fault.RunsFault.{RunsFault}
+use Rattle.nc_host_handles.specs.declared.fault.RunsFault.{RunsFault}
 use Rattle.nc_host.specs.Running.{runs_number, runs_wanted}
 use Rattle.nc_host.proofs.region_runs.answer.Goals as goal
 

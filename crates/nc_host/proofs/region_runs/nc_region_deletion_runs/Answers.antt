@@ -1,7 +1,7 @@
 use Rattle.std.proofs.Common.{length}
-use Rattle.nc_handle.specs.declared.fault.RunsFault.{RunsFault}
-use Rattle.nc_handle.specs.RegionHandle.{RegionHandleState}
-use Rattle.nc_handle.specs.RunCalls.{MayRefuseDeletionRuns}
+use Rattle.nc_host_handles.specs.declared.fault.RunsFault.{RunsFault}
+use Rattle.nc_host_handles.specs.RegionHandle.{RegionHandleState}
+use Rattle.nc_host_handles.specs.RunCalls.{MayRefuseDeletionRuns}
 use Rattle.nc_host.proofs.Refusals.{runs_refusal}
 use Rattle.nc_host.proofs.region_runs.nc_region_deletion_runs.Goals as goal
 

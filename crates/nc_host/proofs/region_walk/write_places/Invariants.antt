@@ -1,5 +1,5 @@
 use Rattle.std.specs.Prelude.{◌≡◌, length, take}
-use Rattle.nc_entries.specs.Shown.{over}
+use Rattle.nc_host_acts.specs.Shown.{over}
 use Rattle.nc_host.proofs.region_walk.write_places.Given as goal
 
 abbrev pub invariant-loop-i : goal.invariant-loop-i

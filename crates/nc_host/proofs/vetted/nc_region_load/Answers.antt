@@ -1,7 +1,7 @@
 use Rattle.std.proofs.Common.{arith, Some, ap, sym, inl, inr, ⊎_elim, ◌∙◌}
 use Rattle.std.proofs.lemmas.Grind.{common_steps}
-use Rattle.nc_handle.specs.RegionHandle.{RegionHandleState}
-use Rattle.nc_handle.specs.declared.vetted_handle.VettedHandle.{VettedHandle}
+use Rattle.nc_host_handles.specs.RegionHandle.{RegionHandleState}
+use Rattle.nc_host_handles.specs.declared.vetted_handle.VettedHandle.{VettedHandle}
 use Rattle.nc_host.proofs.PutBack.{had_before, is_done}
 use Rattle.nc_host.proofs.vetted.nc_region_load.Goals as goal
 

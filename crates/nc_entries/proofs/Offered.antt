@@ -1,4 +1,0 @@
--- What proofs of the crates above may use of this crate: one more element of a buffer, and the entries of two lists of runs. The
--- other files are private.
-pub use Rattle.nc_entries.proofs.writing.Buffers.{over_more}
-pub use Rattle.nc_entries.proofs.writing.RunLists.{entries_append}

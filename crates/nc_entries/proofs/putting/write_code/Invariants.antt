@@ -1,6 +1,0 @@
-use Rattle.std.specs.Prelude.{◌*◌}
-use Rattle.nc_entries.specs.machinery.Writing.{HasPutUpTo, starts_if}
-use Rattle.nc_entries.proofs.putting.write_code.Given as goal
-
-abbrev pub invariant-loop-n : goal.invariant-loop-n
-invariant-loop-n g l = HasPutUpTo (starts_if l.starts) l.base (g.C.ReadChunk.code l.chunk) l.initial.acts l.from (32 * l.n) l.acts l.count

@@ -1,4 +1,0 @@
-use Rattle.nc_handle.proofs.region_handle.RegionHandle.check_load.Goals as goal
-
-pub returns-then-is_some-clause-allowed : goal.returns-then-is_some-clause-allowed
-returns-then-is_some-clause-allowed c = tt

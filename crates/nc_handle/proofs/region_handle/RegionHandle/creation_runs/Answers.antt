@@ -1,5 +1,0 @@
-use Rattle.std.proofs.Common.{rules}
-use Rattle.nc_handle.proofs.region_handle.RegionHandle.creation_runs.Goals as goal
-
-pub returns-clause-reported : goal.returns-clause-reported
-returns-clause-reported c = search rules

@@ -1,4 +1,0 @@
-use Rattle.nc_handle.proofs.region_handle.RegionHandle.mark.Goals as goal
-
-pub returns-clause-mark : goal.returns-clause-mark
-returns-clause-mark c = rw (← c.self.view_is) c.mark.ensures

@@ -1,5 +1,0 @@
-use Rattle.std.proofs.Common.{refl}
-use Rattle.nc_handle.proofs.run_calls.runs_of.Goals as goal
-
-pub returns : goal.returns
-returns c = refl

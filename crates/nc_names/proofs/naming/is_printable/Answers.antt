@@ -1,5 +1,0 @@
-use Rattle.std.proofs.Common.{refl}
-use Rattle.nc_names.proofs.naming.is_printable.Goals as goal
-
-pub returns : goal.returns
-returns c = refl
