@@ -12,8 +12,9 @@ class Hint(NamedTuple):
     has: bytes = b""
 
 
-LIBC = (r"_?_?(?:assert_fail|errno(?:_location)?|v?[fs]?n?(?:printf|scanf)|f?puts|f?put(?:c|char)|f?getc|getchar|f(?:open|close|read|write|flush)"
-        r"|std(?:in|out|err)|[mc]alloc|realloc|free|exit|abort|qsort|bsearch|s?rand|ato[if]|str\w+|memchr|time|clock|setjmp|longjmp"
+LIBC = (r"_?_?(?:assert_fail|errno(?:_location)?|v?[fs]?n?(?:printf|scanf)|f?puts|f?put(?:c|char)|f?getc|getchar"
+        r"|f(?:open|close|read|write|flush)|std(?:in|out|err)"
+        r"|[mc]alloc|realloc|free|exit|abort|qsort|bsearch|s?rand|ato[if]|str\w+|memchr|time|clock|setjmp|longjmp"
         r"|(?:sin|cos|tan|exp|log|pow|sqrt|floor|ceil|round|fabs|fmod)[fl]?)")
 
 # The first that fits a name counts. {library} is the folder compiler/runtime, installed as share/doc/reedbodkin/examples/library.

@@ -9,10 +9,11 @@ from .sections import Sections
 from .statements import symbols
 from .thunks import without_thunks
 
-DATA = {".byte", ".short", ".value", ".word", ".hword", ".2byte", ".long", ".int", ".4byte", ".quad", ".8byte", ".octa", ".float", ".single",
-        ".double", ".ascii", ".asciz", ".string", ".zero", ".skip", ".space", ".fill", ".uleb128", ".sleb128", ".org", ".nops", ".nop",
-        ".incbin"}
+DATA = {".byte", ".short", ".value", ".word", ".hword", ".2byte", ".long", ".int", ".4byte", ".quad", ".8byte", ".octa", ".float",
+        ".single", ".double", ".ascii", ".asciz", ".string", ".zero", ".skip", ".space", ".fill", ".uleb128", ".sleb128", ".org", ".nops",
+        ".nop", ".incbin"}
 EQUATES = {".set", ".equ", ".equiv", ".eqv"}
+ALIAS = re.compile(r"[\w.$]+\s*,\s*[A-Za-z_.][\w.$]*")
 GLOBALS = {".globl", ".global", ".weak"}
 MACROS = {".macro", ".rept", ".irp", ".irpc", ".altmacro", ".include", ".if", ".ifdef", ".ifndef", ".ifc", ".ifeq", ".ifne", ".else"}
 REFUSED = {
@@ -35,8 +36,8 @@ def is_direct(statement):
 
 def is_alias(statement):
     """Whether a directive gives a symbol another name, and no more."""
-    return statement.kind == "directive" and statement.word in EQUATES and bool(re.fullmatch(r"[\w.$]+\s*,\s*[A-Za-z_.][\w.$]*",
-                                                                                          statement.operands))
+    is_equate = statement.kind == "directive" and statement.word in EQUATES
+    return is_equate and bool(ALIAS.fullmatch(statement.operands))
 
 
 def without_numbers(statements):
@@ -183,8 +184,8 @@ class Listing:
                 statement.refuse("a label in quotes isn't read: give it a plain name")
             if statement.kind == "directive" and statement.word in DATA:
                 name = refused_name(statement)
-                statement.refuse(f"these bytes are {name}, which isn't permitted: leave out the code that uses it" if name else "data among code "
-                                 "would be read as code: put it into a section of its own, or write the instruction's name")
+                statement.refuse(f"these bytes are {name}, which isn't permitted: leave out the code that uses it" if name else
+                                 "data among code would be read as code: put it into a section of its own, or write the instruction's name")
             if statement.kind == "instruction" and HERE.search(statement.operands):
                 statement.refuse("a distance from `.` changes with the padding: use a label")
             if statement.kind == "instruction" and is_direct(statement) and not BARE.match(statement.operands):

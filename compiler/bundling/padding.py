@@ -1,4 +1,7 @@
-"""Long nops in the place of the assembler's padding, which is one byte each. A processor executes nine bytes of padding as one instruction."""
+"""Long nops in the place of the assembler's padding, which is one byte each.
+
+A processor executes nine bytes of padding as one instruction.
+"""
 
 import re
 import struct

@@ -29,7 +29,8 @@ READ_ONLY = re.compile(r"(?:cmp|test|push|mul|i?div|bt)[bwl]?$")
 # Instructions that use no register but those that they name; beside them, those that do, with what they read and write without naming it.
 # Any other one may read all.
 PLAIN = re.compile(r"(?:mov[bwl]?|mov[sz](?:bl|bw|wl)|lea[lw]?|(?:add|sub|adc|sbb|and|or|xor|not|neg|inc|dec|cmp|test|push|pop"
-                   r"|sh[lr]|sa[lr]|ro[lr]|rc[lr]|bt[src]?|bs[fr]|bswap|xchg|xadd|imul|nop)[bwl]?|(?:set|cmov|j)[a-z]+|calll?|ud2|hlt|pause)$")
+                   r"|sh[lr]|sa[lr]|ro[lr]|rc[lr]|bt[src]?|bs[fr]|bswap|xchg|xadd|imul|nop)[bwl]?"
+                   r"|(?:set|cmov|j)[a-z]+|calll?|ud2|hlt|pause)$")
 UNNAMED = [
     (re.compile(r"mull$"), {"%eax"}, {"%edx"}),
     (re.compile(r"mul[bw]?$|c[bw]t[wl]$|cwtd$|cmpxchg[bwl]?$"), {"%eax"}, set()),
@@ -125,8 +126,8 @@ def loads_stack_pointer(statement, base):
 
 
 def takes_up_state(listing, index):
-    """Whether a jump through memory takes up a state that was kept, as that of longjmp does. In the same run of instructions %esp was loaded
-    from beside the target. Such a state has no %ecx, since a call kept it, unless the function gives %ecx a value."""
+    """Whether a jump through memory takes up a state that was kept, as that of longjmp does. In the same run of instructions %esp was
+    loaded from beside the target. Such a state has no %ecx, since a call kept it, unless the function gives %ecx a value."""
     target = BESIDE.match(listing.statements[index].operands)
     has_loaded, is_same_run = False, target is not None
     for place in range(index - 1, -1, -1):

@@ -7,8 +7,8 @@ from .faults import Fault
 from .responses import expanded
 
 LANGUAGES = {
-    ".c": "c", ".i": "cpp-output", ".cc": "c++", ".cp": "c++", ".cpp": "c++", ".cxx": "c++", ".c++": "c++", ".C": "c++", ".ii": "c++-cpp-output",
-    ".s": "assembler", ".S": "assembler-with-cpp", ".sx": "assembler-with-cpp",
+    ".c": "c", ".i": "cpp-output", ".cc": "c++", ".cp": "c++", ".cpp": "c++", ".cxx": "c++", ".c++": "c++", ".C": "c++",
+    ".ii": "c++-cpp-output", ".s": "assembler", ".S": "assembler-with-cpp", ".sx": "assembler-with-cpp",
 }
 IN_CXX = {"c": "c++", "cpp-output": "c++-cpp-output"}
 # What is made: of several of these words, the one with the highest number counts.
@@ -37,8 +37,8 @@ REFUSED = [
     (r"-fuse-ld=.*", "NC_LD names the linker"),
     (r"-fembed-bitcode|-emit-llvm|-emit-ast", "nc-cc makes code, and no other form of a program"),
 ]
-DROPPED = {"-nostdlib", "-nostdlib++", "-nolibc", "-nostartfiles", "-nodefaultlibs", "-static", "-no-pie", "-pthread", "-rdynamic", "-march=i686",
-           "-static-libgcc", "-shared-libgcc", "-static-libstdc++", "-fno-lto"}
+DROPPED = {"-nostdlib", "-nostdlib++", "-nolibc", "-nostartfiles", "-nodefaultlibs", "-static", "-no-pie", "-pthread", "-rdynamic",
+           "-march=i686", "-static-libgcc", "-shared-libgcc", "-static-libstdc++", "-fno-lto"}
 ALONE = {"-nostdlib", "-nolibc", "-nodefaultlibs"}  # of these, those without the C library
 REGION, REGION_END = 0x00010000, 0x04010000
 QUESTION = re.compile(r"--version|--help=.*|--target-help|-dump(?:machine|version|fullversion|specs)|--?print-.*")

@@ -18,7 +18,8 @@ def is_of_library(name):
 
 
 def answer(word, folders):
-    """What is to be printed for an option, or None where the compiler answers. Nothing but the folders of -L has libraries for the sandbox."""
+    """What is to be printed for an option, or None where the compiler answers. Nothing but the folders of -L has libraries for the
+    sandbox."""
     option, _, value = word.replace("--print-", "-print-", 1).partition("=")
     if option == "-dumpmachine":
         return TARGET

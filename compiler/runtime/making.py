@@ -15,8 +15,8 @@ if not os.path.exists(DRIVER):  # where Reedbodkin is installed
     DRIVER = shutil.which("nc-cc") or "nc-cc"
 NOT_THERE = "there is no %s below %s: `build --help` says what to get"
 
-MUSL_FOLDERS = """string stdlib ctype stdio math multibyte locale errno malloc malloc/mallocng internal exit env time unistd prng fenv setjmp stat
-    fcntl misc thread signal select temp conf dirent mman linux sched process legacy search regex""".split()
+MUSL_FOLDERS = """string stdlib ctype stdio math multibyte locale errno malloc malloc/mallocng internal exit env time unistd prng fenv
+    setjmp stat fcntl misc thread signal select temp conf dirent mman linux sched process legacy search regex""".split()
 MUSL_FAST = {"internal", "malloc", "malloc/mallocng", "string"}  # which musl's own Makefile optimises more
 OWN = ("division", "floating", "math", "strings")
 # What math.c and strings.c have in place of musl's, by musl's folders.
@@ -115,9 +115,10 @@ def write_headers(musl, made):
     types = [os.path.join(musl, name) for name in ("arch/i386/bits/alltypes.h.in", "include/alltypes.h.in")]
     with open(os.path.join(musl, "arch/i386/bits/syscall.h.in"), encoding="ascii") as file:
         calls = file.read()
+    numbered = [line for line in calls.splitlines() if "__NR_" in line]
     texts = {
         os.path.join(bits, "alltypes.h"): run(["sed", "-f", os.path.join(musl, "tools/mkalltypes.sed"), *types]),
-        os.path.join(bits, "syscall.h"): calls + "".join(line.replace("__NR_", "SYS_") + "\n" for line in calls.splitlines() if "__NR_" in line),
+        os.path.join(bits, "syscall.h"): calls + "".join(line.replace("__NR_", "SYS_") + "\n" for line in numbered),
         os.path.join(internal, "version.h"): '#define VERSION "1.2"\n',
         os.path.join(made, "given", "expat_config.h"): "",
         os.path.join(made, "given", "lua5.4-deb-multiarch.h"): '#define DEB_HOST_MULTIARCH ""\n',

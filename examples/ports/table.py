@@ -1,4 +1,4 @@
-"""The libraries that tools/try/ports compiles: where their sources come from, and how they are compiled. Each has a program here that uses it.
+"""The libraries that tools/try/ports compiles: where their sources come from, how they are compiled, and a program that uses each.
 
 `generators` compiles programs that generate code. `build` compiles others with the programs of trials/, and runs these by a host for Linux
 (load.c, host.s).

@@ -42,7 +42,8 @@ OF_SEGMENT = re.compile(r"the segment of program header (\d+) (.*)")
 # Linked files: code by itself; with constants, data and memory that isn't in the file; a segment without bytes in memory; a shared object.
 LINKED = [
     elf(CODE),
-    elf(CODE, segment(0x20000, b"constants", R), segment(0x30000, b"data", R | W, memory_len=4096), segment(0x40000, b"", R | W, memory_len=9)),
+    elf(CODE, segment(0x20000, b"constants", R), segment(0x30000, b"data", R | W, memory_len=4096),
+        segment(0x40000, b"", R | W, memory_len=9)),
     elf(segment(0x8000, b"below", R), CODE, segment(0x20000, b"", R), segment(0x30000, NOPS * 3, R | X)),
     elf(CODE, segment(0xFFFFFFF0, b"0123456789abcdef", R), kind=3),
     elf(segment(0, b"a note", R, kind=4), CODE, segment(0x20000, b"x", R | W | 0xF0000000)),
@@ -57,7 +58,8 @@ def listed(file):
         out.write(file)
         out.flush()
         text = subprocess.run(["readelf", "-lW", out.name], capture_output=True, text=True, check=True).stdout
-    found = [[int(word, 16) for word in row[:4]] + [(row[4] == "R") * R | (row[5] == "W") * W | (row[6] == "E") * X] for row in LISTED.findall(text)]
+    found = [[int(word, 16) for word in row[:4]] + [(row[4] == "R") * R | (row[5] == "W") * W | (row[6] == "E") * X]
+             for row in LISTED.findall(text)]
     return [(address, offset, length, memory, flags) for offset, address, length, memory, flags in found if memory]
 
 

@@ -1,5 +1,5 @@
-"""The largest region, and in it one chunk of all bundles but the guard: it is vetted, made an image, created without a buffer, told as runs,
-walked, patched, deleted and reclaimed, and its span is used again.
+"""The largest region, and in it one chunk of all bundles but the guard: it is vetted, made an image, created without a buffer, told as
+runs, walked, patched, deleted and reclaimed, and its span is used again.
 
 The chunk repeats seven kinds of bundles, whose instructions stand below. What has to be found is worked out from these by their places.
 """

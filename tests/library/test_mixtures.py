@@ -87,8 +87,8 @@ WRONG = [
     # The deletion. The first unmarked place is 00010002. When the stop is put there, EB may still be read before it.
     (0x10001, "ebf4"),
     # The creation where code stood before. The deletion put stops at the unmarked places and did not serialize after them. So C3 may still
-    # be read at 00010004 when that is marked: a return. At 00010001 B0 may be read with 05, F4 or 07 as its operand, and at 00010003 a stop or
-    # a nop.
+    # be read at 00010004 when that is marked: a return. At 00010001 B0 may be read with 05, F4 or 07 as its operand, and at 00010003 a stop
+    # or a nop.
     (0x10004, "c3"),
 ]
 

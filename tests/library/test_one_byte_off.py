@@ -1,5 +1,7 @@
-"""A valid chunk with one byte replaced. It is a masked jump and nops, and each byte gets each value. What is accepted is created in a region of its own
-and walked, and wherever a walk stands in the region, an instruction stands.
+"""A valid chunk with one byte replaced.
+
+It is a masked jump and nops, and each byte gets each value. What is accepted is created in a region of its own and walked, and wherever a
+walk stands in the region, an instruction stands.
 """
 import unittest
 

@@ -76,7 +76,10 @@ class Rows(unittest.TestCase):
             at = self.rng.randrange(nc.START, self.region.limit)
             index = bisect.bisect_right(self.live, at - nc.BUNDLE)
             found = self.region.chunk_at(at)
-            self.assertEqual(found.fault if index == len(wanted) else found, nc.NO_CHUNK if index == len(wanted) else wanted[index], hex(at))
+            if index == len(wanted):
+                self.assertEqual(found.fault, nc.NO_CHUNK, hex(at))
+            else:
+                self.assertEqual(found, wanted[index], hex(at))
 
     def test_rows(self):
         for name, order in ORDERS.items():

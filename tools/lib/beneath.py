@@ -67,8 +67,8 @@ def environment(variables, folder):
 
 def ended(words, **more):
     """The status of a command, and what it says. It has a group of processes to itself, so that a limit ends all that it has started."""
-    with subprocess.Popen(words, stdin=subprocess.DEVNULL, stdout=subprocess.PIPE, stderr=subprocess.PIPE, text=True, start_new_session=True,
-                          **more) as run:
+    with subprocess.Popen(words, stdin=subprocess.DEVNULL, stdout=subprocess.PIPE, stderr=subprocess.PIPE, text=True,
+                          start_new_session=True, **more) as run:
         try:
             _, said = run.communicate(timeout=LIMIT)
         except subprocess.TimeoutExpired:

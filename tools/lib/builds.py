@@ -16,7 +16,7 @@ SOURCES = os.path.join(TOP, "tools", "sources", "projects")
 
 
 class Build(NamedTuple):
-    """How tools/sources/projects becomes the program `made`, with the host's object in it. {folder} has the object, and the project as `project`."""
+    """How tools/sources/projects becomes the program `made`, with the host's object. {folder} has that, and the project as `project`."""
 
     name: str
     needs: list
@@ -69,8 +69,9 @@ ANSWERS = [
     ("no folders of a system", "nc-cc -print-multiarch -print-sysroot", 0, "\n\n"),
     ("the linker beneath", "NC_LD=ld.bfd nc-cc -print-prog-name=ld", 0, r"ld\.bfd\n"),
     ("the linker's version", "nc-cc -Wl,--version | sed -n 1p", 0, "GNU ld .*\n"),
-    ("flags for a compiler alone", "gcc $(nc-cc --cflags) -O2 -S it.c -o - | nc-bundle | as --32 -n -o by.o - && nc-bundle --long-nops by.o "
-     "&& nc-cc -O2 -c it.c && cmp it.o by.o", 0, ""),
+    ("flags for a compiler alone",
+     "gcc $(nc-cc --cflags) -O2 -S it.c -o - | nc-bundle | as --32 -n -o by.o - "
+     "&& nc-bundle --long-nops by.o && nc-cc -O2 -c it.c && cmp it.o by.o", 0, ""),
     ("long nops", "nc-cc -c pads.s && objdump -d pads.o | grep -c 'nop'; objdump -d pads.o | grep -cw 90", 0, "3\n1\n"),
     ("no long nops beside others", "nc-cc -c own.s && objdump -d own.o | grep -c 'nop$'", 0, "57\n"),
     ("no long nops without objdump", "mkdir few && for each in gcc as python3 env; do ln -s \"$(command -v $each)\" few; done; "
@@ -89,10 +90,12 @@ ANSWERS = [
     ("a response file", "nc-cc @words && test -s 'by words'", 0, ""),
     ("a response file that isn't there", "nc-cc -c @nowhere 2>&1", 2, "nc-cc: no source file is named\n"),
     ("errors alone", "nc-cc -fsyntax-only it.c && nc-cc -fsyntax-only wrong.c 2> /dev/null", 1, ""),
-    ("commands shown only", "nc-cc '-###' it.c h.c -o never 2>&1 | cut -d ' ' -f 1 | grep -c '^gcc$\\|^as$\\|^ld$'; ls never 2>&1", 2, "5\nls: .*\n"),
+    ("commands shown only", "nc-cc '-###' it.c h.c -o never 2>&1 | cut -d ' ' -f 1 | grep -c '^gcc$\\|^as$\\|^ld$'; ls never 2>&1", 2,
+     "5\nls: .*\n"),
     ("several at once", "nc-cc -O2 -j3 start.c it.c h.c -o three && nc-cc -O2 -j1 start.c it.c h.c -o one && cmp three one", 0, ""),
     ("objects at once", "nc-cc -c -j start.c h.c && nm start.o h.o | grep -c ' T '", 0, "2\n"),
-    ("an error among several", "nc-cc -j2 wrong.c h.c -o never 2>&1 | grep '^nc-cc'; ls never 2>&1", 2, "nc-cc: gcc ended with status 1\nls: .*\n"),
+    ("an error among several", "nc-cc -j2 wrong.c h.c -o never 2>&1 | grep '^nc-cc'; ls never 2>&1", 2,
+     "nc-cc: gcc ended with status 1\nls: .*\n"),
     ("C as C++", "nc-c++ -S it.c -o - | grep -c _Z1fi:", 0, "1\n"),
 ]
 
@@ -137,8 +140,10 @@ def wrong_answer(row, folder, program):
     """What is wrong with an answer, or nothing."""
     name, command, status, pattern = row
     work = os.path.join(folder, name)
-    shutil.copytree(folder, work, ignore=lambda place, names: [each for each in names if place == folder and each not in FILES and each != "lib"])
-    done = subprocess.run(["sh", "-c", command.replace("{compile}", COMPILE)], env=environment(), cwd=work, stdin=subprocess.DEVNULL, capture_output=True, text=True)
+    kept = {*FILES, "lib"}
+    shutil.copytree(folder, work, ignore=lambda place, names: [each for each in names if place == folder and each not in kept])
+    done = subprocess.run(["sh", "-c", command.replace("{compile}", COMPILE)], env=environment(), cwd=work, stdin=subprocess.DEVNULL,
+                          capture_output=True, text=True)
     right = done.returncode == status and re.fullmatch(pattern.format(version=re.escape(version())), done.stdout)
     return "" if right else f"{name}: status {done.returncode}, {done.stdout!r}, {done.stderr!r}, and not status {status}, {pattern!r}"
 

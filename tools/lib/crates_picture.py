@@ -30,10 +30,12 @@ def crates():
 def reach(uses):
     """For each crate all that it stands upon."""
     made = {}
+
     def below(name):
         if name not in made:
             made[name] = uses[name].union(*map(below, uses[name]))
         return made[name]
+
     for name in uses:
         below(name)
     return made
@@ -48,10 +50,12 @@ def reduced(uses):
 def layers_of(uses):
     """The layer of each crate: one above the highest that it uses."""
     made = {}
+
     def layer(name):
         if name not in made:
             made[name] = 1 + max(map(layer, uses[name]), default=0)
         return made[name]
+
     for name in uses:
         layer(name)
     return made
@@ -92,9 +96,11 @@ class Graph:
     def sort(self, k, beside):
         """Sorts a row by where the places beside it stand on the average."""
         at = {place: i / max(1, len(row) - 1) for row in self.rows for i, place in enumerate(row)}
+
         def mean(place):
             near = beside[place]
             return sum(at[one] for one in near) / len(near) if near else at[place]
+
         self.rows[k].sort(key=mean)
 
     def swap(self):

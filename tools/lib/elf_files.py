@@ -84,7 +84,8 @@ SEGMENT = "the segment of program header %d %s"
 
 # Three segments of code with returns, and symbols: one below the first segment, two at one address, of which the later one in the table
 # names it, one of data, one without a section, one at the first byte of the second segment, and one between that and the third.
-UNNAMED = elf(segment(0x10000, NOPS[3:] + RET[:1] + NOPS[1:] + RET[:1] + NOPS[:2], R | X), segment(0x10060, RET, R | X), segment(0x100A0, RET, R | X))
+UNNAMED = elf(segment(0x10000, NOPS[3:] + RET[:1] + NOPS[1:] + RET[:1] + NOPS[:2], R | X), segment(0x10060, RET, R | X),
+              segment(0x100A0, RET, R | X))
 NAMED = with_symbols(UNNAMED, (0x10020, b"late", FUNCTION, 1), (0xFFFF, b"below", FUNCTION, 1), (0x10004, b"early", UNTYPED, 1),
                      (0x10004, b"again", FUNCTION, 1), (0x10010, b"table", OBJECT, 1), (0x10018, b"extern", FUNCTION, 0),
                      (0x10060, b"next", FUNCTION, 1), (0x10080, b"between", FUNCTION, 1))

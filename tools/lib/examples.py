@@ -87,5 +87,6 @@ def built_tests(name):
 def library(folder, name):
     """A shared library from a file of C in tools/sources, for LD_PRELOAD."""
     path = os.path.join(folder, name + ".so")
-    subprocess.run(["cc", "-O1", "-Wall", "-Werror", "-shared", "-fPIC", "-o", path, os.path.join(TOP, "tools", "sources", name + ".c")], check=True)
+    subprocess.run(["cc", "-O1", "-Wall", "-Werror", "-shared", "-fPIC", "-o", path, os.path.join(TOP, "tools", "sources", name + ".c")],
+                   check=True)
     return path

@@ -15,7 +15,7 @@ COMPILED = {
     **{"guest-" + entry: ["-e", entry, *GUEST] for entry in ("start", "add", "count", "each", "logged", "leave", "stop", "touch")},
 }
 HEAD = bytes(3)
-BACK = bytes.fromhex("5983e1e0ffe1") # pop ecx; and ecx, -32; jmp ecx
+BACK = bytes.fromhex("5983e1e0ffe1")  # pop ecx; and ecx, -32; jmp ecx
 
 
 def compiled(words, path):

@@ -18,11 +18,11 @@ INCLUDES = ["-I" + path for path in (FUZZ, os.path.join(SANDBOX, "run"), os.path
 
 
 class Target(NamedTuple):
-    runs: int # of the slice, some seconds
-    longest: int # bytes of an input
-    gets_files: bool = False # ELF files, for which there is a mutator
+    runs: int  # of the slice, some seconds
+    longest: int  # bytes of an input
+    gets_files: bool = False  # ELF files, for which there is a mutator
     linked: tuple = ()
-    words: tuple = () # for libFuzzer
+    words: tuple = ()  # for libFuzzer
 
 
 TARGETS = {
@@ -39,7 +39,7 @@ class Compiler(NamedTuple):
 
     name: str
     flags: tuple
-    linked: tuple # besides the flags
+    linked: tuple  # besides the flags
     env: dict
 
 

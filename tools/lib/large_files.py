@@ -105,7 +105,8 @@ def try_long_reports(trials):
     compare_memory(trials, "a long report", ["--all", "many returns"], ("many returns" + said, "", 1), 20)
     content, said = returns(10000)
     names = lay_alike(trials, "returns", 16, content)
-    compare_memory(trials, "long reports, 2 workers", ["--all", "--workers", "2"] + names, ("".join(name + said for name in names), "", 1), 30)
+    compare_memory(trials, "long reports, 2 workers", ["--all", "--workers", "2"] + names,
+                   ("".join(name + said for name in names), "", 1), 30)
 
 
 def try_late_fault(trials):
@@ -164,7 +165,8 @@ def try_many_calls(trials):
     lines = ["  -> %08x: %d transfer%s\n" % (to, called[to], "s"[:called[to] > 1]) for to in sorted(outside) if called[to]]
     assert sum(called[to] for to in outside) > 100000
     trials.lay("many calls", b"".join(code))
-    compare_long(trials, "many calls", trials.run(["--calls", "many calls"]), (OK % ("many calls", 32 * count, 28 * count) + "".join(lines), "", 0))
+    compare_long(trials, "many calls", trials.run(["--calls", "many calls"]),
+                 (OK % ("many calls", 32 * count, 28 * count) + "".join(lines), "", 0))
 
 
 def try_memory(trials):

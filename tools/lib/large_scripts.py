@@ -156,7 +156,8 @@ RUNS = [
 ] + [
     ("a chunk's line of %d bytes" % length, ["vet", "--bundles", "2097152", "--workers", "4"], chunk_line_of_length(length),
      reply + "\nrefused BadBase\n")
-    for length, reply in [(LINE_LIMIT, "bad line"), (LINE_LIMIT - 1, "refused BadLength"), (LINE_LIMIT + 1, "bad line"), (3000009, "bad line")]
+    for length, reply in [(LINE_LIMIT, "bad line"), (LINE_LIMIT - 1, "refused BadLength"), (LINE_LIMIT + 1, "bad line"),
+                          (3000009, "bad line")]
 ] + [
     ("200,000 lines of chunks", ["vet", "--bundles", "2097152", "--workers", "4"], *many_chunk_lines(200_000)),
     ("the last bundle of the largest region", ["replay", "--bundles", "2097152", "--seats", "1"], "walk 0400ffe0\nwalk 04010000\n",

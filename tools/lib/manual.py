@@ -38,7 +38,8 @@ def escaped(line):
 def told(text):
     """A paragraph, each sentence on lines of its own, without the names of clauses."""
     whole = CLAUSES.sub("", " ".join(text.split()))
-    parts = [textwrap.wrap(part, WIDTH, break_on_hyphens=False, break_long_words=False) for part in re.split(r"(?<=[.?!])\s+(?=[A-Z(`])", whole)]
+    parts = [textwrap.wrap(part, WIDTH, break_on_hyphens=False, break_long_words=False)
+             for part in re.split(r"(?<=[.?!])\s+(?=[A-Z(`])", whole)]
     return "".join(escaped(line) + "\n" for lines in parts for line in lines)
 
 

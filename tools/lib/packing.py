@@ -34,7 +34,7 @@ PAGES_AND_EXAMPLES = [
     "examples/first.script", "examples/first.replies", "examples/vet.lines", "examples/vet.replies",
 ]
 
-# Files of the repository, and where they go. A folder's files go below the second path. Of two files for one place the later one goes there.
+# Files of the repository, and where they go. A folder's files go below the second path. Of two for one place the later one goes there.
 FILES = [
     ("include/nc_host.h", "include/nc_host.h"),
     ("bindings/cpp/nc_host.hpp", "include/nc_host.hpp"),

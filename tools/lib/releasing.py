@@ -70,7 +70,8 @@ def glibc_of(files):
 def control(files, cpu):
     """The control files of the Debian package."""
     size = sum(-(-len(entry.content) // 1024) for entry in files.values() if isinstance(entry, File))
-    sums = ["%s  usr/%s\n" % (hashlib.md5(entry.content).hexdigest(), path) for path, entry in sorted(files.items()) if isinstance(entry, File)]
+    sums = ["%s  usr/%s\n" % (hashlib.md5(entry.content).hexdigest(), path)
+            for path, entry in sorted(files.items()) if isinstance(entry, File)]
     text = filled("control.in", SIZE=str(size), GLIBC=glibc_of(files), CPU=cpu)
     return {"control": text, "md5sums": "".join(sums), "triggers": "activate-noawait ldconfig\n"}
 

@@ -51,4 +51,5 @@ def object_of(name, base, said, detail=""):
     for other in others:
         heading, *below = other.splitlines()
         faults.append({**dict(zip(("fault", "at"), heading.split())), **shown_by(below)})
-    return {**found, "verdict": "refused", "fault": fault, **place, **shown_by(own.splitlines()), "faults": faults, "counts": counts, **note}
+    return {**found, "verdict": "refused", "fault": fault, **place, **shown_by(own.splitlines()),
+            "faults": faults, "counts": counts, **note}
