@@ -7,7 +7,7 @@ from .listing import Listing
 from .notes import ONLY_PADDING, OWN_NOPS, noted
 from .registers import REGISTERS, is_set_before, parts_in, takes_up_state
 from .statements import JumpRefusal, statements_of
-from .tables import PAD, Tables, is_jump_through_memory
+from .tables import PAD, Tables
 
 BUNDLE = 32
 FILL = "0x90"

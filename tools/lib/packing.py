@@ -13,7 +13,6 @@ from manual import pages
 from placing import File, Link
 
 sys.path.append(os.path.join(TOP, "compiler", "runtime"))
-from making import Fault
 from runtime import runtime
 
 PROGRAMS = ["nc_check", "nc_replay"]
