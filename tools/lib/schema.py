@@ -5,6 +5,17 @@ import re
 NOTES = {"$schema", "$defs", "title", "description"}
 TYPES = {"object": dict, "array": list, "string": str, "integer": int}
 
+# The words that judge a value by itself: whether it fits what stands behind the word, and what is said where it doesn't.
+PLAIN = {
+    "type": (lambda value, name: type(value) is TYPES[name], "%r is no %s"),
+    "enum": (lambda value, these: value in these, "%r is not %r"),
+    "const": (lambda value, this: value == this, "%r is not %r"),
+    "pattern": (lambda value, pattern: re.search(pattern, value), "%r is not %r"),
+    "minimum": (lambda value, least: value >= least, "%r is below %r"),
+    "minItems": (lambda value, least: len(value) >= least, "%r has fewer than %r"),
+    "minLength": (lambda value, least: len(value) >= least, "%r has fewer than %r"),
+}
+
 
 def at(schema, path):
     """The schema that a reference names."""
@@ -13,31 +24,25 @@ def at(schema, path):
     return schema
 
 
+def misfits_of_word(value, word, wanted, whole):
+    """What of a value doesn't fit one word of a schema."""
+    if word in PLAIN:
+        fits, said = PLAIN[word]
+        return [] if fits(value, wanted) else [said % (value, wanted)]
+    if word == "required":
+        return [f"{value!r} lacks {name}" for name in wanted if name not in value]
+    if word == "$ref":
+        return misfits(value, at(whole, wanted), whole)
+    if word == "properties":
+        return [it for name, part in wanted.items() if name in value for it in misfits(value[name], part, whole)]
+    if word == "items":
+        return [it for part in value for it in misfits(part, wanted, whole)]
+    if word == "oneOf":
+        fitting = sum(not misfits(value, part, whole) for part in wanted)
+        return [] if fitting == 1 else [f"{value!r} fits {fitting} of the forms"]
+    return [] if word in NOTES else [f"the schema has the word {word!r}, which isn't known here"]
+
+
 def misfits(value, schema, whole):
     """What of a value doesn't fit a schema, which is a part of a whole one."""
-    found = []
-    for word, wanted in schema.items():
-        if word == "$ref":
-            found += misfits(value, at(whole, wanted), whole)
-        elif word == "type":
-            found += [] if type(value) is TYPES[wanted] else ["%r is no %s" % (value, wanted)]
-        elif word == "enum" or word == "const":
-            found += [] if value in (wanted if word == "enum" else [wanted]) else ["%r is not %r" % (value, wanted)]
-        elif word == "pattern":
-            found += [] if re.search(wanted, value) else ["%r is not %r" % (value, wanted)]
-        elif word == "minimum":
-            found += [] if value >= wanted else ["%r is below %r" % (value, wanted)]
-        elif word == "minItems" or word == "minLength":
-            found += [] if len(value) >= wanted else ["%r has fewer than %r" % (value, wanted)]
-        elif word == "required":
-            found += ["%r lacks %s" % (value, name) for name in wanted if name not in value]
-        elif word == "properties":
-            found += [it for name, part in wanted.items() if name in value for it in misfits(value[name], part, whole)]
-        elif word == "items":
-            found += [it for part in value for it in misfits(part, wanted, whole)]
-        elif word == "oneOf":
-            fitting = sum(not misfits(value, part, whole) for part in wanted)
-            found += [] if fitting == 1 else ["%r fits %d of the forms" % (value, fitting)]
-        elif word not in NOTES:
-            found.append("the schema has the word %r, which isn't known here" % word)
-    return found
+    return [it for word, wanted in schema.items() for it in misfits_of_word(value, word, wanted, whole)]
