@@ -1,6 +1,7 @@
 # For the script `build` of this folder: how to compile a host over the library of boxes, in the repository and where
 # Reedbodkin is installed. It reads `here`, the folder of the script, and sets `compile`, `libraries` and `nc_cc`.
-top=$here/../..
+# shellcheck disable=SC2034 # the script uses these
+top=${here:?}/../..
 if [ -d "$top/crates" ]; then
     kit=${RATTLE_KIT:-$(dirname "$(rt doc)")}
     include=(-I"$top/include" -I"$top/sandbox") nc_cc=$top/compiler/nc-cc

@@ -25,7 +25,7 @@ begin() {
 }
 
 end() {
-    kill -INT "$server" && wait "$server" || true
+    if kill -INT "$server"; then wait "$server" || true; fi
     server=
 }
 
