@@ -156,13 +156,13 @@ static void draw_chunk(uint8_t *code, uint8_t name, uint32_t base, unsigned nops
 }
 
 static void delete_chunk(uint32_t base) {
-    NcChange change = nc_region_begin_delete(&region, base, acts, ROOM);
+    NcChange deletion = nc_region_begin_delete(&region, base, acts, ROOM);
     if (is_control) { /* wrong: threads check in, go in again, and the span counts as left */
         nc_region_end_delete(&region);
         be_held_up(200);
-        make(change);
+        make(deletion);
     } else {
-        make(change);
+        make(deletion);
         be_held_up(200);
         nc_region_end_delete(&region);
     }
@@ -205,9 +205,9 @@ static unsigned long write_for(unsigned seconds) {
     Slot slots[SLOTS];
     unsigned random = 1;
     unsigned long changes = 0;
-    time_t end = time(NULL) + (time_t)seconds;
+    time_t until = time(NULL) + (time_t)seconds;
     memset(slots, 0, sizeof slots);
-    while (time(NULL) < end) {
+    while (time(NULL) < until) {
         uint32_t k = (uint32_t)rand_r(&random) % SLOTS;
         changes += change(&random, NC_START + LEN * k, &slots[k]);
     }

@@ -16,7 +16,7 @@
 #define FILE_MOST ((size_t)1 << 30)
 #define LACKING 127
 #define LOW_BITS 0xFFu /* of a status */
-#define ON -1          /* no status yet: nc-run goes on */
+#define ON (-1)        /* no status yet: nc-run goes on */
 
 /* The rest of a file, in memory that grows. 0, or an error. */
 static int read_all(int file, uint8_t **bytes, size_t *len) {

@@ -36,5 +36,5 @@ int main(int argc, char **argv) {
         printf("%s: %s, %u\n", argv[k], ncs_how(live.end.how), (unsigned)live.end.result);
         good = !made || (ncs_delete(live.module, at, NULL) && ncs_reclaim(live.module) == 1);
     }
-    return library_close(&live) | !good;
+    return library_close(&live) || !good;
 }

@@ -41,8 +41,8 @@ static bool may_be_at(uint32_t at, uint32_t masked) {
     if (at < NC_START || at >= LIMIT) {
         return at < NC_START && at % NC_BUNDLE == 0;
     }
-    uint8_t mark = memory_mark(at);
-    return mark == NC_PLAIN || (mark != NC_UNMARKED && mark == masked);
+    uint8_t found = memory_mark(at);
+    return found == NC_PLAIN || (found != NC_UNMARKED && found == masked);
 }
 
 /* The instruction may be executed at a marked place. */

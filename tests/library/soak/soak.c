@@ -95,8 +95,8 @@ static void begin(void) {
 }
 
 static void write_for(long seconds) {
-    time_t end = time(NULL) + (time_t)seconds;
-    while (time(NULL) < end) {
+    time_t until = time(NULL) + (time_t)seconds;
+    while (time(NULL) < until) {
         for (int i = 0; i < 256; i++) {
             writer_step(&host);
             sched_yield();

@@ -87,22 +87,22 @@ static void draw_code(uint8_t *code, uint32_t base, uint32_t length) {
 }
 
 static Patch draw_patch(uint32_t base) {
-    Patch patch = {.at = base, .length = 5};
+    Patch drawn = {.at = base, .length = 5};
     switch (draw(7)) {
     case 0:
-        put_number(patch.bytes, bundle[NUMBER], draw(UINT32_MAX));
-        return patch;
+        put_number(drawn.bytes, bundle[NUMBER], draw(UINT32_MAX));
+        return drawn;
     case 1:
-        patch.at += JUMP;
-        put_jump(patch.bytes, base, draw_start());
-        return patch;
+        drawn.at += JUMP;
+        put_jump(drawn.bytes, base, draw_start());
+        return drawn;
     case 2:
-        patch.at += SINGLES;
-        patch.length = SINGLES_LENGTH;
+        drawn.at += SINGLES;
+        drawn.length = SINGLES_LENGTH;
         for (uint32_t i = 0; i < SINGLES_LENGTH; i++) {
-            patch.bytes[i] = draw(2) ? bundle[SINGLES] : (uint8_t)(0x40 + draw(8));
+            drawn.bytes[i] = draw(2) ? bundle[SINGLES] : (uint8_t)(0x40 + draw(8));
         }
-        return patch;
+        return drawn;
     case 3: /* the condition */
         return (Patch){base + BRANCH, 2, {0x74 + (uint8_t)draw(2), 0x0A}, NC_OK};
     case 4: /* another mask */
@@ -110,10 +110,10 @@ static Patch draw_patch(uint32_t base) {
     case 5: /* shorter instructions */
         return (Patch){base + JUMP, 5, {0x90, 0x90, 0x90, 0x90, 0x90}, NC_PATCH_BOUNDARIES};
     default:
-        patch.at += JUMP;
-        patch.fault = NC_PATCH_BAD_TARGET;
-        put_jump(patch.bytes, base, LIMIT);
-        return patch;
+        drawn.at += JUMP;
+        drawn.fault = NC_PATCH_BAD_TARGET;
+        put_jump(drawn.bytes, base, LIMIT);
+        return drawn;
     }
 }
 
