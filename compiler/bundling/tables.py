@@ -33,7 +33,7 @@ def constant_tables(listing):
     for index, statement in enumerate(listing.statements):
         if statement.kind == "label":
             current = statement.word
-        elif statement.word in DATA and listing.sections[index].name.startswith(CONSTANT):
+        elif current and statement.word in DATA and listing.sections[index].name.startswith(CONSTANT):
             if any(name in listing.labels for name in symbols(statement.operands)):
                 tables.setdefault(current, []).append(index)
     return tables

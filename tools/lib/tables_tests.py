@@ -16,7 +16,7 @@ def jump_by(register):
 
 SAVING = "\tpushl %ecx\n" + jump_by("%ecx")
 RESTORING = "\t.p2align 5, 0x90\n.Lrestores_ecx_.L5:\n\tpopl %ecx\n"
-# A name, what stands at the label of the table, other statements, and a part of what is written.
+# A name, what stands at the label of the table, other statements, a part of what is written, and what is first in the text if anything is.
 FORMS = [
     ("its index is written", "movl $1, %eax\n\tret", "", jump_by("%eax")),
     ("its index is read", "movl (%eax), %eax\n\tret", "", jump_by("%ecx")),
@@ -42,6 +42,8 @@ FORMS = [
     ("a place elsewhere, since control comes to its label", "nop\n.L5:\tcall g\n\tret", "", RESTORING + "\tjmp .L5\n"),
     ("flags but the carry are written before they are read", "incl %eax\n\tje g\n\tret", "", "\tjmp *%ecx\n"),
     ("all flags are written before they are read", "shll $2, %eax\n\tjbe g\n\tret", "", "\tjmp *%ecx\n"),
+    ("a jump by a pointer, behind data without a label", "jmp *%edx\n.L6:\tmovl $1, %eax\n\tret", "", SAVING,
+     "\t.section .rodata\n\t.long .L6\n\t.text\n"),
     ("a name behind it", "movl $1, %eax\n\tret", TABLE.replace("L4", "L6") + "\t.weak h\n\t.set h, f\n\t.text\n", jump_by("%eax")),
 ]
 
@@ -65,16 +67,16 @@ LINES = [
 ]
 
 
-def text_of(there, others):
+def text_of(there, others, first):
     """A function with a jump by a table, and what is at the table's label."""
     label = "" if ".L5:" in there else ".L5:"
-    return f"f:\tjmp *.L4(,%eax,4)\n{label}\t{there}\n{others}{TABLE}"
+    return f"{first}f:\tjmp *.L4(,%eax,4)\n{label}\t{there}\n{others}{TABLE}"
 
 
-def wrong_form(name, there, others, part):
+def wrong_form(name, there, others, part, first=""):
     """What is wrong with a form, or nothing."""
     words = [sys.executable, os.path.join(COMPILE, "nc-bundle")]
-    done = subprocess.run(words, input=text_of(there, others), capture_output=True, text=True)
+    done = subprocess.run(words, input=text_of(there, others, first), capture_output=True, text=True)
     return "" if part in done.stdout else f"table, {name}: {done.stdout or done.stderr!r} without {part!r}"
 
 
