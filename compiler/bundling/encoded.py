@@ -1,8 +1,10 @@
 """Instructions that are written as bytes, as inline assembly does for assemblers that don't know their names."""
 
+from __future__ import annotations
+
 import re
 
-from .statements import split_operands
+from .statements import Statement, split_operands
 
 # Permitted ones that do nothing but what their names say. The bytes of all of them are whole instructions.
 NAMES = {
@@ -20,7 +22,7 @@ REFUSED = [
 ]
 
 
-def digits_of(statement):
+def digits_of(statement: Statement) -> str | None:
     """The bytes of a directive with plain numbers, as hexadecimal digits, or None."""
     if statement.kind != "directive" or statement.word != ".byte":
         return None
@@ -30,14 +32,14 @@ def digits_of(statement):
         return None
 
 
-def named(statement, text):
+def named(statement: Statement, text: str) -> Statement:
     """The statement of a permitted instruction."""
     before, _, operands = text.partition("\t")
     *prefixes, word = before.split()
     return statement._replace(kind="instruction", word=word, operands=operands, prefixes=tuple(prefixes))
 
 
-def instructions_of(statement):
+def instructions_of(statement: Statement) -> list[Statement]:
     """The instructions that a directive gives as bytes, where all of them are permitted ones; otherwise the statement itself."""
     digits, found = digits_of(statement) or "", []
     while digits:
@@ -49,7 +51,7 @@ def instructions_of(statement):
     return found or [statement]
 
 
-def refused_name(statement):
+def refused_name(statement: Statement) -> str | None:
     """The name of the instruction that a directive gives as bytes, where it isn't permitted, or None."""
     digits = digits_of(statement) or ""
     return next((name for pattern, name in REFUSED if re.fullmatch(pattern, digits)), None)

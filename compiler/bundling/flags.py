@@ -3,11 +3,14 @@
 gcc merges comparisons at the heads of a table's cases to one before the jump, whose mask changes the flags.
 """
 
-import re
+from __future__ import annotations
 
-from .listing import is_direct
+import re
+from collections.abc import Iterator
+
+from .listing import Listing, is_direct
 from .registers import ENDS
-from .statements import JumpRefusal, split_operands
+from .statements import JumpRefusal, Statement, split_operands
 
 CARRY, REST = frozenset({"carry"}), frozenset({"rest"})
 ALL = CARRY | REST
@@ -24,7 +27,7 @@ WRITERS = [
 SHIFT = re.compile(r"(?:sh[lr]d?|sa[lr]|rc[lr]|ro[lr])[bwl]?$")
 
 
-def read(statement):
+def read(statement: Statement) -> frozenset[str]:
     """The flags that an instruction reads."""
     condition = CONDITION.match(statement.word)
     if condition:
@@ -32,7 +35,7 @@ def read(statement):
     return next((flags for pattern, flags in READERS if pattern.match(statement.word)), frozenset())
 
 
-def written(statement):
+def written(statement: Statement) -> frozenset[str]:
     """The flags that have other values after an instruction. A shift by a register may shift by 0, and then changes none."""
     operands = split_operands(statement.operands)
     if SHIFT.match(statement.word) and len(operands) > 1 and not operands[0].startswith("$"):
@@ -40,7 +43,7 @@ def written(statement):
     return next((flags for pattern, flags in WRITERS if pattern.match(statement.word)), frozenset())
 
 
-def following(listing, index, statement):
+def following(listing: Listing, index: int, statement: Statement) -> Iterator[int | None]:
     """The places to which control goes with the flags as they are. Calls, returns and indirect jumps change them."""
     if is_direct(statement) and not statement.word.startswith("call"):
         yield listing.labels.get(statement.operands)
@@ -48,9 +51,10 @@ def following(listing, index, statement):
         yield listing.after.get(index)
 
 
-def needs_flags(listing, label):
+def needs_flags(listing: Listing, label: str) -> bool:
     """Whether a path from a label reads flags before they are written."""
-    seen, waiting = set(), [(listing.labels[label], ALL)]
+    seen: set[tuple[int, frozenset[str]]] = set()
+    waiting: list[tuple[int | None, frozenset[str]]] = [(listing.labels[label], ALL)]
     while waiting:
         index, kept = waiting.pop()
         if index is None or not kept or (index, kept) in seen:
@@ -66,7 +70,7 @@ def needs_flags(listing, label):
     return False
 
 
-def check_flags(listing):
+def check_flags(listing: Listing) -> None:
     """Refuses a label inside of a function that needs flags where a pointer may lead to it."""
     for label in listing.pointed:
         if label not in listing.functions and needs_flags(listing, label):

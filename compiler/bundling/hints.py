@@ -1,5 +1,7 @@
 """What to do about the names that a link lacks, and the headers that a source does: hints for those that a first program often does."""
 
+from __future__ import annotations
+
 import re
 from typing import NamedTuple
 
@@ -48,7 +50,7 @@ LACKING = re.compile(r"undefined reference to [`'](.+?)'(?:\s|$)|required symbol
                      r"|(?:undefined symbol|required symbol not defined): (.+)|unable to find library (-l\S+)")
 
 
-def hint_of(name, files):
+def hint_of(name: str, files: list[bytes]) -> str | None:
     """The words for a name, or none. `files` are the bytes of what was linked."""
     for hint in HINTS:
         if re.fullmatch(hint.names, name) and (not hint.has or any(re.search(hint.has, content) for content in files)):
@@ -56,9 +58,9 @@ def hint_of(name, files):
     return None
 
 
-def hints(said, files, library):
+def hints(said: str, files: list[bytes], library: str) -> list[str]:
     """A line for each hint that what the linker said calls for, with the names that it is about."""
-    names = {}
+    names: dict[str | None, dict[str, bool]] = {}
     for found in LACKING.finditer(said):
         name = next(filter(None, found.groups()))
         names.setdefault(hint_of(name, files), {})[name] = True
@@ -68,7 +70,7 @@ def hints(said, files, library):
 HEADER = re.compile(r"fatal error: '?([^':\n]+)'?(?:: No such file or directory| file not found)")
 
 
-def header_hints(said):
+def header_hints(said: str) -> list[str]:
     """A line for each header that the compiler didn't find."""
     return [f"{name}: the compiler's own headers serve (stddef.h, stdint.h and the like); string.h and others come with a C library: "
             "tools/install --musl installs one, or name the folder of another's by -I" for name in dict.fromkeys(HEADER.findall(said))]

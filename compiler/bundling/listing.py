@@ -1,12 +1,15 @@
 """A whole text: its statements with their sections, its labels, and which of them a pointer may hold."""
 
+from __future__ import annotations
+
 import re
 from bisect import bisect_right
 from collections import Counter
+from collections.abc import Iterable, Iterator
 
 from .encoded import instructions_of, refused_name
-from .sections import Sections
-from .statements import symbols
+from .sections import Section, Sections
+from .statements import Statement, symbols
 from .thunks import without_thunks
 
 DATA = {".byte", ".short", ".value", ".word", ".hword", ".2byte", ".long", ".int", ".4byte", ".quad", ".8byte", ".octa", ".float",
@@ -29,22 +32,22 @@ BARE = re.compile(r'(?:[\w.$@]+|"[^"]+")$')
 JUMP = re.compile(r"(?:jmpl?|calll?|j[a-z]+|loop[a-z]*|xbegin)(?:,p[nt])?$")
 
 
-def is_direct(statement):
+def is_direct(statement: Statement) -> bool:
     """Whether an instruction is a jump or a call to the label that it names."""
     return bool(JUMP.match(statement.word)) and not statement.operands.startswith("*")
 
 
-def is_alias(statement):
+def is_alias(statement: Statement) -> bool:
     """Whether a directive gives a symbol another name, and no more."""
     is_equate = statement.kind == "directive" and statement.word in EQUATES
     return is_equate and bool(ALIAS.fullmatch(statement.operands))
 
 
-def without_numbers(statements):
+def without_numbers(statements: Iterable[Statement]) -> Iterator[Statement]:
     """The statements with names in the place of labels such as `1:`, `1b` and `1f`."""
-    seen = {}
+    seen: dict[str, int] = {}
 
-    def name(found):
+    def name(found: re.Match[str]) -> str:
         number, direction = found.groups()
         return f".Lnumbered_{number}_{seen.get(number, 0) + (direction == 'f')}"
 
@@ -61,8 +64,10 @@ def without_numbers(statements):
 class Listing:
     """`sections[i]` is the section of `statements[i]`; for a directive that enters one, the entered one."""
 
-    def __init__(self, statements):
-        self.statements, self.sections, self.enters = [], [], set()
+    def __init__(self, statements: Iterable[Statement]) -> None:
+        self.statements: list[Statement] = []
+        self.sections: list[Section] = []
+        self.enters: set[int] = set()
         tracker = Sections()
         for statement in without_numbers(without_thunks(statements)):
             if statement.kind == "directive" and tracker.follow(statement):
@@ -78,20 +83,21 @@ class Listing:
         self.weak = {name for statement in self.statements if statement.word == ".weak" for name in symbols(statement.operands)}
         self.functions = self.globals | set(self.functions_by_type())
         self.starts = self.starts_of_functions()
-        self.pointed = {}  # the labels that a pointer may hold, with the statements that take their addresses
+        self.pointed: dict[str, list[int]] = {}  # the labels that a pointer may hold, with the statements that take their addresses
         for index, statement in enumerate(self.statements):
             for name in self.taken(index, statement):
                 if name in self.labels:
                     self.pointed.setdefault(self.named_once(name), []).append(index)
         self.inside = self.pointed_inside()
 
-    def code(self):
+    def code(self) -> Iterator[tuple[int, Statement]]:
         """The statements of code sections."""
         return ((index, statement) for index, statement in enumerate(self.statements) if self.sections[index].is_code)
 
-    def successors(self):
+    def successors(self) -> dict[int, int]:
         """For each statement of code the next one of its section."""
-        after, last = {}, {}
+        after: dict[int, int] = {}
+        last: dict[Section, int] = {}
         for index, _ in self.code():
             section = self.sections[index]
             if section in last:
@@ -99,63 +105,63 @@ class Listing:
             last[section] = index
         return after
 
-    def aliased(self):
+    def aliased(self) -> dict[str, str]:
         """The labels for which other names stand, by those names: gcc gives two functions with the same code one body. An alias of an alias
         is found too, after the one that it stands for."""
         equates = [symbols(statement.operands) for statement in self.statements if is_alias(statement)]
         times = Counter(alias for alias, _ in equates)
-        found = {}
+        found: dict[str, str] = {}
         for alias, name in equates:
             name = found.get(name, name)
             if times[alias] == 1 and name in self.labels and alias not in self.labels:
                 found[alias] = name
         return found
 
-    def named_once(self, name):
+    def named_once(self, name: str) -> str:
         """A label's own name, for an alias."""
         return self.aliases.get(name, name)
 
-    def named_by(self, words):
+    def named_by(self, words: set[str]) -> Iterator[str]:
         """The code labels that directives with these words name."""
         for statement in self.statements:
             if statement.kind == "directive" and statement.word in words:
                 yield from (self.named_once(name) for name in symbols(statement.operands) if name in self.labels)
 
-    def functions_by_type(self):
+    def functions_by_type(self) -> Iterator[str]:
         for statement in self.statements:
             if statement.word == ".type" and re.search(r"[@%]function", statement.operands):
                 yield from (self.named_once(name) for name in symbols(statement.operands.split(",")[0]) if name in self.labels)
 
-    def begins_bundle(self, name, replaced):
+    def begins_bundle(self, name: str, replaced: set[int]) -> bool:
         """Whether a pointer may hold this label's address, so that it has to be a bundle start. In the statements of `replaced` other
         labels stand for it."""
         return name in self.functions or any(index not in replaced for index in self.pointed.get(name, ()))
 
-    def starts_of_functions(self):
+    def starts_of_functions(self) -> dict[Section, list[int]]:
         """For each section the places at which functions begin, in order."""
-        found = {}
+        found: dict[Section, list[int]] = {}
         for place in sorted(self.labels[name] for name in self.functions):
             found.setdefault(self.sections[place], []).append(place)
         return found
 
-    def function_at(self, place):
+    def function_at(self, place: int) -> str | None:
         """The name of the function in which a statement is, without what tells the parts apart into which a compiler has split it."""
         starts = self.starts.get(self.sections[place], [])
         before = bisect_right(starts, place)
         return self.statements[starts[before - 1]].word.split(".cold")[0] if before else None
 
-    def pointed_inside(self):
+    def pointed_inside(self) -> dict[str | None, list[str]]:
         """For each function the labels inside it that a pointer may hold."""
-        found = {}
+        found: dict[str | None, list[str]] = {}
         for name in self.pointed.keys() - self.functions:
             found.setdefault(self.function_at(self.labels[name]), []).append(name)
         return found
 
-    def pointed_beside(self, index):
+    def pointed_beside(self, index: int) -> list[str]:
         """The labels inside the function in which a statement is that a pointer may hold."""
         return self.inside.get(self.function_at(index), [])
 
-    def taken(self, index, statement):
+    def taken(self, index: int, statement: Statement) -> list[str]:
         """The names whose addresses a statement takes."""
         section = self.sections[index]
         if statement.kind == "assignment":
@@ -173,7 +179,7 @@ class Listing:
                 statement.refuse(f"`{name}` with a number added needn't be a bundle start: put a label there")
         return names
 
-    def check(self):
+    def check(self) -> None:
         """Refuses what can't be rewritten to the same meaning, whatever stands around it."""
         for index, statement in enumerate(self.statements):
             if statement.kind == "directive" and statement.word in REFUSED:

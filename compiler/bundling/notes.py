@@ -1,5 +1,7 @@
 """The note by which an object shows that its code came through the rewriter, and which objects of a link lack it."""
 
+from __future__ import annotations
+
 import re
 import struct
 
@@ -14,17 +16,17 @@ LENGTH = 24  # of a note in bytes
 PART = re.compile(r"^ ([^\s*]\S*)\s+0x[0-9a-f]+\s+0x([0-9a-f]+) (\S.*)", re.M)
 
 
-def noted(text, kind=OWN_NOPS):
+def noted(text: str, kind: int = OWN_NOPS) -> str:
     """Assembly text with the note."""
     return text if SECTION in text else text + NOTE.format(kind)
 
 
-def kinds(notes):
+def kinds(notes: bytes) -> list[int]:
     """The kinds of a section's notes."""
     return [struct.unpack_from("<I", notes, at + 8)[0] for at in range(0, len(notes) - LENGTH + 1, LENGTH)]
 
 
-def without_note(link_map):
+def without_note(link_map: str) -> list[str]:
     """The objects in ld's map that have code in the chunk and no note."""
     chunk = re.search(r"^\.text\b.*?\n\n", link_map, re.M | re.S)
     having = {name for section, _, name in PART.findall(link_map) if section == SECTION}

@@ -3,9 +3,12 @@
 A processor executes nine bytes of padding as one instruction.
 """
 
+from __future__ import annotations
+
 import re
 import struct
 import subprocess
+from collections.abc import Iterator
 
 from .notes import ONLY_PADDING, SECTION, kinds
 
@@ -18,7 +21,7 @@ NOP = re.compile(r"^ *([0-9a-f]+):\tnop *$")
 CODE = 4  # a section's flag
 
 
-def sections_of(content):
+def sections_of(content: bytearray) -> Iterator[tuple[str, int, int, int]]:
     """The name, the flags, the place and the length of each section of a 32-bit ELF file, in order."""
     at, size, count, names = struct.unpack_from("<I", content, 32)[0], *struct.unpack_from("<3H", content, 46)
     headers = [struct.unpack_from("<10I", content, at + size * number) for number in range(count)]
@@ -28,10 +31,10 @@ def sections_of(content):
         yield content[begin:content.index(b"\0", begin)].decode("latin-1"), flags, place, length
 
 
-def nops_in(path):
+def nops_in(path: str) -> list[tuple[str, list[int]]]:
     """The name of each section of code, and the places of its nops of one byte."""
     said = subprocess.run(["objdump", "-dwz", "--no-show-raw-insn", path], capture_output=True, encoding="latin-1", check=True).stdout
-    found = []
+    found: list[tuple[str, list[int]]] = []
     for line in said.split("\n"):
         nop = NOP.match(line)
         heading = HEADING.match(line)
@@ -42,7 +45,7 @@ def nops_in(path):
     return found
 
 
-def runs_of(places):
+def runs_of(places: list[int]) -> Iterator[tuple[int, int]]:
     """The first place and the length of each row of nops in one bundle."""
     begin = length = 0
     for place in places:
@@ -56,13 +59,13 @@ def runs_of(places):
         yield begin, length
 
 
-def padding(length):
+def padding(length: int) -> bytes:
     """As few nops as there can be, of about one length each."""
     number = -(-length // LONGEST)
     return b"".join(NOPS[length * (each + 1) // number - length * each // number] for each in range(number))
 
 
-def lengthen(path):
+def lengthen(path: str) -> str:
     """Replaces the padding of an object. Why it stays as it is, or nothing."""
     try:
         replace(path)
@@ -71,7 +74,7 @@ def lengthen(path):
     return ""
 
 
-def replace(path):
+def replace(path: str) -> None:
     """The same, if all nops of one byte in the object are padding, which its note says."""
     with open(path, "rb") as file:
         content = bytearray(file.read())

@@ -1,22 +1,28 @@
 """Where control goes from an instruction, and whether a path from a label needs what a register has there."""
 
-from .listing import is_direct
+from __future__ import annotations
+
+from collections.abc import Callable, Iterable, Iterator
+from typing import AbstractSet
+
+from .listing import Listing, is_direct
 from .registers import ALL, ENDS, FOR_CALLS, OWN_ADDRESS, read, written
+from .statements import Statement
 
 
 class Paths:
     """`labels_of` tells the labels to which an indirect jump goes, by its place and itself, or none where they aren't known."""
 
-    def __init__(self, listing, labels_of):
+    def __init__(self, listing: Listing, labels_of: Callable[[int, Statement], list[str]]) -> None:
         self.listing, self.labels_of = listing, labels_of
 
-    def targets(self, index, statement):
+    def targets(self, index: int, statement: Statement) -> list[int | None]:
         """The places to which a jump or a call goes. None is outside, or not known: another function may stand for a weak one."""
         if is_direct(statement):
             return [None if statement.operands in self.listing.weak else self.listing.labels.get(statement.operands)]
         return [self.listing.labels[label] for label in self.labels_of(index, statement)] or [None]
 
-    def following(self, index, statement, register):
+    def following(self, index: int, statement: Statement, register: str) -> Iterator[int | None]:
         """The places to which control goes from an instruction with the register as it is. A call comes back only with those that it
         keeps."""
         is_call = statement.word.startswith("call") and OWN_ADDRESS not in statement.operands
@@ -26,19 +32,22 @@ class Paths:
         if not takes_along and (is_call or OWN_ADDRESS in statement.operands or not statement.word.startswith(("jmp", *ENDS))):
             yield self.listing.after.get(index)
 
-    def is_needed(self, labels, register):
+    def is_needed(self, labels: Iterable[str], register: str) -> bool:
         """Whether a path from one of the labels reads a part of the register before that is written, or leads outside with it."""
-        seen, waiting = set(), [(self.listing.labels[label], ALL) for label in labels]
+        seen: set[tuple[int | None, AbstractSet[str]]] = set()
+        waiting: list[tuple[int | None, AbstractSet[str]]] = [(self.listing.labels[label], ALL) for label in labels]
         while waiting:
             index, kept = waiting.pop()
             if (index, kept) in seen or not kept:
                 continue
             seen.add((index, kept))
-            statement = None if index is None else self.listing.statements[index]
-            if statement is None or statement.kind == "instruction" and read(statement, register) & kept:
+            if index is None:
                 return True
-            if statement.kind == "instruction":
-                waiting += [(place, kept - written(statement, register)) for place in self.following(index, statement, register)]
-            else:
+            statement = self.listing.statements[index]
+            if statement.kind != "instruction":
                 waiting += [(after, kept) for after in [self.listing.after.get(index)] if after is not None]
+            elif read(statement, register) & kept:
+                return True
+            else:
+                waiting += [(place, kept - written(statement, register)) for place in self.following(index, statement, register)]
         return False

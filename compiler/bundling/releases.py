@@ -7,7 +7,7 @@ HERE = os.path.dirname(os.path.realpath(__file__))
 PLACES = [os.path.join(HERE, "..", "VERSION"), os.path.join(HERE, "..", "..", "VERSION")]
 
 
-def release():
+def release() -> str:
     """The version's number, or a word where there is none."""
     for path in PLACES:
         if os.path.exists(path):

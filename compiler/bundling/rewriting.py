@@ -194,7 +194,7 @@ class Bundler:
         return noted("\n".join(self.out) + "\n", OWN_NOPS if self.has_nops else ONLY_PADDING)
 
 
-def rewritten(text, keep_returns=False):
+def rewritten(text: str, keep_returns: bool = False) -> str:
     """The text in bundles. A Refusal says what isn't kept, and on which line."""
     listing = Listing(statements_of(text))
     listing.check()

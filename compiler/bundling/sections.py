@@ -1,7 +1,11 @@
 """Which section each statement of a text is in, and whether code stands there."""
 
+from __future__ import annotations
+
 import re
 from typing import NamedTuple
+
+from .statements import Statement
 
 CODE_NAMES = re.compile(r"\.(?:text|init|fini)(?:\..*)?$")
 DEBUG_NAMES = re.compile(r"\.(?:debug|zdebug|stab|comment|note|gnu|llvm|eh_frame)")
@@ -21,7 +25,7 @@ class Section(NamedTuple):
     is_data: bool
 
 
-def named(name, operands):
+def named(name: str, operands: str) -> tuple[bool, bool]:
     """The section of a name, with its flags if the directive has some."""
     found = re.search(r'"([^"]*)"', operands[len(name):])
     flags = found.group(1) if found else None
@@ -33,15 +37,15 @@ def named(name, operands):
 class Sections:
     """The current section, as the assembler tracks it."""
 
-    def __init__(self):
+    def __init__(self) -> None:
         self.known = {word: Section("\t" + word, word, word == ".text", word != ".text") for word in (".text", ".data", ".bss")}
         self.current = self.previous = self.known[".text"]
-        self.stack = []
+        self.stack: list[tuple[Section, Section]] = []
 
-    def enter(self, section):
+    def enter(self, section: Section) -> None:
         self.previous, self.current = self.current, section
 
-    def of_directive(self, statement):
+    def of_directive(self, statement: Statement) -> Section:
         """The section that `.section` or `.pushsection` names: the first directive has its flags, and later ones may leave them out."""
         name = statement.operands.split(",")[0].strip().strip('"')
         for names, reason in REFUSED_NAMES:
@@ -53,7 +57,7 @@ class Sections:
         section = Section("\t.section\t" + statement.operands, name, is_code, is_data)
         return self.known.setdefault(statement.operands if SEVERAL.search(statement.operands) else name, section)
 
-    def follow(self, statement):
+    def follow(self, statement: Statement) -> bool:
         """Changes the section where a directive does; whether it does."""
         word = statement.word
         if word in (".text", ".data", ".bss") and statement.operands in ("", "0"):

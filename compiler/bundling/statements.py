@@ -1,8 +1,11 @@
 """Assembly text as a list of statements: comments are dropped, lines split at `;`, and prefixes joined to their instructions."""
 
+from __future__ import annotations
+
 import re
+from collections.abc import Iterable, Iterator
 from itertools import groupby
-from typing import NamedTuple
+from typing import NamedTuple, NoReturn
 
 PREFIXES = {"lock", "rep", "repe", "repz", "repne", "repnz", "data16", "addr16", "notrack", "bnd", "xacquire", "xrelease",
             "cs", "ds", "es", "fs", "gs", "ss"}
@@ -18,7 +21,7 @@ SYMBOL = re.compile(r"(?<![\w.$@%])\$?([A-Za-z_.][\w.$]*)")
 class Refusal(Exception):
     """Why a text can't be rewritten, and what to do; it says where that is so."""
 
-    def __init__(self, statement, reason):
+    def __init__(self, statement: Statement, reason: str) -> None:
         text = " ".join(statement.text.split())
         super().__init__(f"line {statement.line}, `{text}`: {reason}")
 
@@ -34,10 +37,10 @@ class Statement(NamedTuple):
     kind: str  # "label", "directive", "assignment" or "instruction"
     word: str
     operands: str
-    prefixes: tuple = ()
+    prefixes: tuple[str, ...] = ()
 
     @property
-    def text(self):
+    def text(self) -> str:
         """The statement as it is written."""
         if self.kind == "label":
             return self.word + ":"
@@ -45,16 +48,17 @@ class Statement(NamedTuple):
             return f"\t{self.word} = {self.operands}"
         return ("\t" + " ".join([*self.prefixes, self.word]) + "\t" + self.operands).rstrip()
 
-    def refuse(self, reason, kind=Refusal):
+    def refuse(self, reason: str, kind: type[Refusal] = Refusal) -> NoReturn:
         raise kind(self, reason)
 
 
-def pieces(text):
+def pieces(text: str) -> Iterator[tuple[int, str]]:
     """The statements as texts, without comments, each with the number of its line."""
     number = 1
     piece, begun, at = "", 1, 0
     while at < len(text):
         token = TOKEN.match(text, at)
+        assert token is not None  # a character that begins nothing else is a token by itself
         kind, end = token.lastgroup, token.end()
         if kind == "open":
             end = text.find("*/", end) + 2 or len(text)
@@ -71,17 +75,17 @@ def pieces(text):
     yield begun, piece
 
 
-def symbols(operands):
+def symbols(operands: str) -> list[str]:
     """The names in an expression or in an instruction's operands, without registers."""
     return SYMBOL.findall(operands)
 
 
-def split_operands(operands):
+def split_operands(operands: str) -> list[str]:
     """An instruction's operands, parted at the commas outside of parentheses."""
     return [part.strip() for part in re.split(r",(?![^(]*\))", operands)] if operands else []
 
 
-def read(line, piece):
+def read(line: int, piece: str) -> Iterator[Statement]:
     """The labels and the statement of a piece; prefixes stand at first as an instruction without operands."""
     label = LABEL.match(piece)
     while label:
@@ -101,7 +105,7 @@ def read(line, piece):
         yield from read_instruction(line, words[0].lower(), operands)
 
 
-def read_instruction(line, word, operands):
+def read_instruction(line: int, word: str, operands: str) -> Iterator[Statement]:
     """An instruction, after the prefixes that stand before it in the same piece."""
     prefixes = []
     while word in PREFIXES and operands:
@@ -111,9 +115,9 @@ def read_instruction(line, word, operands):
     yield Statement(line, "instruction", word, operands.strip(), tuple(prefixes))
 
 
-def joined(statements):
+def joined(statements: Iterable[Statement]) -> Iterator[Statement]:
     """The statements, with prefixes that stand by themselves joined to the instruction after them."""
-    waiting = None
+    waiting: Statement | None = None
     for statement in statements:
         alone = statement.kind == "instruction" and statement.word in PREFIXES and not statement.operands
         if alone:
@@ -129,13 +133,13 @@ def joined(statements):
         waiting.refuse("a prefix stands apart from its instruction: put them into one statement")
 
 
-def with_bytes_together(statements):
+def with_bytes_together(statements: Iterable[Statement]) -> Iterator[Statement]:
     """The statements, with those in a row that give bytes as one: clang writes each byte of inline assembly apart."""
     for is_byte, row in groupby(statements, lambda statement: statement.word == ".byte"):
         found = list(row)
         yield from [found[0]._replace(operands=", ".join(statement.operands for statement in found))] if is_byte else found
 
 
-def statements_of(text):
+def statements_of(text: str) -> list[Statement]:
     """All statements of a text."""
     return list(with_bytes_together(joined(statement for line, piece in pieces(text) for statement in read(line, piece))))

@@ -1,5 +1,9 @@
 """The compiler's flags for the sandbox."""
 
+from __future__ import annotations
+
+from collections.abc import Iterable
+
 from .tools import is_clang
 
 FREESTANDING = "-ffreestanding"
@@ -22,12 +26,12 @@ NEEDED_CLANG = ["-m80387", "-Xclang", "-msoft-float",
                 *(word for name in FEATURES for word in ("-Xclang", "-target-feature", "-Xclang", name)), "-Qunused-arguments"]
 
 
-def retries():
+def retries() -> list[str]:
     """The flags with which a source is compiled again, one after the other, while nc-bundle can't keep a jump."""
     return [*([] if is_clang() else RETRIES_GCC), NO_TABLES]
 
 
-def flags_for(language, given=(), is_hosted=False):
+def flags_for(language: str, given: Iterable[str] = (), is_hosted: bool = False) -> list[str]:
     """The flags for a language: the defaults, those given, which may replace them, and those that can't be otherwise. With a C library the
     code is hosted."""
     own, needed = ([], NEEDED_CLANG) if is_clang() else (DEFAULTS_GCC, NEEDED_GCC)

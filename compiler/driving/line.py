@@ -1,10 +1,18 @@
 """What a command line asks for."""
 
+from __future__ import annotations
+
 import os
 import re
+from collections.abc import Iterable, Iterator
+from typing import Optional, Tuple, TypeVar
 
 from .faults import Fault
 from .responses import expanded
+
+T = TypeVar("T")
+# A file with its language, or a word for the linker with None.
+Input = Tuple[str, Optional[str]]
 
 LANGUAGES = {
     ".c": "c", ".i": "cpp-output", ".cc": "c++", ".cp": "c++", ".cpp": "c++", ".cxx": "c++", ".c++": "c++", ".C": "c++",
@@ -47,25 +55,32 @@ QUESTION = re.compile(r"--version|--help=.*|--target-help|-dump(?:machine|versio
 class Line:
     """The words of a command line, in parts. With `is_cxx`, files of C are of C++."""
 
-    def __init__(self, words, is_cxx=False):
-        self.stop = self.out = self.language = None
-        self.script, self.entry, self.jobs = None, "start", 1
+    def __init__(self, words: Iterable[str], is_cxx: bool = False) -> None:
+        self.stop: str | None = None
+        self.out: str | None = None
+        self.language: str | None = None
+        self.script: str | None = None
+        self.entry, self.jobs = "start", 1
         self.shows = self.is_dry = self.keeps_returns = self.keeps_files = self.is_quiet = self.asks_flags = self.is_alone = False
         self.is_cxx = is_cxx
-        self.flags, self.for_as, self.for_ld, self.warnings, self.questions = [], [], [], [], []
-        self.inputs = []  # files with their languages, and words for the linker with None
+        self.flags: list[str] = []
+        self.for_as: list[str] = []
+        self.for_ld: list[str] = []
+        self.warnings: list[str] = []
+        self.questions: list[str] = []
+        self.inputs: list[Input] = []
         rest = iter(list(expanded(words)))
         for word in rest:
             self.take(word, rest)
         self.inputs = list(self.without_own(iter(self.inputs)))
 
-    def value(self, word, rest):
+    def value(self, word: str, rest: Iterator[T]) -> T:
         try:
             return next(rest)
         except StopIteration:
             raise Fault(f"{word} wants a value") from None
 
-    def take(self, word, rest):
+    def take(self, word: str, rest: Iterator[str]) -> None:
         own = {"-o": "out", "-T": "script", "-e": "entry", "-x": "language"}
         alone = {"-v": ["shows"], "-###": ["shows", "is_dry"], "--keep-returns": ["keeps_returns"], "--cflags": ["asks_flags"]}
         if word in own:
@@ -74,7 +89,7 @@ class Line:
             for name in alone[word]:
                 setattr(self, name, True)
         elif word in STOPS:
-            self.stop = max(self.stop or word, word, key=STOPS.get)
+            self.stop = max(self.stop or word, word, key=STOPS.__getitem__)
         elif word in ("--data", "--base"):
             self.for_ld += ["--defsym", f"nc_{word[2:]}=0x{self.address(word, rest):08x}"]
         elif word.startswith("-save-temps"):
@@ -88,7 +103,7 @@ class Line:
         else:
             self.inputs.append((word, self.language_of(word)))
 
-    def take_flag(self, word, rest):
+    def take_flag(self, word: str, rest: Iterator[str]) -> None:
         """A flag that a tool behind this one gets."""
         reason = next((reason for pattern, reason in REFUSED if re.fullmatch(pattern, word)), None)
         if reason:
@@ -117,7 +132,7 @@ class Line:
             self.is_quiet |= word == "-w"
             self.flags.append(word)
 
-    def without_own(self, inputs):
+    def without_own(self, inputs: Iterator[Input]) -> Iterator[Input]:
         """The inputs without the entry and the script, which -Wl and -Xlinker may name too."""
         for word, language in inputs:
             name, equals, value = word.partition("=")
@@ -126,7 +141,7 @@ class Line:
             else:
                 setattr(self, LINKER_OWN[name], value if equals else self.value(word, inputs)[0])
 
-    def address(self, word, rest):
+    def address(self, word: str, rest: Iterator[str]) -> int:
         text = self.value(word, rest)
         try:
             number = int(text, 16)
@@ -138,25 +153,25 @@ class Line:
             raise Fault(f"{word} wants a hexadecimal address below 2^32: {text}")
         return number
 
-    def language_of(self, name):
+    def language_of(self, name: str) -> str | None:
         """A file's language, or None where it is for the linker. Standard input is C where it is only preprocessed."""
-        if self.language not in (None, "none"):
+        if self.language and self.language != "none":
             return self.language
-        if name == "-" and STOPS.get(self.stop, 0) < STOPS["-E"]:
+        if name == "-" and STOPS.get(self.stop or "", 0) < STOPS["-E"]:
             raise Fault("- (standard input) wants -x LANGUAGE before it")
         language = "c" if name == "-" else LANGUAGES.get(os.path.splitext(name)[1])
-        return IN_CXX.get(language, language) if self.is_cxx else language
+        return IN_CXX.get(language, language) if language and self.is_cxx else language
 
-    def sources(self):
+    def sources(self) -> list[tuple[str, str]]:
         return [(name, language) for name, language in self.inputs if language]
 
-    def own_language(self):
+    def own_language(self) -> str:
         """The language of questions, where no file is named."""
-        return self.language if self.language not in (None, "none") else "c++" if self.is_cxx else "c"
+        return self.language if self.language and self.language != "none" else "c++" if self.is_cxx else "c"
 
-    def has_files(self):
+    def has_files(self) -> bool:
         return any(language or not name.startswith("-") for name, language in self.inputs)
 
-    def folders(self):
+    def folders(self) -> list[str]:
         """The folders of -L, in order."""
         return [name[2:] for name, language in self.inputs if not language and name.startswith("-L")]

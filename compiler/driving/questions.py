@@ -1,5 +1,7 @@
 """Options that ask something, with no file named: what the driver answers by itself, and what it hands to the compiler."""
 
+from __future__ import annotations
+
 import os
 
 from .tools import tool
@@ -8,16 +10,16 @@ TARGET = "i686-unknown-elf"
 CXX = {"c++", "c++-cpp-output"}
 
 
-def found(name, folders):
+def found(name: str, folders: list[str]) -> str:
     """A file of a library's name in the folders given by -L, or the name alone, as a compiler says of what it hasn't found."""
     return next((path for path in (os.path.join(folder, name) for folder in folders) if os.path.exists(path)), name)
 
 
-def is_of_library(name):
+def is_of_library(name: str) -> bool:
     return name.endswith((".a", ".so", ".o", ".lo")) or ".so." in name
 
 
-def answer(word, folders):
+def answer(word: str, folders: list[str]) -> str | None:
     """What is to be printed for an option, or None where the compiler answers. Nothing but the folders of -L has libraries for the
     sandbox."""
     option, _, value = word.replace("--print-", "-print-", 1).partition("=")

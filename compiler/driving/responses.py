@@ -1,7 +1,10 @@
 """Response files: `@FILE` on a command line stands for the words in a file."""
 
+from __future__ import annotations
+
 import os
 import re
+from collections.abc import Iterable, Iterator
 
 from .faults import Fault
 
@@ -11,14 +14,14 @@ MOST_LEVELS = 20  # a file that names itself would have no end
 LONGEST = 100000  # bytes of a command line, from where on a tool gets its words by a file
 
 
-def unquoted(word):
+def unquoted(word: str) -> str:
     """A word without its quotes. As in the response files of GNU programs, a backslash stands before a character that is meant as it is."""
     parts = (found.group(1) or found.group(4) or re.sub(r"\\(.)", r"\1", found.group(2) or found.group(3) or "", flags=re.S)
              for found in PART.finditer(word))
     return "".join(parts)
 
 
-def expanded(words, level=0):
+def expanded(words: Iterable[str], level: int = 0) -> Iterator[str]:
     """The words, with those of files in the place of `@FILE`. Where there is no such file, the word stays as it is."""
     for word in words:
         if not word.startswith("@") or not os.path.isfile(word[1:]):
@@ -34,7 +37,7 @@ def expanded(words, level=0):
         yield from expanded(map(unquoted, WORD.findall(text)), level + 1)
 
 
-def shortened(words, path):
+def shortened(words: list[str], path: str) -> list[str]:
     """A tool's words after the first one: as they are, or in a file at the path where they are longer than a system may take."""
     if sum(len(word) + 1 for word in words) <= LONGEST:
         return words

@@ -1,5 +1,7 @@
 """Builds the C library musl for the sandbox, by nc-cc: what the scripts `build` of the examples share."""
 
+from __future__ import annotations
+
 import glob
 import hashlib
 import os
@@ -7,7 +9,8 @@ import shutil
 import subprocess
 import sys
 import tarfile
-from typing import NamedTuple
+from concurrent.futures import Executor
+from typing import Any, NamedTuple
 
 HERE = os.path.dirname(os.path.abspath(__file__))
 DRIVER = os.path.join(HERE, "..", "nc-cc")
@@ -34,8 +37,8 @@ class Library(NamedTuple):
 
     folders: str
     files: str
-    without: tuple = ()
-    flags: tuple = ()
+    without: tuple[str, ...] = ()
+    flags: tuple[str, ...] = ()
 
 
 LIBRARIES = {
@@ -55,7 +58,7 @@ class Fault(Exception):
     """What isn't there, or failed."""
 
 
-def found(sources, patterns):
+def found(sources: str, patterns: str) -> str:
     """The folder that one of the patterns fits; the last by name, where several do."""
     places = sorted(place for pattern in patterns.split() for place in glob.glob(os.path.join(sources, pattern)) if os.path.isdir(place))
     if not places:
@@ -63,7 +66,13 @@ def found(sources, patterns):
     return places[-1]
 
 
-def unpack(path, wanted, place):
+def extract(archive: tarfile.TarFile, place: str, files: list[tarfile.TarInfo] | None = None) -> None:
+    """The files of an archive, or some of them, under the filter for data where Python has it."""
+    more: Any = {"filter": "data"} if hasattr(tarfile, "data_filter") else {}
+    archive.extractall(place, files, **more)
+
+
+def unpack(path: str, wanted: str, place: str) -> None:
     """The files of an archive, which has to have its SHA-256. Its symbolic links are left out: rt refuses a repository with them."""
     if not os.path.exists(path):
         raise Fault("there is no %s: `build --help` says what to get" % path)
@@ -72,10 +81,10 @@ def unpack(path, wanted, place):
             raise Fault("%s hasn't the SHA-256 %s" % (path, wanted))
     with tarfile.open(path) as archive:
         files = [entry for entry in archive if not entry.issym()]
-        archive.extractall(place, files, **({"filter": "data"} if hasattr(tarfile, "data_filter") else {}))
+        extract(archive, place, files)
 
 
-def sources_of(name, sources):
+def sources_of(name: str, sources: str) -> tuple[str, list[str]]:
     """The folder of a library, and its sources."""
     library = LIBRARIES[name]
     folder = found(sources, library.folders)
@@ -85,7 +94,7 @@ def sources_of(name, sources):
     return folder, files
 
 
-def run(words, cc="gcc", **more):
+def run(words: list[str], cc: str = "gcc", **more: Any) -> str:
     try:
         done = subprocess.run(words, env={**os.environ, "NC_CC": cc}, capture_output=True, text=True, errors="replace", **more)
     except subprocess.TimeoutExpired:
@@ -95,7 +104,7 @@ def run(words, cc="gcc", **more):
     return done.stdout
 
 
-def time_of(words):
+def time_of(words: list[str]) -> float:
     """The time of a processor that a program takes, in milliseconds."""
     started = subprocess.Popen(words, stdout=subprocess.DEVNULL)
     _, status, used = os.wait4(started.pid, 0)
@@ -103,11 +112,11 @@ def time_of(words):
     return 1000 * (used.ru_utime + used.ru_stime)
 
 
-def nc_cc(words, cc, **more):
+def nc_cc(words: list[str], cc: str, **more: Any) -> str:
     return run([sys.executable, DRIVER, *words], cc, **more)
 
 
-def write_headers(musl, made):
+def write_headers(musl: str, made: str) -> None:
     """The headers that musl's own Makefile writes, and those that expat and Debian's Lua get when they are configured."""
     bits, internal = os.path.join(made, "include", "bits"), os.path.join(made, "internal")
     for folder in (bits, internal, os.path.join(made, "given")):
@@ -128,7 +137,7 @@ def write_headers(musl, made):
             file.write(text)
 
 
-def including(musl, made, inner):
+def including(musl: str, made: str, inner: bool) -> list[str]:
     """Flags that find musl's headers, and those of this folder before them; `inner`: as musl's own sources see them."""
     own = os.path.join(HERE, "musl")
     within = ["arch/i386", "arch/generic"] + (["src/include", "src/internal"] if inner else [])
@@ -137,7 +146,7 @@ def including(musl, made, inner):
     return ["-nostdinc", *(word for place in places for word in (("-I" if inner else "-isystem"), place))]
 
 
-def build_folder(musl, made, cc, name):
+def build_folder(musl: str, made: str, cc: str, name: str) -> list[str]:
     """The objects of one of musl's folders, where they aren't there yet."""
     folder = os.path.join(made, "musl-" + cc, name.replace("/", "-"))
     os.makedirs(folder, exist_ok=True)
@@ -150,7 +159,7 @@ def build_folder(musl, made, cc, name):
     return sorted(glob.glob(os.path.join(folder, "*.o")))
 
 
-def build_objects(musl, made, cc, pool):
+def build_objects(musl: str, made: str, cc: str, pool: Executor) -> dict[str, list[str]]:
     """The objects of musl, by its folders, and those of this folder, some of which take the places of musl's."""
     print("musl by %s: %d folders" % (cc, len(MUSL_FOLDERS)), flush=True)
     objects = dict(zip(MUSL_FOLDERS, pool.map(lambda name: build_folder(musl, made, cc, name), MUSL_FOLDERS)))
@@ -162,7 +171,7 @@ def build_objects(musl, made, cc, pool):
     return objects
 
 
-def compile_inner(musl, made, cc, name):
+def compile_inner(musl: str, made: str, cc: str, name: str) -> str:
     """The object of a source of this folder, which sees musl's inner headers where it is of C."""
     stem, kind = os.path.splitext(name)
     made_of = os.path.join(made, "%s-%s.o" % (stem.replace("/", "-"), cc))
@@ -171,14 +180,14 @@ def compile_inner(musl, made, cc, name):
     return made_of
 
 
-def compile_code(musl, made, cc, path):
+def compile_code(musl: str, made: str, cc: str, path: str) -> str:
     """The object of a source for generators of code, which sees the public headers. Its time counts more than its size."""
     made_of = os.path.join(made, "code-%s-%s.o" % (os.path.splitext(os.path.basename(path))[0], cc))
     nc_cc(["-c", "-O2", "-w", "-std=gnu11", "-fhosted", *including(musl, made, inner=False), path, "-o", made_of], cc)
     return made_of
 
 
-def join(archive, objects):
+def join(archive: str, objects: list[str]) -> None:
     """An archive, which is there whole or not at all."""
     if os.path.exists(archive + ".new"):
         os.remove(archive + ".new")
@@ -186,7 +195,7 @@ def join(archive, objects):
     os.rename(archive + ".new", archive)
 
 
-def build_musl(musl, made, cc, pool):
+def build_musl(musl: str, made: str, cc: str, pool: Executor) -> None:
     """libc-CC.a and the object with `start`, where they aren't there yet."""
     archive = os.path.join(made, "libc-%s.a" % cc)
     if not os.path.exists(archive):

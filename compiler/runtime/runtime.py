@@ -1,13 +1,15 @@
 """The C library that `tools/install --musl` installs for nc-cc: musl, with the start of programs for nc-run, its calls, a heap, and what
 generators of code need."""
 
+from __future__ import annotations
+
 import concurrent.futures
 import glob
 import os
 import tarfile
 import tempfile
 
-from making import HERE, Fault, build_objects, compile_code, compile_inner, found, join, write_headers
+from making import HERE, Fault, build_objects, compile_code, compile_inner, extract, found, join, write_headers
 
 PARTS = ("run/start.c", "run/calls.c", "run/heap.c", "run/templates.cc")
 # Of musl's own heap, what a heap of another kind needs too.
@@ -17,16 +19,16 @@ CODE = os.path.join(HERE, "code")
 HEADERS = ("include", "arch/generic", "arch/i386")
 
 
-def unpacked(path, folder):
+def unpacked(path: str, folder: str) -> str:
     """The folder with musl's sources: `path`, a folder in it, or what the archive `path` has."""
     if os.path.isfile(path):
         with tarfile.open(path) as archive:
-            archive.extractall(folder, **({"filter": "data"} if hasattr(tarfile, "data_filter") else {}))
+            extract(archive, folder)
         path = folder
     return path if os.path.isdir(os.path.join(path, "arch/i386")) else found(path, "musl-1.2.*")
 
 
-def headers(musl, made):
+def headers(musl: str, made: str) -> dict[str, bytes]:
     """The public headers by their names, each from the last of the folders that has it."""
     texts = {}
     for place in [*(os.path.join(musl, name) for name in HEADERS), os.path.join(made, "include"), os.path.join(HERE, "musl"), CODE]:
@@ -38,7 +40,7 @@ def headers(musl, made):
     return texts
 
 
-def runtime(sources, cc="gcc"):
+def runtime(sources: str, cc: str = "gcc") -> dict[str, bytes]:
     """The files of the C library by their names, made of musl's sources: a folder or an archive."""
     with tempfile.TemporaryDirectory() as made, concurrent.futures.ThreadPoolExecutor(os.cpu_count()) as pool:
         try:
@@ -52,7 +54,8 @@ def runtime(sources, cc="gcc"):
         objects["run"] = [compile_inner(musl, made, cc, name) for name in PARTS]
         objects["code"] = [compile_code(musl, made, cc, path) for path in sorted(glob.glob(os.path.join(CODE, "*.c")))]
         files = headers(musl, made)
-        for name, parts in (("libc.a", [path for paths in objects.values() for path in paths]), ("libm.a", [])):
+        archives: dict[str, list[str]] = {"libc.a": [path for paths in objects.values() for path in paths], "libm.a": []}
+        for name, parts in archives.items():
             join(os.path.join(made, name), parts)
             with open(os.path.join(made, name), "rb") as file:
                 files[name] = file.read()
