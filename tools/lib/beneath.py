@@ -1,11 +1,13 @@
 """Which tools an installed nc-cc takes for those beneath it, by the variables that name them."""
 
+from __future__ import annotations
+
 import concurrent.futures
 import os
 import shutil
 import signal
 import subprocess
-from typing import NamedTuple
+from typing import Any, NamedTuple
 
 from examples import TOP
 
@@ -32,7 +34,7 @@ FILES = {
 }
 
 
-def write(path, text, mode=0o644):
+def write(path: str, text: str, mode: int = 0o644) -> None:
     with open(path, "w", encoding="ascii") as file:
         file.write(text)
     os.chmod(path, mode)
@@ -65,7 +67,7 @@ def environment(variables, folder):
     return {**kept, **{name: filled(value, folder) for name, value in given.items()}}
 
 
-def ended(words, **more):
+def ended(words: list[str], **more: Any) -> tuple[int | str, str]:
     """The status of a command, and what it says. It has a group of processes to itself, so that a limit ends all that it has started."""
     with subprocess.Popen(words, stdin=subprocess.DEVNULL, stdout=subprocess.PIPE, stderr=subprocess.PIPE, text=True,
                           start_new_session=True, **more) as run:
@@ -164,7 +166,7 @@ PROJECTS = [
 ]
 
 
-def lacking():
+def lacking() -> list[str]:
     """The tools that aren't here; a compiler has to make 32-bit code."""
     compiling = ["-m32", "-S", "-x", "c", os.devnull, "-o", os.devnull]
     return [tool for tool, words in (("gcc", compiling), ("clang", compiling), ("make", ["--version"]), ("cmake", ["--version"]))
@@ -182,7 +184,7 @@ def chosen(rows, word):
     return kept
 
 
-def try_beneath(folder, word):
+def try_beneath(folder: str, word: str) -> tuple[int, int]:
     """How many rows were tried whose names have the word, and how many differ."""
     prepare(folder)
     rows = chosen([*PROJECTS, *ROWS], word)

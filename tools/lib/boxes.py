@@ -1,9 +1,13 @@
 """What the scripts share that build the library of sandbox/ with programs over it, such as nc-run, and plant faults in them."""
 
+from __future__ import annotations
+
 import os
 import re
 import subprocess
 import sys
+from collections.abc import Iterable
+from concurrent.futures import Executor
 from typing import NamedTuple
 
 from examples import TOP
@@ -28,7 +32,7 @@ class Fault(NamedTuple):
     line: str
 
 
-def faults(path):
+def faults(path: str) -> list[Fault]:
     """Those of a faults.txt. One with several tests, and as many lines between bars, is found by each of them."""
     with open(path, encoding="utf-8") as file:
         text = file.read()
@@ -39,35 +43,35 @@ def faults(path):
             for test, line in zip(tests.split(","), lines.split(" | "))]
 
 
-def sources(*folder):
+def sources(*folder: str) -> list[str]:
     """The paths of the sources in C and assembly of a folder, or of sandbox/."""
     place = os.path.join(TOP, *(folder or ["sandbox"]))
     return [os.path.join(place, name) for name in sorted(os.listdir(place)) if name.endswith((".c", ".S"))]
 
 
-def call(words):
+def call(words: list[str]) -> None:
     subprocess.run(words, stdin=subprocess.DEVNULL, check=True)
 
 
-def compile_one(source, made, flags):
+def compile_one(source: str, made: str, flags: list[str]) -> str:
     call([compiler()] + FLAGS + flags + ["-c", source, "-o", made])
     return made
 
 
-def compile_all(pool, paths, folder, flags):
+def compile_all(pool: Executor, paths: list[str], folder: str, flags: list[str]) -> dict[str, str]:
     """The objects of sources, by their paths."""
     made = {path: os.path.join(folder, os.path.relpath(path, TOP).replace(os.sep, "-") + ".o") for path in paths}
     list(pool.map(lambda path: compile_one(path, made[path], ["-Werror"] + flags), made))
     return made
 
 
-def link(objects, made, flags=(), over=None):
+def link(objects: Iterable[str], made: str, flags: Iterable[str] = (), over: list[str] | None = None) -> str:
     """A program, over the built library nc_host or over other archives."""
     call([compiler(), "-pthread", *flags, *objects, *(archives() if over is None else over), "-o", made])
     return made
 
 
-def run(line, folder, seconds):
+def run(line: list[str], folder: str, seconds: int) -> tuple[int, str, str]:
     """The status, the output and the errors of a program that may use so many seconds of a processor."""
     words = ["sh", "-c", LIMITS, str(seconds)] + line
     limit = 300 + 2 * seconds
@@ -75,7 +79,7 @@ def run(line, folder, seconds):
     return done.returncode, done.stdout, done.stderr
 
 
-def has_sanitizers(folder, flags=()):
+def has_sanitizers(folder: str, flags: Iterable[str] = ()) -> bool:
     """Whether the compiler has them, with their libraries."""
     made = os.path.join(folder, "nothing")
     words = [compiler(), *(flags or CHECKED), "-x", "c", "-", "-o", made]
@@ -83,7 +87,7 @@ def has_sanitizers(folder, flags=()):
     return built.returncode == 0 and subprocess.run([made], capture_output=True).returncode == 0
 
 
-def plant(fault, folder, library, flags=()):
+def plant(fault: Fault, folder: str, library: dict[str, str], flags: Iterable[str] = ()) -> dict[str, str]:
     """The objects of the library with this fault."""
     source = os.path.normpath(os.path.join(SANDBOX, fault.source))
     planted = os.path.join(folder, "planted-%s%s" % (fault.name, os.path.splitext(source)[1]))
@@ -96,7 +100,7 @@ def plant(fault, folder, library, flags=()):
     return dict(library, **{source: compile_one(planted, planted + ".o", ["-w", *flags])})
 
 
-def try_fault(fault, wanted, ended):
+def try_fault(fault: Fault, wanted: list[str], ended: tuple[int, str, str]) -> bool:
     """Whether the test doesn't find the fault where faults.txt says: the first of the lines it has to print that it doesn't print."""
     status, output, _ = ended
     found = output.splitlines()
@@ -107,14 +111,14 @@ def try_fault(fault, wanted, ended):
     return not right
 
 
-def nc_run(folder):
+def nc_run(folder: str) -> str:
     """The path of the program, which is made in a folder."""
     made = os.path.join(folder, "nc-run")
     call([compiler(), *FLAGS, *sources(), *sources("sandbox", "run"), *archives(), "-o", made])
     return made
 
 
-def no_boxes(program, folder):
+def no_boxes(program: str, folder: str) -> str | None:
     """What isn't here without which nc-run runs nothing, or None."""
     if missing():
         return missing() + " isn't there"

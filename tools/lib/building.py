@@ -4,6 +4,8 @@ What `rt` built last is taken as it is, and built if it isn't there. For another
 out/cpu/NAME of its crate, and what stands in out stays.
 """
 
+from __future__ import annotations
+
 import concurrent.futures
 import contextlib
 import fcntl
@@ -11,6 +13,7 @@ import os
 import shutil
 import subprocess
 import tempfile
+from collections.abc import Iterable
 
 from boxes import link as link_boxes
 from boxes import compile_all, sources
@@ -30,13 +33,13 @@ class Missing(Exception):
     """A tool that isn't here; the message names it."""
 
 
-def command(name):
+def command(name: str) -> str:
     if shutil.which(name) is None:
         raise Missing(name + " isn't here")
     return name
 
 
-def compiler():
+def compiler() -> str:
     return command(os.environ.get("CC", "gcc"))
 
 
@@ -63,13 +66,13 @@ def put_aside(out, name):
                 os.replace(os.path.join(aside, file), os.path.join(out, file))
 
 
-def place_of(crate, cpu):
+def place_of(crate: str, cpu: str) -> str:
     """The folder of what is built of a crate for a processor."""
     out = os.path.join(TOP, "crates", crate, "out")
     return out if cpu == DEFAULT else os.path.join(out, "cpu", cpu)
 
 
-def product(crate, name, cpu, anew):
+def product(crate: str, name: str, cpu: str, anew: bool) -> str:
     """The path of a program or a library. Two of these scripts don't build in a crate at once."""
     folder = os.path.join(TOP, "crates", crate)
     out, verb = os.path.join(folder, "out"), "lib" if name.endswith(".a") else "run"
@@ -84,12 +87,12 @@ def product(crate, name, cpu, anew):
     return os.path.join(apart, name)
 
 
-def program(name, cpu, anew):
+def program(name: str, cpu: str, anew: bool) -> bytes:
     with open(product(name, name, cpu, anew), "rb") as file:
         return file.read()
 
 
-def merge(archives, folder):
+def merge(archives: list[str], folder: str) -> str:
     """One archive with one object: the library, and what it needs of the others. Only the calls of the header are global in it."""
     whole, kept, archive = (os.path.join(folder, name) for name in ("whole.o", "nc_host.o", "libnc_host.a"))
     for tool in MERGING:
@@ -102,7 +105,7 @@ def merge(archives, folder):
     return archive
 
 
-def merge_boxes(parts, folder):
+def merge_boxes(parts: Iterable[str], folder: str) -> str:
     """One archive with one object of the library of boxes. Only the calls of its header are global in it: all other names are hidden."""
     whole, kept, archive = (os.path.join(folder, name) for name in ("whole.o", "nc_sandbox.o", "libnc_sandbox.a"))
     subprocess.run(["ld", "-r", "-o", whole, *parts], check=True)
@@ -111,7 +114,7 @@ def merge_boxes(parts, folder):
     return archive
 
 
-def boxes(cpu, static):
+def boxes(cpu: str, static: bytes) -> list[bytes]:
     """The bytes of the static library of boxes and of nc-run, over these of the static library nc_host, which alone is for this processor:
     nc-run says so where it is another one."""
     level = PROCESSORS.index(cpu) + 1
@@ -138,7 +141,7 @@ def link(archive, soname, folder):
     return made
 
 
-def libraries(cpu, soname, anew):
+def libraries(cpu: str, soname: str, anew: bool) -> list[bytes]:
     """The bytes of the static and of the shared library, which link without the toolchain."""
     own = product("nc_host", "libnc_host.a", cpu, anew)
     if "RATTLE_KIT" not in os.environ:

@@ -1,5 +1,7 @@
 """Small projects that make, a configure script, CMake and Meson build for the sandbox by nc-cc, and what nc-cc answers to build systems."""
 
+from __future__ import annotations
+
 import concurrent.futures
 import os
 import re
@@ -152,7 +154,7 @@ def lacking(names):
     return [name for name in names if shutil.which(name) is None]
 
 
-def try_builds(folder, word, program):
+def try_builds(folder: str, word: str, program: str) -> tuple[int, int]:
     """How many projects and answers were tried whose names have the word, and how many differ. `program` judges, where it is there."""
     prepare(folder)
     builds = [build for build in BUILDS if word in build.name]

@@ -5,7 +5,11 @@ a member of an exported trait. What it cites is each name that its file imports 
 clauses.
 """
 
+from __future__ import annotations
+
+import pathlib
 import re
+from collections.abc import Iterator
 
 import specs
 
@@ -42,9 +46,9 @@ class Contract:
             above = above + [line.strip(" /")] if line.strip().startswith("//") else []
 
 
-def exported(crate):
+def exported(crate: pathlib.Path) -> set[str]:
     """The names that a library exports, and those of a program's public modules."""
-    names = set()
+    names: set[str] = set()
     for path in filter(lambda path: path.exists(), (crate / "src" / "lib.rt", crate / "src" / "main.rt")):
         text = path.read_text(encoding="utf-8")
         for one, many in EXPORT.findall(text):
@@ -88,7 +92,7 @@ def owner_of(head, names):
     return next((word for word in words if word in names), None)
 
 
-def contracts(path, names):
+def contracts(path: pathlib.Path, names: set[str]) -> Iterator[Contract]:
     """The contract of each public function and ghost member of a file."""
     lines = path.read_text(encoding="utf-8").split("\n")
     owner, in_trait = None, False
@@ -122,9 +126,10 @@ def imports(text):
     return {name: source for name, source in found.items() if not source[1].startswith("declared")}
 
 
-def citations():
+def citations() -> tuple[int, dict[specs.Key, set[str]]]:
     """How many public contracts there are, and those that cite each definition, by its crate, file and name."""
-    seen, cited = 0, {}
+    seen = 0
+    cited: dict[specs.Key, set[str]] = {}
     for crate in sorted(specs.CRATES.iterdir()):
         names = exported(crate) if (crate / "src").is_dir() else set()
         for path in sorted((crate / "src").rglob("*.rt")):

@@ -1,5 +1,7 @@
 """The manual pages and completions of nc-cc and nc-bundle, against the help of their scripts."""
 
+from __future__ import annotations
+
 import os
 import re
 import subprocess
@@ -20,7 +22,7 @@ def options_of(name):
     return {option for line in re.findall(r"^  (-.*)$", text, re.M) for option in OPTION.findall(line.replace("-jN", "-j"))}
 
 
-def page_slips(name):
+def page_slips(name: str) -> list[str]:
     """Options that the page lacks, and examples that print something else than the page says."""
     with open(os.path.join(TOP, "docs", "man", name + ".1"), encoding="utf-8") as page:
         text = page.read()
@@ -34,7 +36,7 @@ def page_slips(name):
     return slips
 
 
-def pages():
+def pages() -> list[str]:
     return [os.path.join(TOP, "docs", "man", name + ".1") for name in SCRIPTS]
 
 
@@ -48,7 +50,7 @@ def offered(name):
     return set(done.stdout.split()) or {done.stderr}, set(alone) | set(groups)
 
 
-def completion_slips():
+def completion_slips() -> list[str]:
     """Where a completion isn't what the help says."""
     slips = []
     for name in SCRIPTS:

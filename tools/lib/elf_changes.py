@@ -5,6 +5,7 @@ import re
 import struct
 
 from elf_files import FORMAT, MACHINE, SEGMENT, SYMBOLS, STRINGS, TABLE, UNLINKED, WIDE, R, W, X, elf, segment
+from trials import Trials
 
 TABLE_OF_HEADERS = 6
 TYPE = "neither an executable file nor a shared object"
@@ -249,7 +250,7 @@ def try_cut_names(trials):
     trials.compare("symbols, cut files", (found, err, status), ([(name, "%08x" % at, None) for name in names for at in AREAS], "", 1))
 
 
-def try_elf_changes(trials):
+def try_elf_changes(trials: Trials) -> None:
     try_segments(trials)
     try_symbols(trials)
     try_cut_names(trials)

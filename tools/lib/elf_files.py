@@ -1,8 +1,15 @@
 """ELF files for trials of nc_check, made by hand from the System V ABI, each with what has to be said of it."""
 
+from __future__ import annotations
+
 import struct
+from typing import Any, Dict, Tuple
 
 from shown import listed
+from trials import Trials
+
+# A program header's fields, and the bytes that it names.
+Segment = Tuple[Dict[str, Any], bytes]
 
 NOPS = b"\x90" * 32
 RET = b"\xc3" + b"\x90" * 31
@@ -13,7 +20,7 @@ UNTYPED, OBJECT, FUNCTION = 0, 1, 2
 R, W, X = 4, 2, 1
 
 
-def segment(address, content, flags, kind=LOAD, **changed):
+def segment(address: int, content: bytes, flags: int, kind: int = LOAD, **changed: int) -> Segment:
     """A program header's fields, and the bytes that it names; the offset is filled in later, if it isn't given."""
     fields = {"kind": kind, "offset": None, "address": address, "physical": address, "file_len": len(content),
               "memory_len": len(content), "flags": flags, "align": 1}
@@ -21,7 +28,7 @@ def segment(address, content, flags, kind=LOAD, **changed):
     return fields, content
 
 
-def elf(*segments, cut=None, **changed):
+def elf(*segments: Segment, cut: int | None = None, **changed: Any) -> bytes:
     """An executable file with these segments after its header and its program headers. Fields of the header can be changed."""
     header = {"ident": b"\x7fELF\1\1\1" + bytes(9), "kind": 2, "machine": 3, "version": 1, "entry": 0, "phoff": 52, "shoff": 0, "flags": 0,
               "ehsize": 52, "phentsize": 32, "phnum": len(segments), "shentsize": 0, "shnum": 0, "shstrndx": 0}
@@ -34,7 +41,7 @@ def elf(*segments, cut=None, **changed):
     return (struct.pack("<16sHHIIIIIHHHHHH", *header.values()) + headers + contents)[:cut]
 
 
-def with_symbols(file, *symbols):
+def with_symbols(file: bytes, *symbols: tuple[int, bytes, int, int]) -> bytes:
     """A file without sections, and these symbols in a table of its own: for each its address, name, type and section."""
     entries, names = bytearray(16), bytearray(1)
     for address, name, kind, section in symbols:
@@ -91,7 +98,7 @@ NAMED = with_symbols(UNNAMED, (0x10020, b"late", FUNCTION, 1), (0xFFFF, b"below"
                      (0x10060, b"next", FUNCTION, 1), (0x10080, b"between", FUNCTION, 1))
 RETURN = "a return (ret): compile with nc-cc, or pop the address into a register, mask it, and jump through it; see docs/GUIDE.md"
 # the faults of that file: for each segment its address, and for each fault its address, the name of that, and its bundle
-FAULTS = [
+FAULTS: list[tuple] = [
     (0x10000, [(0x1001D, "again+0x19", listed(0x10000, "29 x 90 = nop", "> c3", "2 x 90 = nop")),
                (0x1003D, "late+0x1d", listed(0x10020, "29 x 90 = nop", "> c3", "2 x 90 = nop"))]),
     (0x10060, [(0x10060, "next", listed(0x10060, "> c3", "31 x 90 = nop"))]),
@@ -166,7 +173,7 @@ MALFORMED = [
 ]
 
 
-def try_elf_files(trials):
+def try_elf_files(trials: Trials) -> None:
     """Each file by itself; then several of them among raw code, in one run and from standard input; and one as raw code."""
     for name, content, said in ACCEPTED:
         trials.lay("file", content)

@@ -1,9 +1,12 @@
 """What several of the scripts in tools/ use: the built programs, and one script and its replies."""
 
+from __future__ import annotations
+
 import os
 import shutil
 import subprocess
 import sys
+from typing import Any, NoReturn
 
 TOP = os.path.dirname(os.path.dirname(os.path.dirname(os.path.abspath(__file__))))
 
@@ -40,24 +43,24 @@ LINES_TEXT = "00010000 %s\n00010001 %s\n" % (NOPS, NOPS)
 LINES_VERDICTS = "ok\nrefused BadBase\n"
 
 
-def lines_words(workers):
+def lines_words(workers: int) -> list[str]:
     """The command line that vets lines by this many workers."""
     return ["vet", "--bundles", "4", "--workers", str(workers)]
 
 
-def give_up(message):
+def give_up(message: str) -> NoReturn:
     """Ends the script with status 2."""
     print(f"{os.path.basename(sys.argv[0])}: {message}", file=sys.stderr)
     sys.exit(2)
 
 
-def require_rt():
+def require_rt() -> None:
     """Without the toolchain the script ends."""
     if shutil.which("rt") is None:
         give_up("rt isn't here: what this needs is built by the Rattle toolchain")
 
 
-def rt(*words, **more):
+def rt(*words: str, **more: Any) -> subprocess.CompletedProcess:
     """Runs a command of the toolchain. Without the toolchain, or if the command fails, the script ends."""
     require_rt()
     done = subprocess.run(["rt", *words], check=False, **more)
@@ -66,7 +69,7 @@ def rt(*words, **more):
     return done
 
 
-def built(name, words, given=subprocess.DEVNULL):
+def built(name: str, words: list[str], given: Any = subprocess.DEVNULL) -> str:
     """A program's path. It is built if it isn't there, and run with these words and this standard input."""
     crate = os.path.join(TOP, "crates", name)
     program = os.path.join(crate, "out", name)
@@ -75,7 +78,7 @@ def built(name, words, given=subprocess.DEVNULL):
     return program
 
 
-def built_tests(name):
+def built_tests(name: str) -> str:
     """The path of a crate's tests. They are built, and run once, if they aren't there."""
     crate = os.path.join(TOP, "crates", name)
     program = os.path.join(crate, "out", name + "_tests")
@@ -84,7 +87,7 @@ def built_tests(name):
     return program
 
 
-def library(folder, name):
+def library(folder: str, name: str) -> str:
     """A shared library from a file of C in tools/sources, for LD_PRELOAD."""
     path = os.path.join(folder, name + ".so")
     subprocess.run(["cc", "-O1", "-Wall", "-Werror", "-shared", "-fPIC", "-o", path, os.path.join(TOP, "tools", "sources", name + ".c")],

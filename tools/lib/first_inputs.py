@@ -1,5 +1,7 @@
 """The inputs with which the fuzzers of tests/fuzz begin: files of nc-cc, files made by hand, and lists of calls and acts."""
 
+from __future__ import annotations
+
 import os
 import struct
 
@@ -18,7 +20,7 @@ HEAD = bytes(3)
 BACK = bytes.fromhex("5983e1e0ffe1")  # pop ecx; and ecx, -32; jmp ecx
 
 
-def compiled(words, path):
+def compiled(words: list[str], path: str) -> str:
     """An ELF file by nc-cc, with a stack of 1 MiB."""
     call([NC_CC, "-O2", "--data", "00110000", "-Wl,-z,max-page-size=32", *words, "-o", path])
     return path
@@ -222,7 +224,7 @@ def write(folder, made):
             file.write(content)
 
 
-def write_all(folder):
+def write_all(folder: str) -> None:
     """Writes the inputs for each target, in a folder of its name."""
     os.makedirs(folder, exist_ok=True)
     made = list(files(folder))

@@ -68,7 +68,7 @@ def are_packets(preload, program):
     return ended == ("", 0) and packets == [b"bad line\n"] * 12
 
 
-def slips(preload, program):
+def slips(preload: str, program: str) -> int:
     """The number of cases that go wrong."""
     wrong = 0
     if not are_packets(preload, program):

@@ -1,11 +1,15 @@
 """The targets of tests/fuzz: how they are built and run by libFuzzer, and by AFL++."""
 
+from __future__ import annotations
+
 import os
 import shutil
 import subprocess
+from collections.abc import Iterable
+from concurrent.futures import Executor
 from typing import NamedTuple
 
-from boxes import FLAGS, SANDBOX, compile_all, has_sanitizers, link, plant, sources
+from boxes import FLAGS, SANDBOX, Fault, compile_all, has_sanitizers, link, plant, sources
 from examples import TOP
 from first_inputs import COMPILED, compiled
 from native import archives, compiler
@@ -53,7 +57,7 @@ def use(made_by):
     os.environ.update({"CC": made_by.name, **made_by.env})
 
 
-def lacking(made_by, folder):
+def lacking(made_by: Compiler, folder: str) -> str | None:
     """What isn't here without which a target can't be built, or None."""
     if shutil.which(made_by.name) is None:
         return made_by.name + " isn't there"
@@ -64,7 +68,7 @@ def lacking(made_by, folder):
 class Build:
     """The objects of all targets, by one compiler, in a folder."""
 
-    def __init__(self, made_by, pool, folder):
+    def __init__(self, made_by: Compiler, pool: Executor, folder: str) -> None:
         self.made_by = made_by
         guest = compiled(COMPILED["replay"], os.path.join(folder, "replay.elf"))
         own = [path for path in sources("tests", "fuzz") if os.path.basename(path) not in NOT_HELPERS]
@@ -75,23 +79,23 @@ class Build:
         targets = [self.object(name) for name in [*TARGETS, "mutator"]]
         subprocess.run(["ar", "rcs", self.archive, *[made for made in self.made.values() if made not in targets]], check=True)
 
-    def object(self, name):
+    def object(self, name: str) -> str:
         return self.made[os.path.join(FUZZ, name + ".c")]
 
-    def link(self, name, path, planted=()):
+    def link(self, name: str, path: str, planted: Iterable[str] = ()) -> str:
         """A target's program. An object with a fault comes first, so it is taken in place of the archive's."""
         target = TARGETS[name]
         objects = [self.object(name), *([self.object("mutator")] if target.gets_files else []), *planted, self.archive]
         return link(objects, path, [*self.made_by.flags, *self.made_by.linked, *target.linked])
 
-    def link_planted(self, fault, folder):
+    def link_planted(self, fault: Fault, folder: str) -> str:
         """The program of a fault's target, with the fault."""
         source = os.path.normpath(os.path.join(SANDBOX, fault.source))
         made = plant(fault, folder, self.made, [*self.made_by.flags, *INCLUDES])
         return self.link(fault.test, os.path.join(folder, fault.test), [made[source]])
 
 
-def mutator_library(path):
+def mutator_library(path: str) -> str:
     """The mutator of ELF files, as AFL++ loads it."""
     files = [os.path.join(FUZZ, name) for name in ("afl.c", "fields.c", "fuzz.c")]
     subprocess.run([os.environ["NC_CC"], *FLAGS, *INCLUDES, "-shared", "-fPIC", *files, *archives(), "-o", path], check=True)

@@ -1,5 +1,7 @@
 """What the parts of tools/try/generators share."""
 
+from __future__ import annotations
+
 import os
 import sys
 from typing import NamedTuple
@@ -20,26 +22,26 @@ class Place(NamedTuple):
     prefix: str
     folder: str
 
-    def tool(self, name):
+    def tool(self, name: str) -> str:
         return os.path.join(self.prefix, "bin", name)
 
-    def below(self, name):
+    def below(self, name: str) -> str:
         path = os.path.join(self.folder, name)
         os.makedirs(path, exist_ok=True)
         return path
 
-    def sources(self, name, edits, to):
+    def sources(self, name: str, edits: list[str], to: str) -> str:
         """A program's sources, with these edits, below a folder of this name."""
         return unpacked(name, SOURCES, self.below(to), edits)
 
-    def runs(self, *more):
+    def runs(self, *more: str) -> list[str]:
         return [self.tool("nc-run"), *LIVE, *more]
 
-    def accepts(self, path):
+    def accepts(self, path: str) -> None:
         done([self.tool("nc_check"), path], self.folder)
 
 
-def tell(what, is_right, said):
+def tell(what: str, is_right: bool, said: object) -> bool:
     """Prints a line, and returns whether it is right."""
     print("%s: %s%s" % (what, "" if is_right else "DIFFERS: ", said), flush=True)
     return is_right

@@ -1,5 +1,7 @@
 """What include/nc_host.h declares and promises, and what the crates have of it: calls, structs, numbers and clauses."""
 
+from __future__ import annotations
+
 import functools
 import pathlib
 import re
@@ -72,7 +74,7 @@ class Call:
         return f"{self.returned} {self.name}({arguments})"
 
 
-def c_declared(name, kind):
+def c_declared(name: str, kind: str) -> str:
     return kind + name if kind.endswith("*") else f"{kind} {name}"
 
 
@@ -92,8 +94,11 @@ def sentences(comment):
 class Header:
     """The declarations, the numbers and the comments of a header's text; and what of it can't be read."""
 
-    def __init__(self, text):
-        self.calls, self.structs, self.others, self.unread = {}, {}, [], []
+    def __init__(self, text: str) -> None:
+        self.calls: dict[str, Call] = {}
+        self.structs: dict[str, list[tuple[str, str]]] = {}
+        self.others: list[str] = []
+        self.unread: list[str] = []
         plain = blank(COMMENT, text)
         self.numbers = {name: value_of(value) for name, value in NUMBER.findall(plain)}
         self.unread += sorted(set(DEFINED.findall(plain)) - self.numbers.keys() - NO_NUMBERS)
@@ -103,7 +108,7 @@ class Header:
         self.read_statements(blank(OTHER_LINES, plain.split("#ifdef NC_FAULT_NAMES")[0]))
         self.read_comments(text)
 
-    def read_statements(self, plain):
+    def read_statements(self, plain: str) -> None:
         """Finds each struct and each prototype; all else that ends in a semicolon can't be read."""
         at = 0
         while ";" in plain[at:]:
@@ -114,7 +119,7 @@ class Header:
                 self.unread.append(" ".join(plain[at:end].split()))
             at = found.end() if found else end
 
-    def add(self, found, where):
+    def add(self, found: re.Match[str], where: str) -> None:
         struct, members, again, returned, name, arguments = found.groups()
         if struct and struct == again:
             self.structs[struct] = [self.declared(member) for member in members.split(";")[:-1]]
@@ -124,7 +129,7 @@ class Header:
             taken = [] if arguments.strip() == "void" else [self.declared(argument) for argument in arguments.split(",")]
             self.calls[name] = Call(name, returned, taken, where)
 
-    def declared(self, text):
+    def declared(self, text: str) -> tuple[str, str]:
         """The name and the type of an argument or a member."""
         found = DECLARED.fullmatch(" ".join(text.split()))
         if not found:
@@ -133,7 +138,7 @@ class Header:
         const, kind, star, name = found.groups()
         return name, (const or "") + kind + (" *" if star else "")
 
-    def read_comments(self, text):
+    def read_comments(self, text: str) -> None:
         """The sentences of the comment directly above each call; and the names that other comments have in brackets."""
         for found in COMMENT.finditer(text):
             comment, below = found.group(), BELOW.match(text, found.end())
@@ -186,8 +191,10 @@ UNWRITTEN = {"UnmarkSpan", "Look"}
 class Crates:
     """The exported functions with their contracts, the structs of C, the numbers with their places, and the definitions with a comment."""
 
-    def __init__(self):
-        self.calls, self.structs, self.unread = {}, {}, []
+    def __init__(self) -> None:
+        self.calls: dict[str, Call] = {}
+        self.structs: dict[str, list[tuple[str, str]]] = {}
+        self.unread: list[str] = []
         self.numbers = {"NC_OK": {0: "each contract"}}
         self.definitions = commented()
         for path in sorted(CRATES.glob("*/src/**/*.rt")):
@@ -198,7 +205,7 @@ class Crates:
                 self.structs[name] = [(WORDS.get(member, member), c_type(kind)) for member, kind in plain]
         self.read_numbers()
 
-    def read_functions(self, path, text):
+    def read_functions(self, path: pathlib.Path, text: str) -> None:
         found = list(FUNCTION.finditer(text))
         if len(found) != text.count('extern "C" fn'):
             self.unread.append(f'{path}: a function that is `extern "C"`')
@@ -209,7 +216,7 @@ class Crates:
             call.clauses = CLAUSE.findall(contract or "")
             self.calls[name] = call
 
-    def read_numbers(self):
+    def read_numbers(self) -> None:
         for pattern in CONSTANTS:
             for path in sorted(CRATES.glob(pattern)):
                 for name, value in CONSTANT.findall(path.read_text(encoding="utf-8")):
@@ -222,7 +229,7 @@ class Crates:
                     if case not in UNWRITTEN:
                         self.add(snake(case), int(value), path, PREFIXES.get(function, "NC_"))
 
-    def add(self, name, value, path, prefix="NC_"):
+    def add(self, name: str, value: int, path: object, prefix: str = "NC_") -> None:
         if name == "VERSION":
             for part, shift in ("MAJOR", 16), ("MINOR", 8), ("PATCH", 0):
                 self.add("VERSION_" + part, value >> shift & 0xFF, path)

@@ -1,8 +1,11 @@
 """What the scripts share that run programs with the C library of `tools/install --musl`."""
 
+from __future__ import annotations
+
 import os
 import subprocess
 import sys
+from typing import Any
 
 from boxes import SYSTEM_LACKS
 from examples import TOP
@@ -14,29 +17,30 @@ HELLO = os.path.join(TOP, "tests", "musl", "hello.c")
 SECONDS = 120
 
 
-def run(words, folder, **more):
-    return subprocess.run(words, **{"cwd": folder, "capture_output": True, "timeout": SECONDS, **more})
+def run(words: list[str], folder: str, **more: Any) -> subprocess.CompletedProcess:
+    asked: dict[str, Any] = {"cwd": folder, "capture_output": True, "timeout": SECONDS, **more}
+    return subprocess.run(words, **asked)
 
 
-def made(words, folder, env=None):
+def made(words: list[str], folder: str, env: dict[str, str] | None = None) -> None:
     """Does what has to succeed, and prints nothing as an error."""
     done = run(words, folder, env=env)
     if done.returncode or done.stderr:
         sys.exit("%s: status %d: %s" % (" ".join(words), done.returncode, done.stderr.decode(errors="replace")[-2000:]))
 
 
-def ended(words, folder, given=b""):
+def ended(words: list[str], folder: str, given: bytes = b"") -> tuple[bytes, bytes, int]:
     """What a program prints, and its status as a shell counts it."""
     done = run(words, folder, input=given)
     return done.stdout, done.stderr, done.returncode if done.returncode >= 0 else 128 - done.returncode
 
 
-def lacking(archive=ARCHIVE):
+def lacking(archive: str = ARCHIVE) -> str | None:
     """What isn't there without which nothing can be installed, or None."""
     return missing() or (None if os.path.exists(archive) else archive)
 
 
-def installed(folder, archive=ARCHIVE):
+def installed(folder: str, archive: str = ARCHIVE) -> str:
     """The path below which everything is installed with the C library."""
     prefix = os.path.join(folder, "prefix")
     done = subprocess.run([os.path.join(TOP, "tools", "install"), prefix, "--musl", archive], capture_output=True, text=True)
@@ -45,7 +49,7 @@ def installed(folder, archive=ARCHIVE):
     return prefix
 
 
-def no_boxes(prefix, folder):
+def no_boxes(prefix: str, folder: str) -> str | None:
     """What the system lacks without which nc-run runs nothing, or None. The first program that anybody writes has to run."""
     made([os.path.join(prefix, "bin/nc-cc"), HELLO, "-o", "hello"], folder)
     got = ended([os.path.join(prefix, "bin/nc-run"), "hello"], folder)

@@ -6,6 +6,7 @@ import re
 import shutil
 
 from examples import TOP
+from generators import Place
 from generating import OWN, SLJIT_FLAGS, Compiler, edits_of
 from installing import ended
 from jit_times import NAME, NATIVE, PATTERNS, build
@@ -28,7 +29,7 @@ def count(place, program):
     return int(found[1])
 
 
-def measure(place):
+def measure(place: Place) -> bool:
     """Whether making code by the bundler takes few enough instructions. The calls for code are a model that does nothing."""
     if shutil.which(COUNT[0]) is None:
         print("skipped: generators --instructions: %s isn't there" % COUNT[0])

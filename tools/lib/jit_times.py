@@ -1,10 +1,14 @@
 """Times of PCRE2's JIT in a box and natively: a part of tools/try/generators."""
 
+from __future__ import annotations
+
 import glob
 import math
 import os
 import shutil
+from collections.abc import Iterable
 
+from generators import Place
 from generating import OWN, SLJIT_FLAGS, Compiler, edits_of, pcre2_flags, pcre2_library
 from jit_web import Web
 from peers_times import mean
@@ -40,7 +44,7 @@ def write_texts(top, folder):
             file.write(text)
 
 
-def build(compiler, top, folder, more=()):
+def build(compiler: Compiler, top: str, folder: str, more: Iterable[str] = ()) -> str:
     """The program of times.c. `more` are sources for it."""
     source = os.path.join(OWN[NAME], "times.c")
     main = compiler.objects(pcre2_flags(top, [8], 8), [source], folder)
@@ -104,13 +108,13 @@ def print_table(best, web):
               "interpreter in the box to native %.2f; bytes %.2f; making code %.2f" % (what, *(means[k] for k in (0, 4, 5, 1, 6, 2, 3))))
 
 
-def measure(place):
+def measure(place: Place) -> bool:
     """Prints the table. All programs have to find the same."""
     tops = tops_of(place)
     write_texts(tops["box"], place.folder)
     lines, web = lines_of(place, tops), Web(tops["x86-64"], PATTERNS, place.folder)
     shutil.copy(PATTERNS, place.folder)
-    best = {}
+    best: dict[str, list] = {}
     for turn in range(ROUNDS):
         for name, line in lines.items():
             rows = rows_of(line, place.folder, 1, int(turn < INTERPRETED))

@@ -1,7 +1,10 @@
 """Times of PCRE2's interpreter by wasm2c and in Node.js, where a box has the JIT: a part of tools/try/generators --time."""
 
+from __future__ import annotations
+
 import os
 import struct
+from collections.abc import Iterable
 
 from peers_building import unit_of
 from peers_times import WARM
@@ -33,7 +36,7 @@ def patterns_of(path):
 class Web:
     """The interpreter by each way that can be gone here, and the least milliseconds of each pattern."""
 
-    def __init__(self, top, patterns, folder):
+    def __init__(self, top: str, patterns: str, folder: str) -> None:
         self.folder = folder
         self.counts = self.write_inputs(patterns)
         unit = unit_of("pcre2", [top], folder, folder)
@@ -41,9 +44,10 @@ class Web:
         ways = [way for way in web_ways("generators --time", folder) if way in TITLES]
         os.makedirs(unit.folder)
         self.built = web(unit._replace(own=own), ways)
-        self.best, self.sums = {way: None for way in ways}, {}
+        self.best: dict[str, list[float]] = {}
+        self.sums: dict[str, list[str]] = {}
 
-    def write_inputs(self, patterns):
+    def write_inputs(self, patterns: str) -> dict[str, int]:
         """Writes the input for each text, and tells how many patterns it has."""
         counts = {}
         for name, lines in patterns_of(patterns).items():
@@ -54,24 +58,24 @@ class Web:
             counts[name] = len(lines)
         return counts
 
-    def turn(self):
+    def turn(self) -> None:
         """Runs each way once."""
         for way, built in self.built.items():
             rounds, rows = WARM if way == NODE else 1, []
             for name, count in self.counts.items():
                 rows += built.run([os.path.join(self.folder, name + ".input"), str(rounds), str(count)], self.folder)
             times = [took for took, _ in rows]
-            self.best[way] = times if self.best[way] is None else list(map(min, self.best[way], times))
+            self.best[way] = [min(pair) for pair in zip(self.best.get(way, times), times)]
             self.sums[way] = [made for _, made in rows]
 
-    def agrees(self, sums):
+    def agrees(self, sums: Iterable[str]) -> bool:
         """Whether each way found what has these sums over its places."""
         wanted = [sum_of(struct.pack("<I", int(one))) for one in sums]
         return all(found == wanted for found in self.sums.values())
 
-    def titles(self):
+    def titles(self) -> list[str]:
         return [TITLES[way] for way in self.built]
 
-    def times(self):
+    def times(self) -> list[tuple[float, ...]]:
         """The milliseconds of each pattern, in the order of the titles."""
         return list(zip(*(self.best[way] for way in self.built))) if self.built else []

@@ -10,6 +10,7 @@ import tempfile
 
 from elf_files import FUNCTION, RETURN, R, X, elf, segment, with_symbols
 from shown import listed
+from trials import Trials
 
 MIB = 1 << 20
 BASE = 0x10000
@@ -169,7 +170,7 @@ def try_many_calls(trials):
                  (OK % ("many calls", 32 * count, 28 * count) + "".join(lines), "", 0))
 
 
-def try_memory(trials):
+def try_memory(trials: Trials) -> None:
     with open(os.path.join(trials.folder, "too long"), "wb") as file:
         file.truncate(64 * MIB + 1)
     with open(os.path.join(trials.folder, "far too long"), "wb") as file:
@@ -181,7 +182,7 @@ def try_memory(trials):
     try_long_reports(trials)
 
 
-def try_sizes(trials):
+def try_sizes(trials: Trials) -> None:
     try_late_fault(trials)
     try_large_elf(trials)
     try_many_calls(trials)

@@ -4,6 +4,7 @@ import re
 
 from shown import listed
 from transcripts import lengths
+from trials import Trials
 
 NOP, RETURN, JUMP = b"\x90", b"\xc3", 0xEB
 
@@ -53,7 +54,7 @@ def try_at_end(trials, rows):
         trials.compare("at the end, %s" % front.hex(), re.sub(r"1 (NotPermitted|Crosses)$", "1", said[-1]), wanted)
 
 
-def try_lengths(trials):
+def try_lengths(trials: Trials) -> None:
     rows = lengths("lengths.txt")
     try_in_front(trials, rows)
     try_at_end(trials, rows)

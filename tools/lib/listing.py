@@ -1,11 +1,14 @@
 """What objdump prints of bytes of code."""
 
+from __future__ import annotations
+
 import subprocess
 import sys
 import tempfile
+from collections.abc import Iterator
 
 
-def lines_of(code, *options):
+def lines_of(code: bytes, *options: str) -> Iterator[str]:
     """The lines of objdump's listing of 32-bit code, from address 0 on. If objdump fails, the script that asks ends."""
     with tempfile.NamedTemporaryFile() as file:
         file.write(code)

@@ -1,5 +1,7 @@
 """The manual page nc_host(3), made from the comments, the declarations and the faults of the header."""
 
+from __future__ import annotations
+
 import re
 import textwrap
 
@@ -139,7 +141,7 @@ def described(text):
     return made
 
 
-def page(text, version, date):
+def page(text: str, version: str, date: str) -> str:
     """The page of a header."""
     calls = "".join(map(prototype, Header(text).calls.values()))
     made = (HEAD.format(version=version, date=date) + calls + ".Sh DESCRIPTION\n" + described(text)
@@ -147,6 +149,6 @@ def page(text, version, date):
     return re.sub(r"(?m)(?<=^)(\.Ss .*\n)\.Pp\n|^\.Pp\n(?=\.Bl )", lambda found: found[1] or "", made)
 
 
-def pages(text, version, date):
+def pages(text: str, version: str, date: str) -> dict[str, str]:
     """The page of a header, and for each call one that leads to it, by their places in an installation."""
     return {PAGE: page(text, version, date), **{"share/man/man3/%s.3" % name: ".so man3/nc_host.3\n" for name in Header(text).calls}}

@@ -1,5 +1,7 @@
 """What an installation consists of: each path below PREFIX, with its file or its link."""
 
+from __future__ import annotations
+
 import os
 import re
 import stat
@@ -10,7 +12,7 @@ from building import DEFAULT, FASTER, PROCESSORS, boxes, libraries, program
 from examples import TOP
 from explaining import all_definitions
 from manual import pages
-from placing import File, Link
+from placing import Entry, File, Link
 
 sys.path.append(os.path.join(TOP, "compiler", "runtime"))
 from runtime import runtime
@@ -96,12 +98,12 @@ class Words(Template):
     pattern = r"@(?:(?P<escaped>@)|(?P<named>[A-Z]+)@|(?P<braced>(?!))|(?P<invalid>(?!)))"
 
 
-def read(path):
+def read(path: str) -> bytes:
     with open(os.path.join(TOP, path), "rb") as file:
         return file.read()
 
 
-def version():
+def version() -> str:
     """The version, as it stands in the file VERSION."""
     text = read("VERSION").decode()
     if not re.fullmatch(r"\d+\.\d+\.\d+\n", text):
@@ -109,7 +111,7 @@ def version():
     return text.strip()
 
 
-def filled(template, **more):
+def filled(template: str, **more: str) -> str:
     """A template of packaging/, with the version and other words put in."""
     number = version()
     major, minor, _ = number.split(".")
@@ -156,7 +158,7 @@ def as_installed(text, place, made):
     return with_note(text)
 
 
-def c_library(sources):
+def c_library(sources: str) -> dict[str, Entry]:
     """The C library that nc-cc takes, made of musl's sources."""
     return {SHARE + "libc/" + name: File(content, 0o644) for name, content in runtime(sources).items()}
 
@@ -167,7 +169,7 @@ def manual_pages():
     return {place: File(text.encode(), 0o644) for place, text in pages(read("include/nc_host.h").decode(), version(), date).items()}
 
 
-def tree(cpu=DEFAULT, anew=False):
+def tree(cpu: str = DEFAULT, anew: bool = False) -> dict[str, Entry]:
     """All of it, for a processor; what is built already isn't built again, if it isn't to be made anew."""
     number = version()
     soname = "libnc_host.so." + number.split(".")[0]

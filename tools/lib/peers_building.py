@@ -1,14 +1,19 @@
 """Unpacks and builds what tools/try/peers compares."""
 
+from __future__ import annotations
+
 import glob
 import os
 import shutil
 import sys
+from concurrent.futures import Executor
+from typing import Any
 
 from examples import TOP
 from installing import ARCHIVE, SOURCES
+from peers_boxes import Tree
 from peers_table import PEERS
-from peers_ways import NATIVE, SOURCES as OWN, Unit, native, web
+from peers_ways import NATIVE, SOURCES as OWN, Built, Unit, native, web
 from porting import archives_of, done
 
 sys.path.append(os.path.join(TOP, "compiler", "runtime"))
@@ -18,7 +23,7 @@ MUSL_SUM = "7d5b0b6062521e4627e099e4c9dc8248d32a30285e959b7eecaa780cf8cfd4a4"
 PORTS_AT = os.path.join(TOP, "examples", "ports")
 
 
-def unpacked(archive, wanted, folder):
+def unpacked(archive: str, wanted: str, folder: str) -> str:
     """The only folder of an archive, which may have been unpacked before."""
     place = os.path.join(folder, "sources-" + archive.partition("_")[0])
     if not os.path.exists(place):
@@ -26,11 +31,11 @@ def unpacked(archive, wanted, folder):
     return glob.glob(os.path.join(place, "*"))[0]
 
 
-def musl_unpacked(folder):
+def musl_unpacked(folder: str) -> str:
     return unpacked(os.path.basename(ARCHIVE), MUSL_SUM, folder)
 
 
-def there(names):
+def there(names: list[str]) -> list[str]:
     """Those of the libraries whose sources can be had here. Lines tell what the others lack."""
     ports = {port.archive.partition("_")[0]: port for name in names for port in PEERS[name].ports}
     found = {ports[package].archive for package in archives_of("peers", ports, list(ports))}
@@ -52,7 +57,7 @@ def write_given(given, tops):
         done(["sh", "-c", "./configure && make sqlite3.c"], tops["sqlite"][0])
 
 
-def unit_of(name, tops, given, folder):
+def unit_of(name: str, tops: list[str], given: str, folder: str) -> Unit:
     """A library with its operations."""
     ports = list(zip(PEERS[name].ports, tops))
     headers = [os.path.join(top, place) for port, top in ports for place in port.headers.split()]
@@ -62,7 +67,7 @@ def unit_of(name, tops, given, folder):
     return Unit(own, [path for port, top in ports for path in port.sources(top)], flags, os.path.join(folder, "unit-" + name))
 
 
-def units_of(names, folder):
+def units_of(names: list[str], folder: str) -> dict[str, Unit]:
     """The libraries, unpacked."""
     tops = {name: [unpacked(port.archive, port.sum, folder) for port in PEERS[name].ports] for name in names}
     given = os.path.join(folder, "given")
@@ -70,9 +75,9 @@ def units_of(names, folder):
     return {name: unit_of(name, tops[name], given, folder) for name in names}
 
 
-def build_all(units, trees, ways, pool):
+def build_all(units: dict[str, Unit], trees: list[Tree], ways: list[str], pool: Executor) -> dict[str, dict[str, Built]]:
     """Each unit by each way, side by side, in the order of the ways."""
-    jobs = {}
+    jobs: dict[tuple[str, str], Any] = {}
     for name, unit in units.items():
         os.makedirs(unit.folder)
         jobs.update({(name, way): pool.submit(native, unit, way) for way in NATIVE if way in ways})

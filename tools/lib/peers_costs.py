@@ -1,7 +1,10 @@
 """What calls, instances and resets cost in boxes, by wasm2c and in Node.js: a part of tools/try/peers."""
 
+from __future__ import annotations
+
 import os
 
+from peers_boxes import Tree
 from peers_times import HEADS, print_row
 from peers_ways import NODE, SOURCES, WASM2C, wasm2c_made, wasm_made
 from porting import done
@@ -37,7 +40,7 @@ def times_of(line, folder):
     return {title: float(took) for took, title in rows}
 
 
-def print_costs(trees, ways, folder):
+def print_costs(trees: list[Tree], ways: list[str], folder: str) -> None:
     """The table of nanoseconds. What is written in an instance is gone with it where there is no reset."""
     folder = os.path.join(folder, "costs")
     os.makedirs(folder)

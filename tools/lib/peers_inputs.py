@@ -1,5 +1,7 @@
 """The inputs of tools/try/peers: the same bytes each time, by random numbers that Python promises to keep."""
 
+from __future__ import annotations
+
 import array
 import json
 import math
@@ -8,6 +10,7 @@ import random
 import struct
 import sys
 import zlib
+from collections.abc import Iterable
 
 MIXED, TEXT = 1 << 20, 400_000
 JSON, XML = 900_000, 1_100_000
@@ -182,7 +185,7 @@ def sound():
 INPUTS = {"mixed": mixed, "text": text, "json": json_text, "xml": xml, "picture": picture, "sound": sound}
 
 
-def write_inputs(names, folder):
+def write_inputs(names: Iterable[str], folder: str) -> None:
     """Writes these inputs as files of a folder."""
     for name in names:
         with open(os.path.join(folder, name), "wb") as file:

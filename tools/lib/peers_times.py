@@ -1,10 +1,13 @@
 """Sums and times of the libraries of tools/try/peers by each way, and the tables of them."""
 
+from __future__ import annotations
+
 import math
 import os
+from collections.abc import Iterable, Sequence
 
 from peers_table import PEERS
-from peers_ways import BASE, NODE
+from peers_ways import BASE, NODE, Built
 from porting import Fault
 
 ROUNDS = 5  # of each operation in a run, of which the least time counts
@@ -14,7 +17,7 @@ HEADS = {BASE: ("native", BASE), "i386": ("native", "i386"), BOX: ("", BOX), "gu
          NODE: ("", NODE)}
 
 
-def run(name, way, built, folder, rounds):
+def run(name: str, way: str, built: Built, folder: str, rounds: int) -> list[tuple[float, str]]:
     """The milliseconds and the sum of each operation."""
     peer = PEERS[name]
     times = WARM if way == NODE and rounds > 1 else 1
@@ -34,7 +37,7 @@ def differing(name, sums):
     return said
 
 
-def found(name, built, folder):
+def found(name: str, built: dict[str, Built], folder: str) -> list[str]:
     """What one run of each way doesn't agree on."""
     try:
         return differing(name, {way: [made for _, made in run(name, way, one, folder, 1)] for way, one in built.items()})
@@ -42,7 +45,7 @@ def found(name, built, folder):
         return [str(fault)]
 
 
-def same_sums(name, built, folder):
+def same_sums(name: str, built: dict[str, Built], folder: str) -> bool:
     """Whether one run of each way makes the same. Prints a line."""
     said = found(name, built, folder)
     told = "DIFFERS: " + " | ".join(said) if said else "same sums"
@@ -50,14 +53,14 @@ def same_sums(name, built, folder):
     return not said
 
 
-def tells(name, built, planted, folder):
+def tells(name: str, built: Built, planted: Built, folder: str) -> bool:
     """Whether a library is told from one with a planted fault. Prints a line."""
     said = found(name, {"without": built, "with": planted}, folder)
     print("%s with a fault: %s" % (name, "found" if said else "NOT FOUND"), flush=True)
     return bool(said)
 
 
-def measured(name, built, folder, passes):
+def measured(name: str, built: dict[str, Built], folder: str, passes: int) -> dict[str, list[float]]:
     """The least milliseconds of each operation by each way, which run by turns."""
     best = {way: [math.inf] * len(PEERS[name].operations) for way in built}
     for _ in range(passes):
@@ -66,12 +69,12 @@ def measured(name, built, folder, passes):
     return best
 
 
-def mean(ratios):
+def mean(ratios: Sequence[float]) -> float:
     """The geometric mean."""
     return math.exp(sum(map(math.log, ratios)) / len(ratios))
 
 
-def print_row(title, cells):
+def print_row(title: str, cells: Iterable[object]) -> None:
     print(("    %-38s" % title + "".join("%10s" % cell for cell in cells)).rstrip(), flush=True)
 
 
@@ -84,16 +87,17 @@ def row_title(name, k):
 class Times:
     """The table of times: milliseconds natively, their ratios to these by the other ways, and those of other checkouts to this one."""
 
-    def __init__(self, ways, trees):
+    def __init__(self, ways: list[str], trees: list[str]) -> None:
         self.ways, self.trees = ways, trees
-        self.rows, self.plain = [], []  # of ratios; the second ones with hardly any floats
+        self.rows: list[list[float]] = []  # of ratios
+        self.plain: list[list[float]] = []  # those with hardly any floats
 
-    def print_head(self):
+    def print_head(self) -> None:
         heads = [HEADS.get(way, (BOX, way)) for way in self.ways]
         print_row("", [head for head, _ in heads] + self.trees[1:])
         print_row("", [head for _, head in heads] + ["/ " + BOX] * len(self.trees[1:]))
 
-    def add(self, name, best):
+    def add(self, name: str, best: dict[str, list[float]]) -> None:
         """Prints the rows of a library."""
         for k, operation in enumerate(PEERS[name].operations):
             least = {way: times[k] for way, times in best.items()}
@@ -102,13 +106,13 @@ class Times:
             self.plain += [] if operation.floats else [row]
             print_row(row_title(name, k), ["%.2f ms" % least[BASE], *("%.2f" % ratio for ratio in row)])
 
-    def print_means(self):
+    def print_means(self) -> None:
         """The geometric means of all rows, and of those with hardly any floats."""
         for title, rows in (("geometric mean of %d", self.rows), ("of %d with hardly any floats", self.plain)):
             print_row(title % len(rows), ["", *("%.3f" % mean(column) for column in zip(*rows))])
 
 
-def print_sizes(all_built):
+def print_sizes(all_built: dict[str, dict[str, Built]]) -> None:
     """The bytes of code, by library and way: of the library's objects; of what wasm2c made of a module, and of the module's file; and last
     of each box's file, with the C library."""
     ways = [way for way in next(iter(all_built.values())) if way != "bounds"]

@@ -1,7 +1,10 @@
 """The ways in which tools/try/peers runs a library, but for boxes: natively, by wasm2c, and in Node.js."""
 
+from __future__ import annotations
+
 import os
 import shutil
+from collections.abc import Iterable
 from typing import NamedTuple
 
 from examples import TOP
@@ -20,7 +23,7 @@ WABT = "/usr/share/wabt/wasm2c"
 WABT_VERSION = "1.0.32"  # of Debian 12; others name otherwise what they make
 # The flags that wabt names for gcc, and those of each way: with guard pages, which is wasm2c's own, and with bounds checks.
 OF_WABT = ["gcc", "-O2", "-w", "-fno-optimize-sibling-calls", "-frounding-math", "-fsignaling-nans", "-I" + WABT]
-WASM2C = {"guard": [], "bounds": ["-DWASM_RT_MEMCHECK_SIGNAL_HANDLER=0", "-DWASM_RT_MAX_CALL_STACK_DEPTH=100000"]}
+WASM2C: dict[str, list[str]] = {"guard": [], "bounds": ["-DWASM_RT_MEMCHECK_SIGNAL_HANDLER=0", "-DWASM_RT_MAX_CALL_STACK_DEPTH=100000"]}
 NODE = "node"
 NO_WASM = "clang makes no WebAssembly here, which wants Debian's packages clang, lld, wasi-libc and libclang-rt-14-dev-wasm32"
 
@@ -28,9 +31,9 @@ NO_WASM = "clang makes no WebAssembly here, which wants Debian's packages clang,
 class Unit(NamedTuple):
     """A library with operations over it: the sources of both, the flags for all, and the folder in which they are made."""
 
-    own: list
-    library: list
-    flags: list
+    own: list[str]
+    library: list[str]
+    flags: list[str]
     folder: str
 
 
@@ -38,18 +41,18 @@ class Built(NamedTuple):
     """The command of a unit without the words for the host, which come between these; the bytes of the library's code, and of a box's
     whole file."""
 
-    before: list
-    after: list
+    before: list[str]
+    after: list[str]
     size: int
     whole: int = 0
 
-    def run(self, words, folder):
+    def run(self, words: list[str], folder: str) -> list[tuple[float, str]]:
         """The milliseconds and the sum of each operation."""
         lines = done([*self.before, *words, *self.after], folder).splitlines()
         return [(float(took), sum_made) for took, sum_made in map(str.split, lines)]
 
 
-def objects(unit, way, words):
+def objects(unit: Unit, way: str, words: list[str]) -> tuple[list[str], list[str]]:
     """The objects of a unit's own sources, and those of the library."""
     folder = os.path.join(unit.folder, way)
     os.makedirs(folder)
@@ -60,7 +63,7 @@ def objects(unit, way, words):
     return made[:len(unit.own)], made[len(unit.own):]
 
 
-def native(unit, way):
+def native(unit: Unit, way: str) -> Built:
     """The unit as a program of this system."""
     own, library = objects(unit, way, NATIVE[way])
     program = os.path.join(unit.folder, way + "-program")
@@ -68,13 +71,13 @@ def native(unit, way):
     return Built([program], [], code_size(library))
 
 
-def wasm_made(words, path, folder):
+def wasm_made(words: list[str], path: str, folder: str) -> str:
     """Links a module of WebAssembly, whose system is wasm/system.c."""
     done([*WASM, SYSTEM, *words, *LINKED, "-o", path], folder)
     return path
 
 
-def wasm2c_made(module, way, sources, folder):
+def wasm2c_made(module: str, way: str, sources: list[str], folder: str) -> tuple[str, str]:
     """A program of a module by wasm2c and of sources of a host, and the module's object. The module's header is unit-wasm.h."""
     folder = os.path.join(folder, way)
     os.makedirs(folder)
@@ -86,7 +89,7 @@ def wasm2c_made(module, way, sources, folder):
     return program, made_of
 
 
-def web(unit, ways):
+def web(unit: Unit, ways: Iterable[str]) -> dict[str, Built]:
     """The unit by those of the ways that begin with WebAssembly."""
     if not set(ways) & {NODE, *WASM2C}:
         return {}
@@ -106,14 +109,14 @@ def has_wasm2c(folder):
     return shutil.which("wasm2c") is not None and os.path.isdir(WABT) and done(["wasm2c", "--version"], folder).strip() == WABT_VERSION
 
 
-def web_ways(what, folder):
+def web_ways(what: str, folder: str) -> list[str]:
     """Those of the ways that can be gone here. A line tells what the others lack."""
     try:
         wasm_made([], os.path.join(folder, "empty.wasm"), folder)
     except (Fault, OSError):
         print("skipped: %s by wasm2c and in Node.js: %s" % (what, NO_WASM))
         return []
-    ways = []
+    ways: list[str] = []
     if has_wasm2c(folder):
         ways += WASM2C
     else:

@@ -1,7 +1,10 @@
 """PNG files that are made and decoded here, by zlib and struct alone: pictures with three bytes for each pixel of their PPM files."""
 
+from __future__ import annotations
+
 import struct
 import zlib
+from collections.abc import Iterable
 from typing import NamedTuple
 
 SIGNATURE = b"\x89PNG\r\n\x1a\n"
@@ -20,15 +23,15 @@ class Header(NamedTuple):
     filtering: int = 0
     interlace: int = 0
 
-    def bits(self):
+    def bits(self) -> int:
         """Of a pixel."""
         return self.depth * (3 if self.color == RGB else 1)
 
-    def row(self):
+    def row(self) -> int:
         """Bytes of a row, without the filter's."""
         return (self.width * self.bits() + 7) // 8
 
-    def is_known(self):
+    def is_known(self) -> bool:
         """Whether this decoder knows such pictures."""
         depths = {GRAY: (1, 2, 4, 8), RGB: (8,), PALETTE: (1, 2, 4, 8)}.get(self.color, ())
         return 0 < self.width < 4096 and 0 < self.height < 4096 and self.depth in depths and self[4:] == (0, 0, 0)
@@ -106,7 +109,7 @@ def pixels_of(header, row, palette):
     return bytes(made)
 
 
-def decoded(file):
+def decoded(file: bytes) -> bytes | None:
     """The picture as a PPM file, or None where anything is wrong with it, its last checksum included."""
     chunks = chunks_of(file)
     if not chunks or chunks[0][0] != b"IHDR" or len(chunks[0][1]) != 13 or chunks[-1] != (b"IEND", b""):
@@ -129,12 +132,12 @@ def written(header, data, *more):
     return assemble(chunks)
 
 
-def made(header, rows, palette=b""):
+def made(header: Header, rows: Iterable[bytes], palette: bytes = b"") -> bytes:
     """The file of a picture with these rows."""
     return written(header, filtered(header, rows), *([(b"PLTE", palette)] if palette else []))
 
 
-def hostile():
+def hostile() -> list[bytes]:
     """Files that are made to harm: sizes that make no sense or overflow, rows of two bytes a channel in passes, and much from little."""
     sizes = [(0, 0), (0, 1), (1, 0x7FFFFFFF), (0x7FFFFFFF, 1), (0xFFFFFFFF, 0xFFFFFFFF), (0x10000, 0x10000), (0x5556, 0x10000), (4097, 1)]
     made = [written(Header(*size, 8, RGB), bytes(1000)) for size in sizes]
@@ -147,12 +150,12 @@ def hostile():
     return made
 
 
-def flipped(data):
+def flipped(data: bytes) -> list[bytes]:
     """The data with each of its bits changed in turn."""
     return [data[:k // 8] + bytes([data[k // 8] ^ 1 << k % 8]) + data[k // 8 + 1:] for k in range(8 * len(data))]
 
 
-def damaged(file):
+def damaged(file: bytes) -> list[bytes]:
     """The file with each bit changed, cut after each byte, and with each bit of a chunk changed and the checksum to it."""
     chunks = chunks_of(file)
     within = [assemble(chunks[:k] + [(kind, data)] + chunks[k + 1:]) for k, (kind, whole) in enumerate(chunks) for data in flipped(whole)]

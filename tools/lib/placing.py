@@ -9,11 +9,14 @@ stays that was there before, or has something else in it. An earlier installatio
 has put there, nothing is done, and the status is 1.
 """
 
+from __future__ import annotations
+
 import argparse
 import os
 import stat
 import sys
-from typing import NamedTuple
+from collections.abc import Callable
+from typing import NamedTuple, Union
 
 FOLDERS = ["bin", "include", "lib", "share"]
 MANIFEST = "share/reedbodkin/manifest"
@@ -28,13 +31,16 @@ class Link(NamedTuple):
     target: str
 
 
+Entry = Union[File, Link]
+
+
 class Refusal(Exception):
     """Why nothing was done."""
 
 
-def tree_of(folder):
+def tree_of(folder: str) -> dict[str, Entry]:
     """The files and links below these folders of a folder."""
-    found = {}
+    found: dict[str, Entry] = {}
     for place, _, names in sorted(entry for top in FOLDERS for entry in os.walk(os.path.join(folder, top))):
         for name in names:
             path = os.path.join(place, name)
@@ -46,7 +52,7 @@ def tree_of(folder):
     return found
 
 
-def put(path, entry):
+def put(path: str, entry: Entry) -> None:
     if isinstance(entry, Link):
         os.symlink(entry.target, path)
         return
@@ -118,7 +124,7 @@ def uninstall(root):
     print("removed from %s" % root + (", but for folders with something else in them: " + ", ".join(left) if left else ""))
 
 
-def command_line(text):
+def command_line(text: str) -> argparse.ArgumentParser:
     """What every installation is told: where."""
     line = argparse.ArgumentParser(description=text.split("\n")[0], epilog="\n".join(text.split("\n")[4:]),
                                    formatter_class=argparse.RawDescriptionHelpFormatter)
@@ -128,7 +134,7 @@ def command_line(text):
     return line
 
 
-def carry_out(asked, tree):
+def carry_out(asked: argparse.Namespace, tree: Callable[[], dict[str, Entry]]) -> int:
     """Installs or uninstalls; `tree` makes what is to be installed. The status."""
     root = os.path.abspath(asked.prefix)
     if asked.destdir:

@@ -1,20 +1,24 @@
 """What the scripts share that compile what others wrote, from the archives of out/sources."""
 
+from __future__ import annotations
+
 import os
 import subprocess
 import sys
+from collections.abc import Iterable
 
 from examples import TOP
 from installing import SOURCES, run
 
-sys.path.append(os.path.join(TOP, "compiler", "runtime"))
+sys.path += [os.path.join(TOP, "compiler", "runtime"), os.path.join(TOP, "examples", "ports")]
 from making import Fault
+from table import Port
 
 SECONDS = 900  # for a compiler
 SMALL = "#include <stdio.h>\nint main(void) { return puts(\"\") < 0; }\n"
 
 
-def done(words, folder, cc="gcc"):
+def done(words: list[str], folder: str, cc: str = "gcc") -> str:
     """The output of a command, or a Fault with its last words if it fails."""
     did = run(words, folder, env={**os.environ, "NC_CC": cc}, stdin=subprocess.DEVNULL, timeout=SECONDS)
     if did.returncode:
@@ -23,13 +27,13 @@ def done(words, folder, cc="gcc"):
     return did.stdout.decode(errors="replace")
 
 
-def code_size(paths):
+def code_size(paths: list[str]) -> int:
     """The bytes of code in objects."""
     lines = done(["size", "-A", *paths], os.curdir).splitlines()
     return sum(int(line.split()[1]) for line in lines if line.startswith(".text"))
 
 
-def archives_of(what, table, names):
+def archives_of(what: str, table: dict[str, Port], names: Iterable[str]) -> list[str]:
     """Those of the names whose archives are there. A line tells how to get the others."""
     absent = [name for name in names if not os.path.exists(os.path.join(SOURCES, table[name].archive))]
     if absent:
@@ -38,7 +42,7 @@ def archives_of(what, table, names):
     return [name for name in names if name not in absent]
 
 
-def makes_programs(compilers, what, folder):
+def makes_programs(compilers: Iterable[str], what: str, folder: str) -> bool:
     """Whether each of the compilers makes 32-bit programs that run. A line tells of the first that doesn't."""
     source, made = os.path.join(folder, "small.c"), os.path.join(folder, "small")
     with open(source, "w", encoding="ascii") as file:

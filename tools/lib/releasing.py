@@ -1,5 +1,7 @@
 """A release's files: the tarball and the Debian package of a tree, the same bytes each time."""
 
+from __future__ import annotations
+
 import gzip
 import hashlib
 import io
@@ -13,7 +15,7 @@ import tempfile
 from building import DEFAULT
 from examples import TOP
 from packing import DOC, filled, version
-from placing import File, Link, put
+from placing import Entry, File, Link, put
 
 WHEN = int(os.environ.get("SOURCE_DATE_EPOCH", 1767225600))  # 2026-01-01
 
@@ -44,7 +46,7 @@ def member(path, entry):
     return info
 
 
-def write_tarball(files, path):
+def write_tarball(files: dict[str, Entry], path: str) -> list[str]:
     """Makes a tarball with everything below one folder, which is named as the file is."""
     top = os.path.basename(path)[: -len(".tar.gz")]
     with open(path, "wb") as out, gzip.GzipFile("", "wb", 9, out, mtime=0) as packed:
@@ -54,7 +56,7 @@ def write_tarball(files, path):
     return [path]
 
 
-def with_shortcuts(files):
+def with_shortcuts(files: dict[str, Entry]) -> dict[str, Entry]:
     """What stands in a tarball: also its script, and what a reader looks for first."""
     with open(os.path.join(TOP, "tools", "lib", "placing.py"), "rb") as script:
         more = {"install": File(script.read(), 0o755)}
@@ -76,7 +78,7 @@ def control(files, cpu):
     return {"control": text, "md5sums": "".join(sums), "triggers": "activate-noawait ldconfig\n"}
 
 
-def write_package(files, path, cpu):
+def write_package(files: dict[str, Entry], path: str, cpu: str) -> list[str]:
     """Makes a Debian package with everything below /usr, where that can be done."""
     if shutil.which("dpkg-deb") is None:
         print("skipped: the Debian package: dpkg-deb isn't there")
@@ -96,7 +98,7 @@ def write_package(files, path, cpu):
     return [path]
 
 
-def names(cpu):
+def names(cpu: str) -> tuple[str, str]:
     """The names of the tarball and of the package."""
     level = "" if cpu == DEFAULT else cpu[len("x86-64"):] or "-v1"
     return "reedbodkin-%s-x86_64%s-linux.tar.gz" % (version(), level), "reedbodkin_%s_amd64%s.deb" % (version(), level)

@@ -1,6 +1,9 @@
 """The objects in JSON that reports of nc_check in text stand for, as docs/nc_check.schema.json describes them."""
 
+from __future__ import annotations
+
 import re
+from typing import Any
 
 
 def transfer_of(line):
@@ -31,7 +34,7 @@ def shown_by(lines):
     return {**symbol, "meaning": lines[-1].strip(), **target, "bundle": code, "starts": starts}
 
 
-def object_of(name, base, said, detail=""):
+def object_of(name: str, base: int, said: str, detail: str = "") -> dict[str, Any]:
     """The object that a verdict in text stands for. The verdict is the line after the file's name, and the lines below it."""
     found = {"file": name, "address": "%08x" % base}
     verdict, *lines = said.splitlines()

@@ -1,6 +1,9 @@
 """Whether a value fits a JSON schema, for the words that docs/nc_check.schema.json uses. Another word is an error."""
 
+from __future__ import annotations
+
 import re
+from typing import Any
 
 NOTES = {"$schema", "$defs", "title", "description"}
 TYPES = {"object": dict, "array": list, "string": str, "integer": int}
@@ -17,14 +20,14 @@ PLAIN = {
 }
 
 
-def at(schema, path):
+def at(schema: dict[str, Any], path: str) -> dict[str, Any]:
     """The schema that a reference names."""
     for part in path.removeprefix("#/").split("/"):
         schema = schema[part]
     return schema
 
 
-def misfits_of_word(value, word, wanted, whole):
+def misfits_of_word(value: Any, word: str, wanted: Any, whole: dict[str, Any]) -> list[str]:
     """What of a value doesn't fit one word of a schema."""
     if word in PLAIN:
         fits, said = PLAIN[word]
@@ -43,6 +46,6 @@ def misfits_of_word(value, word, wanted, whole):
     return [] if word in NOTES else [f"the schema has the word {word!r}, which isn't known here"]
 
 
-def misfits(value, schema, whole):
+def misfits(value: Any, schema: dict[str, Any], whole: dict[str, Any]) -> list[str]:
     """What of a value doesn't fit a schema, which is a part of a whole one."""
     return [it for word, wanted in schema.items() for it in misfits_of_word(value, word, wanted, whole)]

@@ -3,7 +3,7 @@
 import re
 
 
-def listed(at, *rows):
+def listed(at: int, *rows: str) -> str:
     """The lines that show a bundle from this address on, by rows of bytes with their names after `=`. `>` before a row marks that of the
     fault, and a number and `x` say how often it stands there."""
     lines = []

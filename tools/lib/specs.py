@@ -1,15 +1,21 @@
 """What the definitions of specs/ say: their lines, their comments, what each of them cites, and what a contract rests on."""
 
+from __future__ import annotations
+
 import pathlib
 import re
 import sys
+from collections.abc import Collection, Iterable, Iterator
+from typing import Tuple
 
 TOP = pathlib.Path(__file__).resolve().parent.parent.parent
 CRATES = TOP / "crates"
+# A definition: its crate, its file and its name.
+Key = Tuple[str, str, str]
 STANDS_FOR = {("nc_decode", "specs/machinery/Reading.antt", "reading"): ("nc_decode", "specs/Front.antt", "IsExact")}
 # A definition that is only a premise, with the files whose public functions are each proved to meet it, and the clauses that say so. (The
 # other clauses of these functions say what else their bodies do.)
-MET_BY = {
+MET_BY: dict[Key, list[tuple[str, str, tuple[str, ...]]]] = {
     ("nc_histories", "specs/Histories.antt", "IsCall"): [("nc_histories", "src/calls.rt", ("call", "refused", "logged"))],
     ("nc_histories", "specs/Histories.antt", "IsRefusal"): [("nc_histories", "src/calls.rt", ("refused",))],
     ("nc_host_handles", "specs/Pending.antt", "IsHandleCall"): [
@@ -32,7 +38,7 @@ NAME = re.compile(r"[a-z_][\w']*")
 PUBLIC = r"^(?:abbrev |unfoldable )?pub (?:record |data )?%s "
 
 
-def counted(lines):
+def counted(lines: Iterable[str]) -> list[str]:
     """The lines that say something, without comments at their ends."""
     kept = [re.sub(r"\s*(--|//).*", "", line) for line in lines]
     return [line for line in kept if line.strip() and not line.strip().startswith("#[")]
@@ -47,13 +53,18 @@ def is_cited(name, text):
 class File:
     """The definitions of one file, by name, with the comment above each and its place; the comment at its head; and what it imports."""
 
-    def __init__(self, crate, path, text=None):
+    def __init__(self, crate: str, path: str, text: str | None = None) -> None:
         text = (CRATES / crate / path).read_text(encoding="utf-8") if text is None else text
-        self.crate, self.path, self.parts, self.owner, self.comments, self.places = crate, path, {}, {}, {}, {}
+        self.crate, self.path = crate, path
+        self.parts: dict[str, list[str]] = {}
+        self.owner: dict[str, str] = {}
+        self.comments: dict[str, str] = {}
+        self.places: dict[str, int] = {}
         self.about = " ".join(line.strip("- ") for line in re.match(r"(--.*\n)*", text).group().splitlines())
         (self.cut_types if path.startswith("src/") else self.cut_definitions)(text)
         self.library = {name for names in LIBRARY.findall(text) for name in map(str.strip, names.split(","))}
-        self.imports, self.modules = {}, {}
+        self.imports: dict[str, Key] = {}
+        self.modules: dict[str, tuple[str, str, str | None]] = {}
         for source, module, names, alias in IMPORT.findall(text):
             if alias:
                 self.modules[alias] = (source, *place_of(source, module))
@@ -62,7 +73,7 @@ class File:
                 file, kind = place_of(source, module)
                 self.imports[other or own] = (source, file, kind or own)
 
-    def cut_definitions(self, text):
+    def cut_definitions(self, text: str) -> None:
         """Finds each definition, with the constructors of a data type as names of it."""
         name, above = None, []
         for number, raw in enumerate(text.split("\n"), 1):
@@ -73,7 +84,7 @@ class File:
                 name = self.cut_line(line, name, above, number)
             above = []
 
-    def cut_line(self, line, name, above, number):
+    def cut_line(self, line: str, name: str | None, above: list[str], number: int) -> str | None:
         """The name of the definition that a line is of, after the one of the line before, with the comment above it and its place."""
         head = START.match(line)
         if re.match(r"(use|pub use|pub mod|module|infix)", line):
@@ -88,7 +99,7 @@ class File:
             self.parts[name].append(line)
         return name
 
-    def cut_types(self, text):
+    def cut_types(self, text: str) -> None:
         """Finds each struct, enum, constant and static of a file of the program."""
         name = None
         for line in counted(text.split("\n")):
@@ -100,7 +111,7 @@ class File:
                 self.parts[name].append(line)
                 name = None if line in ("}", "];") or line.endswith(";") and len(self.parts[name]) == 1 else name
 
-    def arguments(self, name):
+    def arguments(self, name: str) -> list[str]:
         """The names of a definition's arguments: those of a record, or those that all its equations give; or none."""
         head, *lines = self.parts[name]
         if " record " in head:
@@ -109,12 +120,12 @@ class File:
         same = equations and all(words == equations[0] for words in equations) and all(map(NAME.fullmatch, equations[0]))
         return equations[0] if same else []
 
-    def library_names(self, lines):
+    def library_names(self, lines: list[str]) -> list[str]:
         """Whatever these lines cite of the base library."""
         text = "\n".join(lines)
         return [name.partition(" ")[0] for name in self.library if is_cited(name.rpartition(" ")[2], text)]
 
-    def names(self, lines, but=()):
+    def names(self, lines: list[str], but: Collection[str] = ()) -> Iterator[Key]:
         """Whatever these lines cite of this project: crate, file and name. A module's short name may also be a variable's."""
         text = LABEL.sub("", "\n".join(lines))
         variables = {word for group in BOUND.findall(text) + EQUATION.findall(text) for word in re.findall(NAME, group)}
@@ -129,7 +140,7 @@ class File:
                 yield self.crate, self.path, self.owner[module]
 
 
-def place_of(crate, module):
+def place_of(crate: str, module: str) -> tuple[str, str | None]:
     """The file of a module of specs/, and the type that it is of, if it is a type of the program."""
     declared = re.match(r"declared\.([\w.]+?)\.([A-Z]\w*)(?:\.TheVariants)?$", module)
     if not declared:
@@ -137,17 +148,17 @@ def place_of(crate, module):
     return "src/" + declared.group(1).replace(".", "/") + ".rt", None if declared.group(2) == "TheConstants" else declared.group(2)
 
 
-def sources():
+def sources() -> list[pathlib.Path]:
     """Each file with definitions."""
     return sorted(CRATES.glob("nc_*/specs/**/*.antt"))
 
 
-def crates_in_order():
+def crates_in_order() -> list[str]:
     """The names of the crates, from the lowest one up."""
     return [line.split(":")[0].split()[0] for line in (TOP / "crates.txt").read_text(encoding="utf-8").splitlines()]
 
 
-def in_crate(source):
+def in_crate(source: pathlib.Path) -> tuple[str, str]:
     """The crate of a file, and its path in the crate."""
     crate, *path = source.relative_to(CRATES).parts
     return crate, "/".join(path)
@@ -156,15 +167,15 @@ def in_crate(source):
 class Files:
     """Files of the crates, each read once."""
 
-    def __init__(self):
-        self.files = {}
+    def __init__(self) -> None:
+        self.files: dict[tuple[str, str], File] = {}
 
-    def file(self, crate, path):
+    def file(self, crate: str, path: str) -> File:
         if (crate, path) not in self.files:
             self.files[crate, path] = File(crate, path)
         return self.files[crate, path]
 
-    def resolved(self, key):
+    def resolved(self, key: Key) -> Key:
         """Where a name is defined: a constructor with its type, a name that a file hands on where that has it from."""
         crate, path, name = key
         file = self.file(crate, path)
@@ -174,10 +185,11 @@ class Files:
 class Definitions(Files):
     """Whatever the contracts of laws or calls rest on, or definitions, each with what was found to cite it."""
 
-    def __init__(self, *roots, met_by=MET_BY):
+    def __init__(self, *roots: str, met_by: dict[Key, list[tuple[str, str, tuple[str, ...]]]] = MET_BY) -> None:
         super().__init__()
-        self.found, self.roots = {}, roots
-        todo = [(key, root) for root in roots for key in self.law(root) or self.definition(root)]
+        self.found: dict[Key, str] = {}
+        self.roots = roots
+        todo: list[tuple[Key, str]] = [(key, root) for root in roots for key in self.law(root) or self.definition(root)]
         while todo:
             key, by = todo.pop(0)
             crate, path, name = key = self.resolved(STANDS_FOR.get(key, key))
@@ -188,7 +200,7 @@ class Definitions(Files):
                 cited = met if key in met_by else file.names(file.parts[name], {name})
                 todo += [(other, name) for other in cited]
 
-    def clauses(self, crate, path, names):
+    def clauses(self, crate: str, path: str, names: Collection[str]) -> Iterator[Key]:
         """The definitions that the clauses of these names, the conditions and the types of a file's public functions name."""
         text = (CRATES / crate / path).read_text(encoding="utf-8")
         found = re.findall(r'^pub (?:extern "C" )?fn .*?^{', text, re.M | re.S)
@@ -196,7 +208,7 @@ class Definitions(Files):
         kept = [part for part in parts if not part.startswith("    ensures ") or part.split()[1] in names]
         return self.file(crate, path).names(counted("".join(kept).split("\n")))
 
-    def law(self, name):
+    def law(self, name: str) -> Iterator[Key] | None:
         """The definitions that the clauses of a public function name, or None if there is no such function."""
         for source in sorted(CRATES.glob("nc_*/src/**/*.rt")):
             clauses = re.search(rf'^pub (?:extern "C" )?fn {name}\(.*?^{{', source.read_text(encoding="utf-8"), re.M | re.S)
@@ -205,7 +217,7 @@ class Definitions(Files):
                 return file.names(counted(clauses.group().split("\n")))
         return None
 
-    def definition(self, name):
+    def definition(self, name: str) -> list[Key]:
         """The public definitions of this name."""
         found = [(*in_crate(source), name) for source in sources() if re.search(PUBLIC % name, source.read_text(encoding="utf-8"), re.M)]
         return found or sys.exit(f"no public function and no definition {name} in crates/nc_*")

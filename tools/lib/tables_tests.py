@@ -1,5 +1,7 @@
 """What becomes of tables for jumps: which register a jump by one overwrites, and what nc-cc does about one that can't be kept."""
 
+from __future__ import annotations
+
 import os
 import subprocess
 import sys
@@ -17,7 +19,7 @@ def jump_by(register):
 SAVING = "\tpushl %ecx\n" + jump_by("%ecx")
 RESTORING = "\t.p2align 5, 0x90\n.Lrestores_ecx_.L5:\n\tpopl %ecx\n"
 # A name, what stands at the label of the table, other statements, a part of what is written, and what is first in the text if anything is.
-FORMS = [
+FORMS: list[tuple[str, ...]] = [
     ("its index is written", "movl $1, %eax\n\tret", "", jump_by("%eax")),
     ("its index is read", "movl (%eax), %eax\n\tret", "", jump_by("%ecx")),
     ("a part of its index is read", "movb $1, %al\n\tmovl %eax, %ecx\n\tret", "", jump_by("%ecx")),
@@ -89,7 +91,7 @@ def wrong_line(folder, name, words, status, times, part):
     return "" if is_right else f"table, {name}: status {got}, {said!r}, and not status {status}, {part!r}, compiled {times} times"
 
 
-def try_tables(folder, word):
+def try_tables(folder: str, word: str) -> tuple[int, int]:
     """How many rows were tried whose names have the word, and how many differ."""
     has_compiler = "gcc" not in lacking()
     if not has_compiler:
@@ -97,7 +99,8 @@ def try_tables(folder, word):
     os.makedirs(folder)
     write(os.path.join(folder, "tabled"), TABLED, 0o755)
     write(os.path.join(folder, "it.c"), SOURCE)
-    forms, lines = ([row for row in rows if word in "table, " + row[0]] for rows in (FORMS, LINES if has_compiler else []))
+    forms = [row for row in FORMS if word in "table, " + row[0]]
+    lines = [row for row in LINES if has_compiler and word in "table, " + row[0]]
     wrong = [said for said in [*(wrong_form(*row) for row in forms), *(wrong_line(folder, *row) for row in lines)] if said]
     for said in wrong:
         print(said)

@@ -56,7 +56,7 @@ def columns(setting, has_musl):
     return [(setting, maker) for maker in MAKERS[setting] if has_musl or maker != "musl's"]
 
 
-def print_times(folder, box):
+def print_times(folder: str, box: str) -> int:
     """The table, with nanoseconds of a call."""
     link = [compiler(), "-m32", "-std=gnu11", "-O2", "-fno-builtin"]
     lines, has_musl = measured(os.path.join(folder, "native"), compile_natively, link)

@@ -9,8 +9,11 @@ In scripts `*` stands for nops that fill a word up to a bundle, and `\\x20` and 
 stand for the words that words.txt has.
 """
 
+from __future__ import annotations
+
 import os
 import re
+from collections.abc import Iterator
 
 from elf_files import FUNCTION, R, X, elf, segment, with_symbols
 
@@ -41,28 +44,31 @@ def code_of(length, pieces):
 class Run:
     """One run: what it is about, its words, its files and their symbols, its input, and the lines that it has to write."""
 
-    def __init__(self, about, words):
+    def __init__(self, about: str, words: list[str]) -> None:
         self.about, self.words = about, words
-        self.codes, self.symbols = {}, {}
-        self.lines, self.owed, self.explained = [], [], {}
+        self.codes: dict[str, bytes] = {}
+        self.symbols: dict[str, list[tuple[int, str]]] = {}
+        self.lines: list[bytes] = []
+        self.owed: list[bytes] = []
+        self.explained: dict[int, str] = {}
 
-    def input(self):
+    def input(self) -> bytes:
         return b"".join(self.lines)
 
-    def output(self):
+    def output(self) -> str:
         return b"".join(self.owed).decode()
 
-    def files(self):
+    def files(self) -> Iterator[tuple[str, bytes]]:
         """The names and the bytes of its files."""
         for name, code in self.codes.items():
             symbols = [(address, symbol.encode(), FUNCTION, 1) for address, symbol in self.symbols[name]]
             yield name, with_symbols(elf(segment(0x10000, code, R | X)), *symbols) if symbols else code
 
-    def status(self):
+    def status(self) -> int:
         """The status of a run that writes a report: 1 if a file is refused."""
         return 1 if re.search(r'^[^ ].*: refused |"verdict":"refused"', self.output(), re.M) else 0
 
-    def as_owed(self, out):
+    def as_owed(self, out: str) -> str:
         """What was written, with `..` for the rest of each line of which only the beginning counts, if that is as it has to be."""
         found = out.splitlines(True)
         for number, line in enumerate(self.output().splitlines()[:len(found)]):
@@ -71,14 +77,15 @@ class Run:
         return "".join(found)
 
 
-def lines_of(folder, name):
+def lines_of(folder: str, name: str) -> list[str]:
     with open(os.path.join(TOP, "tests", folder, name), encoding="utf-8") as file:
         return file.read().split("\n")
 
 
-def begun(lines):
+def begun(lines: list[str]) -> list[tuple[Run, list[str]]]:
     """The runs that lines begin, and with each the lines that follow."""
-    found, about = [], []
+    found: list[tuple[Run, list[str]]] = []
+    about: list[str] = []
     for line in lines:
         if line.startswith("#"):
             about.append(line[2:])
@@ -90,7 +97,7 @@ def begun(lines):
     return found
 
 
-def scripts(name):
+def scripts(name: str) -> list[Run]:
     """The runs of a file of scripts."""
     found = []
     for run, lines in begun(lines_of("scripts", name)):
@@ -105,7 +112,7 @@ def scripts(name):
     return found
 
 
-def bad_lines(name):
+def bad_lines(name: str) -> list[bytes]:
     """The lines of a file of such lines, without their ends."""
     return [bytes_of(line[2:]) for line in lines_of("scripts", name) if line.startswith(">")]
 
@@ -115,9 +122,10 @@ def told(line, words):
     return re.sub(r"\{(\w+)\}", lambda name: words[name[1]], line).encode() + b"\n"
 
 
-def reports(name):
+def reports(name: str) -> list[Run]:
     """The runs of a file of reports."""
-    words = dict(re.fullmatch(r"\{(\w+)\} = (.*)", line).groups() for line in lines_of("reports", "words.txt") if line)
+    named = (re.fullmatch(r"\{(\w+)\} = (.*)", line) for line in lines_of("reports", "words.txt") if line)
+    words = {line[1]: line[2] for line in named}
     found = []
     for run, lines in begun(lines_of("reports", name)):
         for line in lines:
@@ -132,13 +140,13 @@ def reports(name):
     return found
 
 
-def meanings(name):
+def meanings(name: str) -> list[tuple[bytes, str]]:
     """The rows of a file of instructions that aren't permitted: their bytes, and how the words on them begin."""
     rows = [line.split(None, 1) for line in lines_of("reports", name) if line and not line.startswith("#")]
     return [(bytes.fromhex(digits), words) for digits, words in rows]
 
 
-def lengths(name):
+def lengths(name: str) -> list[tuple[bytes, int | None]]:
     """The rows of a file of such instructions with their lengths: their bytes, and the length, or None where none is known."""
     rows = [line.split() for line in lines_of("reports", name) if line and not line.startswith("#")]
     return [(bytes.fromhex(digits), None if length == "-" else int(length)) for digits, length in rows]

@@ -1,5 +1,7 @@
 """The command line of the scripts in tools/: the line `Usage: ..` of a script's docstring says what it may have."""
 
+from __future__ import annotations
+
 import re
 import sys
 
@@ -8,7 +10,7 @@ NUMBERS = {"COUNT", "SEED", "LINES", "SECONDS", "THREADS", "ROUNDS"}
 NAME = re.compile(r"\b[A-Z]{2,}\b")
 
 
-def fits(usage, words):
+def fits(usage: str, words: list[str]) -> bool:
     """Whether the words are what the usage allows. Words of an inner bracket may be left out, or all be there."""
     options = set(re.findall(r"(?<![\w-])--[\w-]+", usage))
     plain = [word for word in words if word not in options]
@@ -21,7 +23,7 @@ def fits(usage, words):
     return all(word.isdecimal() for name, word in zip(names, plain) if name in NUMBERS)
 
 
-def words_given(text):
+def words_given(text: str) -> list[str]:
     """The words of the command line. --help prints the docstring and ends with status 0; other words than the usage has end with 2."""
     words = sys.argv[1:]
     if "-h" in words or "--help" in words:

@@ -1,17 +1,23 @@
 """What the scripts share that try the wrappers of a library in C++ and in Rust."""
 
+from __future__ import annotations
+
 import concurrent.futures
 import os
 import re
 import shutil
 import subprocess
 import sys
-from typing import NamedTuple
+from collections.abc import Iterable, Iterator
+from typing import Callable, NamedTuple
 
+from boxes import Fault
 from examples import TOP
 from native import INCLUDE
 
 CPP = os.path.join(TOP, "bindings", "cpp")
+# A way to compile a text.
+CompileText = Callable[[str], subprocess.CompletedProcess]
 COMPILERS = ("g++", "clang++")
 WARN = ["-Wall", "-Wextra", "-Wpedantic", "-Werror", "-pthread", "-I" + INCLUDE, "-I" + CPP]
 PLAIN = ["-O1", "-fno-exceptions", "-fno-rtti"]
@@ -32,14 +38,14 @@ class Misuse(NamedTuple):
     text: str
     said: str
 
-    def wrong(self):
+    def wrong(self) -> str:
         return re.sub("^@", "", self.text, flags=re.M)
 
-    def right(self):
+    def right(self) -> str:
         return re.sub("^@.*\n?", "", self.text, flags=re.M) if "@" in self.text else ""
 
 
-def misuses(path, frame):
+def misuses(path: str, frame: str) -> list[Misuse]:
     """Those of a file, within a text that has %s where their lines go."""
     with open(path, encoding="utf-8") as file:
         parts = [part.partition("\n") for part in file.read().strip().split("\n\n") if not part.startswith("#")]
@@ -56,7 +62,7 @@ def known_standards(compiler):
                 break
 
 
-def ways(header):
+def ways(header: str) -> Iterator[tuple[str, str, str, list[str]]]:
     """A compiler, a standard, a way in words, and flags, for each way to build what includes a header. Sanitizers are g++'s alone."""
     for compiler in COMPILERS:
         if shutil.which(compiler) is None:
@@ -79,7 +85,7 @@ def try_build(build):
     return ""
 
 
-def try_builds(builds):
+def try_builds(builds: list[Build]) -> int:
     """How many builds of sources in C++ went wrong."""
     with concurrent.futures.ThreadPoolExecutor(os.cpu_count()) as pool:
         found = [said for said in pool.map(try_build, builds) if said]
@@ -100,7 +106,7 @@ def try_misuse(compile_text, misuse, by):
     return True
 
 
-def try_misuses(name, jobs):
+def try_misuses(name: str, jobs: list[tuple[CompileText, Misuse, str]]) -> int:
     """How many misuses, each with a way to compile it and that way's name, aren't refused."""
     with concurrent.futures.ThreadPoolExecutor(os.cpu_count()) as pool:
         wrong = sum(pool.map(lambda job: try_misuse(*job), jobs))
@@ -108,19 +114,19 @@ def try_misuses(name, jobs):
     return wrong
 
 
-def cxx_text(compiler, header, flags=()):
+def cxx_text(compiler: str, header: str, flags: Iterable[str] = ()) -> CompileText:
     """A way to compile a text behind a header. The flags come first, so they may name a folder with another header of this name."""
     words = [compiler, "-std=c++17", *flags, *WARN, "-x", "c++", "-fsyntax-only", "-"]
     return lambda text: subprocess.run(words, input='#include "%s"\n%s\n' % (header, text), capture_output=True, text=True)
 
 
-def try_cxx_misuses(header, known, flags=()):
+def try_cxx_misuses(header: str, known: list[Misuse], flags: Iterable[str] = ()) -> int:
     """How many misuses of a header aren't refused by each compiler."""
     ways = [(compiler, cxx_text(compiler, header, flags)) for compiler in filter(shutil.which, COMPILERS)]
     return try_misuses(header, [(way, misuse, compiler) for compiler, way in ways for misuse in known])
 
 
-def plant(fault, tree, folder):
+def plant(fault: Fault, tree: str, folder: str) -> str:
     """A copy of a tree with this fault in one of its files."""
     made = os.path.join(folder, "-".join(["planted", os.path.basename(tree), fault.name]))
     shutil.copytree(tree, made, ignore=shutil.ignore_patterns("target"))
@@ -135,13 +141,13 @@ def plant(fault, tree, folder):
     return made
 
 
-def said_of_misuse(compile_text, known, name):
+def said_of_misuse(compile_text: CompileText, known: Iterable[Misuse], name: str) -> str:
     """The name of a misuse if it compiles, and otherwise what the compiler says."""
     run = compile_text({misuse.name: misuse for misuse in known}[name].wrong())
     return run.stderr if run.returncode else name
 
 
-def try_faults(name, known, said_of):
+def try_faults(name: str, known: list[Fault], said_of: Callable[[Fault], str]) -> int:
     """How many faults aren't found. `said_of` plants one, and returns what its test then says, in which the fault's line has to be."""
     with concurrent.futures.ThreadPoolExecutor(os.cpu_count()) as pool:
         missed = [(fault, said) for fault, said in zip(known, pool.map(said_of, known)) if fault.line not in said]
@@ -151,7 +157,7 @@ def try_faults(name, known, said_of):
     return len(missed)
 
 
-def try_reach(of, to, pattern, what):
+def try_reach(of: str, to: str, pattern: str, what: str) -> int:
     """How many calls of a header in C the wrapper doesn't make. The pattern finds them in the header, `what` says which they are."""
     texts = []
     for path in (of, to):
@@ -163,7 +169,7 @@ def try_reach(of, to, pattern, what):
     return len(missing) + (not calls)
 
 
-def library_folder(folder, name, archives):
+def library_folder(folder: str, name: str, archives: list[str]) -> str:
     """A folder with these archives, and a file for pkg-config that names them by the name of the library."""
     made = os.path.join(folder, "lib")
     os.mkdir(made)
@@ -175,7 +181,7 @@ def library_folder(folder, name, archives):
     return made
 
 
-def cargo(crate, folder, words, **names):
+def cargo(crate: str, folder: str, words: list[str], **names: str | None) -> subprocess.CompletedProcess:
     """A run of cargo in a crate, with a folder for what it builds, and with these variables set or, by None, not set."""
     env = dict(os.environ, CARGO_TARGET_DIR=os.path.join(folder, "target"), RUSTFLAGS="-D warnings")
     env.update({name: value for name, value in names.items() if value})
@@ -185,7 +191,7 @@ def cargo(crate, folder, words, **names):
     return subprocess.run(line, cwd=crate, env=env, capture_output=True, text=True)
 
 
-def try_rust_tests(crate, folder, **names):
+def try_rust_tests(crate: str, folder: str, **names: str | None) -> bool:
     """Whether the tests of a crate fail, or there are none. It tells what they have compared, and what they have skipped."""
     run = cargo(crate, folder, ["test", "--", "--show-output"], **names)
     for line in sorted(set(re.findall(r"^(?:skipped|compared): .*", run.stdout, re.M))):
@@ -195,7 +201,7 @@ def try_rust_tests(crate, folder, **names):
     return run.returncode != 0 or passed == 0
 
 
-def try_rust_example(crate, folder, line, wanted, how, **names):
+def try_rust_example(crate: str, folder: str, line: list[str], wanted: str, how: str, **names: str | None) -> bool:
     """Whether an example, by its name and its arguments, prints something else."""
     run = cargo(crate, folder, ["run", "--example"] + line, **names)
     same = run.returncode == 0 and run.stdout == wanted
@@ -203,7 +209,7 @@ def try_rust_example(crate, folder, line, wanted, how, **names):
     return not same
 
 
-def try_rust_by_pkg_config(crate, folder, line, wanted, where, variable):
+def try_rust_by_pkg_config(crate: str, folder: str, line: list[str], wanted: str, where: str, variable: str) -> bool:
     """Whether an example prints something else where pkg-config finds the library in a folder, and the variable isn't set that names it."""
     if shutil.which("pkg-config") is None:
         print("skipped: %s.rs by pkg-config, which isn't there" % line[0])
