@@ -1,4 +1,9 @@
 """Chunks and patches drawn at random, by a `random.Random`."""
+
+from __future__ import annotations
+
+import random
+
 import nc_host as nc
 from reading import NOP, instructions, replaced
 
@@ -50,7 +55,7 @@ def corrected(base, limit, code):
     return code
 
 
-def draw_chunk(rng, base, limit, bundles):
+def draw_chunk(rng: random.Random, base: int, limit: int, bundles: int) -> bytes:
     """A valid chunk of some bundles."""
     length = nc.BUNDLE * bundles
     drawn = [draw_bundle(rng, at, base, length, limit) for at in range(base, base + length, nc.BUNDLE)]
@@ -85,7 +90,7 @@ def spoiled(rng, at, new):
     }.get(kind, (at, new))
 
 
-def draw_patch(rng, live, limit):
+def draw_patch(rng: random.Random, live: dict[int, bytes], limit: int) -> tuple[int, bytes]:
     """A patch of one of the live chunks, or of something beside it: its address and its bytes."""
     base = rng.choice(sorted(live))
     return spoiled(rng, *draw_run(rng, base, live[base], limit))

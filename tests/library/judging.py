@@ -1,5 +1,6 @@
 """What may be executed at a marked place of a text (`Text` of following.py)."""
 import nc_host as nc
+from following import Text
 from reading import decoded, is_indirect, target
 
 
@@ -24,7 +25,7 @@ def leads_well(text, at, instruction):
     return instruction.flow not in (nc.FLOW_JUMP, nc.FLOW_CALL) or admits(text, goal)
 
 
-def is_right(text, at, instruction):
+def is_right(text: Text, at: int, instruction: nc.Answer) -> bool:
     """The instruction is safe in each state for which the mark at its address stands, and leads only to such states."""
     if is_indirect(instruction) and text.mark(at) != nc.MASKED + instruction.reg:
         return False
@@ -37,7 +38,7 @@ def is_good(text, at):
     return instruction.fault == nc.OK and is_right(text, at, instruction)
 
 
-def faults(text):
+def faults(text: Text) -> int:
     """All marks walked once: how many marked places are wrong, and one more where a bundle start isn't plain."""
     places = range(nc.START, text.limit)
     wrong = [at for at in places if text.mark(at) != nc.UNMARKED and not is_good(text, at)]

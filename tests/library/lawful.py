@@ -3,16 +3,19 @@ compared one by one. Nothing here is taken from the library but its decoder.
 
 Live chunks are given as their code by their bases.
 """
+
+from __future__ import annotations
+
 import nc_host as nc
 from reading import instructions, is_direct, is_indirect, target
 
 
-def chunk_at(live, at):
+def chunk_at(live: dict[int, bytes], at: int) -> int | None:
     """The base of the live chunk that has an address, or None."""
     return next((base for base, code in live.items() if base <= at < base + len(code)), None)
 
 
-def judge(live, limit, at, new):
+def judge(live: dict[int, bytes], limit: int, at: int, new: bytes) -> tuple[int, list[nc.ActWords]]:
     """The fault of a patch in a region in which these chunks are live, and the acts that it owes."""
     if not new or at % nc.BUNDLE + len(new) > nc.BUNDLE:
         return nc.PATCH_BAD_SPAN, []

@@ -16,7 +16,7 @@ else:
     MALLINFO.restype = Numbers
 
 
-def used():
+def used() -> int:
     if MALLINFO is None:
         raise unittest.SkipTest("no mallinfo2, so no glibc")
     numbers = MALLINFO().numbers

@@ -1,6 +1,9 @@
 """A region said a second time and plainly, by its rules: all bytes and marks, the code of the live chunks, the stamps of the retired ones,
 and for each seat the generation of its last check-in. Each call returns what the region has to answer.
 """
+
+from __future__ import annotations
+
 import nc_host as nc
 from following import unused_marks
 from lawful import chunk_at, judge
@@ -10,23 +13,24 @@ from reading import marks_of
 class Model:
     """A new region with this limit, whose seats are all given."""
 
-    def __init__(self, limit, seats):
+    def __init__(self, limit: int, seats: int) -> None:
         self.limit = limit
         self.bytes = bytearray([nc.STOP]) * (limit - nc.START)
         self.marks = bytearray(unused_marks(limit - nc.START))
-        self.live, self.retired = {}, {}
-        self.taken = set()  # where a bundle of some chunk begins
+        self.live: dict[int, bytes] = {}
+        self.retired: dict[int, tuple[int, int]] = {}
+        self.taken: set[int] = set()  # where a bundle of some chunk begins
         self.generation, self.since = 0, [0] * seats
 
-    def chunks(self):
+    def chunks(self) -> list[tuple[int, int, int]]:
         """Base, length and stamp of each chunk, by ascending base. The stamp of a live one is 0."""
         live = [(base, len(code), 0) for base, code in self.live.items()]
-        return sorted(live + [(base, *retired) for base, retired in self.retired.items()])
+        return sorted(live + [(base, length, stamp) for base, (length, stamp) in self.retired.items()])
 
-    def span(self, base, length):
+    def span(self, base: int, length: int) -> slice:
         return slice(base - nc.START, base - nc.START + length)
 
-    def create(self, base, code):
+    def create(self, base: int, code: bytes) -> int:
         """Creates a valid chunk: the fault."""
         bundles = range(base, base + len(code), nc.BUNDLE)
         if not self.taken.isdisjoint(bundles):
@@ -37,7 +41,7 @@ class Model:
         self.marks[self.span(base, len(code))] = marks_of(code)
         return nc.OK
 
-    def patch(self, at, new):
+    def patch(self, at: int, new: bytes) -> int:
         """The fault. No mark changes: the new instructions begin where the old ones did."""
         fault, _ = judge(self.live, self.limit, at, new)
         if fault == nc.OK:
@@ -46,7 +50,7 @@ class Model:
             self.live[base] = bytes(self.bytes[self.span(base, len(self.live[base]))])
         return fault
 
-    def delete(self, base):
+    def delete(self, base: int) -> tuple[int, int]:
         """The fault, and the stamp or 0. The marks stay."""
         if base not in self.live:
             return nc.NO_CHUNK, 0
@@ -56,10 +60,10 @@ class Model:
         self.retired[base] = length, self.generation
         return nc.OK, self.generation
 
-    def check_in(self, seat):
+    def check_in(self, seat: int) -> None:
         self.since[seat] = self.generation
 
-    def reclaim(self):
+    def reclaim(self) -> int:
         """How many chunks are freed: those whose stamp each seat has reached by a check-in."""
         freed = [base for base, (_, stamp) in self.retired.items() if stamp <= min(self.since)]
         for base in freed:

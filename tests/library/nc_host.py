@@ -4,10 +4,14 @@ The environment variable NC_HOST names the shared library, which `tools/try/libr
 A call answers with a named tuple that has the fields of its struct in C; one that writes into a buffer has the list of what was written in
 place of `count`.
 """
+
+from __future__ import annotations
+
 import array
 import collections
 import ctypes
 import os
+from typing import Any, Tuple
 
 BUNDLE, START, STOP = 32, 0x10000, 0xF4
 
@@ -21,6 +25,10 @@ FLOW_NEXT, FLOW_BRANCH, FLOW_JUMP, FLOW_CALL, FLOW_INDIRECT_JUMP, FLOW_INDIRECT_
 END_STOP, END_TRAMPOLINE, END_BEYOND, END_MORE = range(1, 5)
 UNMARKED, PLAIN, MASKED = 0, 1, 16
 PUT, MARK, BUMP, SERIALIZE, PUT_RUN, STOP_RUN = 1, 2, 3, 6, 7, 8
+
+Code = bytes  # by a name of its own, since a region has a method `bytes`
+Answer = Any  # a named tuple with the fields of a struct
+ActWords = Tuple[int, int, int]  # an act: its kind, its address and its value
 
 u32, size = ctypes.c_uint32, ctypes.c_size_t
 
@@ -93,34 +101,34 @@ for _name, (_returned, *_taken) in CALLS.items():
     _call.restype, _call.argtypes = _returned, _taken
 
 
-def limit(bundles):
+def limit(bundles: int) -> int:
     """The limit of a region with this many bundles."""
     return START + BUNDLE * bundles
 
 
-def decode(code):
+def decode(code: Code) -> Answer:
     return LIBRARY.nc_host_decode(code, len(code)).plain()
 
 
-def vet(base, end, code):
+def vet(base: int, end: int, code: Code) -> Answer:
     return LIBRARY.nc_host_vet(base, end, code, len(code)).plain()
 
 
-def marks(base, end, code):
+def marks(base: int, end: int, code: Code) -> tuple[Answer, list[int]]:
     """The verdict, and the list of marks of a valid chunk."""
     room = ctypes.create_string_buffer(len(code))
     verdict = LIBRARY.nc_host_marks(base, end, code, len(code), room, len(code)).plain()
     return verdict, [*room.raw] if verdict.fault == OK else []
 
 
-def image(base, code, length, before=0xA5):
+def image(base: int, code: Code, length: int, before: int = 0xA5) -> tuple[Answer, Code]:
     """The verdict, and what memory of this length has after it; before it each byte is `before`."""
     room = ctypes.create_string_buffer(bytes([before]) * length, length)
     verdict = LIBRARY.nc_host_image(base, code, len(code), room, length).plain()
     return verdict, room.raw
 
 
-def segments(file, room):
+def segments(file: Code, room: int) -> tuple[Answer, list[Answer]]:
     """The answer on an ELF file, and the elements that a buffer with room for so many has then; before it all their bytes are FF."""
     buffer = (Segment * room).from_buffer(bytearray(b"\xff" * ctypes.sizeof(Segment) * room))
     answer = LIBRARY.nc_host_elf(file, len(file), buffer, room).plain()
@@ -146,7 +154,7 @@ def written(call, *words, room):
 class Vetted:
     """A vetted chunk by its handle, which is empty where the verdict is a fault. It is freed when nothing holds it."""
 
-    def __init__(self, base, end, code):
+    def __init__(self, base: int, end: int, code: Code) -> None:
         self.handle = Handle()
         self.verdict = LIBRARY.nc_vetted_new(base, end, code, len(code), self.handle).plain()
         self.length = len(code)
@@ -171,91 +179,91 @@ class Seat:
 class Region:
     """A region by its handle. It is freed when nothing holds it."""
 
-    def __init__(self, bundles, seats=1):
+    def __init__(self, bundles: int, seats: int = 1) -> None:
         self.handle, self.limit = Handle(), limit(bundles)
         self.fault = LIBRARY.nc_region_new(bundles, seats, self.handle)
 
     def __del__(self):
         LIBRARY.nc_region_free(self.handle)
 
-    def seat(self):
+    def seat(self) -> Seat | None:
         """The next seat; None once each was given."""
         handle = Handle()
         return Seat(handle) if LIBRARY.nc_region_seat(self.handle, handle) == OK else None
 
-    def create(self, base, code):
+    def create(self, base: int, code: Code) -> Changed:
         return written(LIBRARY.nc_region_create, self.handle, base, code, len(code), room=len(code) + 2)
 
-    def load(self, vetted):
+    def load(self, vetted: Vetted) -> Changed:
         """Creates a vetted chunk, whose handle is empty then."""
         return written(LIBRARY.nc_region_load, self.handle, vetted.handle, room=vetted.length + 2)
 
-    def patch(self, at, new):
+    def patch(self, at: int, new: Code) -> Changed:
         return written(LIBRARY.nc_region_patch, self.handle, at, new, len(new), room=3 * len(new))
 
-    def begin_delete(self, base, room):
+    def begin_delete(self, base: int, room: int) -> Changed:
         """The first step of a deletion, with room for this many acts."""
         return written(LIBRARY.nc_region_begin_delete, self.handle, base, room=room)
 
-    def creation_runs(self, base, room):
+    def creation_runs(self, base: int, room: int) -> Changed:
         """The acts of a live chunk's creation, as runs."""
         return written(LIBRARY.nc_region_creation_runs, self.handle, base, room=room)
 
-    def deletion_runs(self, room):
+    def deletion_runs(self, room: int) -> Changed:
         """The acts of the deletion that is under way, as runs."""
         return written(LIBRARY.nc_region_deletion_runs, self.handle, room=room)
 
-    def end_delete(self):
+    def end_delete(self) -> Answer:
         return LIBRARY.nc_region_end_delete(self.handle).plain()
 
-    def delete(self, base):
+    def delete(self, base: int) -> tuple[Changed, int]:
         """Both steps of a deletion: the answer of the first one, and the stamp, or 0."""
         length = next((chunk.length for chunk in self.chunks() if chunk.base == base), 0)
         begun = self.begin_delete(base, length + 2)
         return begun, self.end_delete().stamp if begun.fault == OK else 0
 
-    def reclaim(self):
+    def reclaim(self) -> int:
         """How many chunks left the list."""
         return LIBRARY.nc_region_reclaim(self.handle).plain().count
 
-    def chunk(self, index):
+    def chunk(self, index: int) -> Answer:
         return LIBRARY.nc_region_chunk(self.handle, index).plain()
 
-    def chunk_at(self, at):
+    def chunk_at(self, at: int) -> Answer:
         """The chunk that has an address, or else the first one above it."""
         return LIBRARY.nc_region_chunk_at(self.handle, at).plain()
 
-    def chunks(self):
+    def chunks(self) -> list[Answer]:
         """All chunks, by ascending base."""
-        found = []
+        found: list[Answer] = []
         while (chunk := self.chunk(len(found))).fault == OK:
             found.append(chunk)
         return found
 
-    def place(self, at):
+    def place(self, at: int) -> Answer:
         return LIBRARY.nc_region_place(self.handle, at).plain()
 
-    def places(self, start=START, end=None):
+    def places(self, start: int = START, end: int | None = None) -> tuple[Code, Code]:
         """The bytes from one address to another, and their marks, each mark as a byte."""
         count = (self.limit if end is None else end) - start
         found, marks = ctypes.create_string_buffer(count), ctypes.create_string_buffer(count)
         LIBRARY.places(self.handle, start, count, found, marks)
         return found.raw, marks.raw
 
-    def bytes(self, start=START, end=None):
+    def bytes(self, start: int = START, end: int | None = None) -> Code:
         """The bytes from one address to another."""
         return self.places(start, end)[0]
 
-    def marks(self, start=START, end=None):
+    def marks(self, start: int = START, end: int | None = None) -> list[int]:
         """The marks from one address to another."""
         return [*self.places(start, end)[1]]
 
-    def walk(self, start, choices):
+    def walk(self, start: int, choices: list[int]) -> tuple[int, list[int], int]:
         """The fault, the places, and how the walk ended."""
         room = len(choices) + 1
         places = (u32 * room)()
         walk = LIBRARY.nc_region_walk(self.handle, start, (u32 * len(choices))(*choices), len(choices), places, room).plain()
         return walk.fault, places[: walk.count] if walk.fault == OK else [], walk.end
 
-    def generation(self):
+    def generation(self) -> int:
         return LIBRARY.nc_region_generation(self.handle).plain().stamp
