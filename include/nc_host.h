@@ -170,7 +170,7 @@ extern "C" {
 #define NC_PLAIN 1u                  /* an instruction, or a bundle start without a chunk */
 #define NC_MASKED(reg) (16u + (reg)) /* an indirect transfer by this register */
 
-/* The kinds of an NcAct. Fields that a kind doesn't name are 0. No call writes 4 or 5. */
+/* The kinds of an NcAct. Fields that a kind doesn't name are 0. 4 (unmark) and 5 (look) are internal and never written. */
 #define NC_PUT 1u       /* put the byte `value` at the address `at` */
 #define NC_MARK 2u      /* the `value` addresses from `at` on get the chunk's marks; for a host that keeps marks */
 #define NC_BUMP 3u      /* draw a stamp */

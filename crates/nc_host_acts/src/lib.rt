@@ -1,8 +1,8 @@
 //! Acts and serializations as a host reads them, and the writers of their lists into a buffer that it lends.
 //!
-//! An [`NcAct`] is an entry of the log by which `nc_region` changes a text, as three numbers: its kind, its address, and its byte or its
-//! number of places (`specs/Shown`). In a list of runs, one element stands for the puts in a bundle, and its third number has a bit for
-//! each place (`specs/Runs`).
+//! An [`NcAct`] encodes one entry of a region's log as three numbers: its kind, its address, and its byte or its number of places
+//! (`specs/Shown`). In a list of runs, one element stands for the puts in a bundle, and its third number has a bit for each place
+//! (`specs/Runs`).
 //!
 //! A writer reads the chunk place by place, through [`ReadChunk`], wherever it is stored. [`write_creation`] and [`write_deletion`] write
 //! one element for each act or serialization, [`write_creation_runs`] and [`write_deletion_runs`] runs, and [`write_patch`] the acts that
