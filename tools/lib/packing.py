@@ -31,7 +31,7 @@ PAGES_AND_EXAMPLES = [
     "examples/check", "examples/host", "examples/sandbox", "examples/forth", "examples/run", "examples/boxes", "examples/boxes/calculator",
     "examples/boxes/costs", "examples/boxes/document", "examples/boxes/picture", "examples/boxes/plugins",
     *["examples/boxes/hosts" + part for part in ("", "/java", "/node", "/perl", "/postgres", "/prefork", "/python")],
-    "examples/compile/sample.c",
+    "examples/compile/sample.c", "examples/good.bin", "examples/bad.bin",
     "examples/first.script", "examples/first.replies", "examples/vet.lines", "examples/vet.replies",
 ]
 
