@@ -58,13 +58,13 @@ def bar(picture, space):
     picture.text(((ABOVE + END) / 2, TOP + 44), "segment", "middle", 13, RED)
 
 
-def jumps(picture):
+def jumps(picture, space):
     """Where a masked jump can go."""
     begin = (SPANS[3][0] + SPANS[3][1]) / 2
     picture.text((begin, 58), "A masked jump or call can go to any bundle start:", "middle", 14)
     for to, words, beside, anchor, high, color in [
             (115, "a trampoline", 126, "start", 106, INK), (235, "code of a chunk", 248, "start", 84, INK),
-            (547, "a stop", 556, "start", 62, INK), (805, "the limit or above: a fault", 793, "end", 112, RED)]:
+            (547, f"a stop ({space.stop:02X})", 556, "start", 62, INK), (805, "a fault", 815, "start", 112, RED)]:
         picture.arc(begin, to, TOP - 1, high, color)
         picture.text((beside, TOP - 14), words, anchor, 13, color)
 
@@ -73,7 +73,7 @@ def addresses(picture, space):
     """The addresses below the bar, the region and the code segment."""
     y = TOP + HIGH
     for x, words, anchor in [(ZONE, f"{0:08X}", "start"), (REGION, f"{space.start:08X}", "middle"),
-                             (GUARD, f"limit − {space.guard}", "end"), (ABOVE, "limit", "start"), (END, f"{2 ** 32 - 1:08X}", "end")]:
+                             (GUARD, f"limit − {space.guard}", "end"), (ABOVE, "limit", "middle"), (END, f"{2 ** 32 - 1:08X}", "end")]:
         picture.line((x, y), (x, y + 8), INK)
         picture.text((x + {"start": -2, "middle": 0, "end": 2}[anchor], y + 24), words, anchor, 13, face="mono")
     for k, (left, words, color) in enumerate([(REGION, "the region", INK), (ZONE, "the code segment: it ends at the limit", BLUE)]):
@@ -95,7 +95,7 @@ def notes(picture, space):
         ("Region", f"{space.least} to {space.most:,} bundles of {space.bundle} bytes, at most {most}: the limit is from {limits}."),
         ("Guard", f"The last {space.guard} bytes below the limit. No chunk covers them."),
         ("Stops", f"In the region {stop} is at every address without live code, also in deleted chunks and the guard."),
-        ("Data", "The limits of the data and stack segments exclude everything of the host's."),
+        ("Data", "The limits of the data and stack segments exclude all host memory."),
     ]
     y = TOP + HIGH + 132
     for k, (name, words) in enumerate(lines):
@@ -109,7 +109,7 @@ def draw():
     picture = Picture("The address space of a region",
                       f"From address 0: the trampoline zone, then from {space.start:08X} the region with its chunks, stops between them "
                       "and the guard, up to the limit, where the code segment ends.")
-    jumps(picture)
+    jumps(picture, space)
     bar(picture, space)
     addresses(picture, space)
     notes(picture, space)
