@@ -95,7 +95,7 @@ TEMPLATES = [
 class Words(Template):
     """Words such as @VERSION@ in a text."""
 
-    pattern = r"@(?:(?P<escaped>@)|(?P<named>[A-Z]+)@|(?P<braced>(?!))|(?P<invalid>(?!)))"
+    pattern = r"@(?:(?P<escaped>@)|(?P<named>[A-Z]+)@|(?P<braced>(?!))|(?P<invalid>(?!)))"  # type: ignore[assignment] # compiled later
 
 
 def read(path: str) -> bytes:

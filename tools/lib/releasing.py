@@ -50,7 +50,7 @@ def write_tarball(files: dict[str, Entry], path: str) -> list[str]:
     """Makes a tarball with everything below one folder, which is named as the file is."""
     top = os.path.basename(path)[: -len(".tar.gz")]
     with open(path, "wb") as out, gzip.GzipFile("", "wb", 9, out, mtime=0) as packed:
-        with tarfile.open(fileobj=packed, mode="w", format=tarfile.GNU_FORMAT) as archive:
+        with tarfile.open(fileobj=packed, mode="w", format=tarfile.GNU_FORMAT) as archive:  # type: ignore[arg-type] # only written
             for name, entry in with_folders({top + "/" + name: entry for name, entry in files.items()}):
                 archive.addfile(member(name, entry), io.BytesIO(entry.content) if isinstance(entry, File) else None)
     return [path]
