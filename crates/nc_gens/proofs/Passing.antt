@@ -1,5 +1,5 @@
 -- A seat that checks in once a stamp is drawn has passed it from then on, and so has one that leaves.
-use Rattle.std.proofs.Common.{◌≡◌, ℕ, ◌+◌, ◌<◌, ◌≤◌, ◌⊎◌, List, [], ◌∷◌, ◌++◌, length, sym, ap, ◌∙◌, subst, ⊎_elim, arith, append_assoc, get_or-set_other, le_trans}
+use Rattle.std.proofs.Common.{◌≡◌, ℕ, ◌<◌, ◌≤◌, ◌⊎◌, List, [], ◌∷◌, ◌++◌, length, sym, ap, ◌∙◌, subst, ⊎_elim, arith, append_assoc, get_or-set_other, le_trans}
 use Rattle.std.proofs.Common.{zero, suc}
 use Rattle.std.specs.Prelude.{Contains, slice_index_or}
 use mathlib.Core.Logic.{dite}

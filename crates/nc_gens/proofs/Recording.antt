@@ -1,6 +1,6 @@
 -- Each kind of step keeps the rule: it is added to the history, which every view goes on recalling.
 use Rattle.std.proofs.Common.{◌≡◌, ◌≢◌, ℕ, ◌+◌, ◌-◌, ◌%◌, ◌^◌, ◌<◌, ◌≤◌, true, false, List, [], ◌∷◌, ◌++◌, length, get_or, sym, refl, ap, ◌∙◌}
-use Rattle.std.proofs.Common.{subst, append_assoc, ⊎_elim, arith, le_refl, le_trans, length-set, eq-eqb, ne_eqb}
+use Rattle.std.proofs.Common.{subst, ⊎_elim, arith, le_refl, le_trans, length-set, eq-eqb, ne_eqb}
 use mathlib.Core.Option.{none, some}
 use lib.ListN.{get_elem?}
 use Rattle.atomic_table.specs.Table.{step, keeps, stepped, Allows}

@@ -1,5 +1,5 @@
--- The rule of the words, and the effect of each step on the numbers. Word 0 is the generation, and word i + 1 is the word
--- of seat i. Steps on the words need a token, and each token has a view, which is its knowledge of the words.
+-- The rule of the words, and the effect of each step on the numbers. Word 0 is the generation, and word i + 1 is the word of seat i. Steps
+-- on the words need a token, and each token has a view, which is its knowledge of the words.
 use Rattle.std.specs.Prelude.{◌≡◌, ◌≢◌, ℕ, ◌+◌, ◌<◌, ◌≤◌, ◌⊎◌, true, List, length, replicate, slice_index, slice_set}
 use mathlib.Core.Option.{some}
 use lib.ListN.{get_elem?}
@@ -50,8 +50,8 @@ first_pass_numbers = record { word = 0; since = 0; seen = 0; loads = 0 }
 abbrev pub first_keeper_numbers : ℕ → KeeperNumbers
 first_keeper_numbers seats = record { generation = 0; bounds = replicate seats 0; looks = replicate seats 0 }
 
--- The relation between a view and the words. `at` is the index of the view in the list of all views, and `owner` gives,
--- for each word, the index of the one view that may store it.
+-- The relation between a view and the words. `at` is the index of the view in the list of all views, and `owner` gives, for each word, the
+-- index of the one view that may store it.
 
 module _ (words : List ℕ) (owner : ℕ → ℕ) (at : ℕ) where
   -- the pass of a seat: it knows its own word, which is "left" or at most `since`; `since` is at most the generation
@@ -63,8 +63,8 @@ module _ (words : List ℕ) (owner : ℕ → ℕ) (at : ℕ) where
     pub saw : p.since ≤ p.seen
     pub current : p.seen ≤ slice_index words 0
 
-  -- the keeper, which has given out the passes of the seats below `given`: it knows the generation; each bound is at most
-  -- the seat's word, and "left" only if the word is
+  -- the keeper, which has given out the passes of the seats below `given`: it knows the generation; each bound is at most the seat's word,
+  -- and "left" only if the word is
   pub record FitsKeeper (given : ℕ) (k : KeeperNumbers) : Type 0 where
     pub owns : owner 0 ≡ at
     pub generation_is : slice_index words 0 ≡ k.generation

@@ -109,10 +109,9 @@ pub record HasLooked (old new : KeeperState) : Type 0 where
   pub found : (k : ℕ) → k < length new.numbers.bounds
       → HasFound (length new.numbers.bounds) old.history new.history k (slice_index new.numbers.bounds k)
 
--- A pass and the keeper after they met. The pass has seen the generation, and its `since` is unchanged. The keeper's bound
--- for the seat hasn't decreased and is the pass's own word. The word is at most the pass's `since`, `since` at most the
--- generation, and the generation at most 2^62. The
--- keeper's history continues the pass's, which has taken no step since.
+-- A pass and the keeper after they met. The pass has seen the generation, and its `since` is unchanged. The keeper's bound for the seat
+-- hasn't decreased and is the pass's own word. The word is at most the pass's `since`, `since` at most the generation, and the generation
+-- at most 2^62. The keeper's history continues the pass's, which has taken no step since.
 pub record HasMet (old : PassState) (before : KeeperState) (new : PassState) (after : KeeperState) : Type 0 where
   pub pass : new ≡ record old { numbers = generation_seen before.numbers.generation old.numbers; history = new.history }
   pub keeper : after ≡ record before { numbers = word_taken old.seat old.numbers.word before.numbers; history = after.history }

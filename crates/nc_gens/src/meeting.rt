@@ -1,4 +1,5 @@
 //! The meeting of a pass and the keeper.
+
 ghost use Rattle.std.specs.Prelude.{◌≡◌};
 ghost use Rattle.nc_gens.specs.Seen.{HasMet};
 
@@ -6,8 +7,8 @@ use crate::steps::{PassIn, PassOut, SeeGeneration, TakeWord};
 use crate::table::{Gens, Keeper, Pass};
 
 impl Gens {
-    /// The pass loads the generation, and the keeper loads the pass's word, so that each knows the
-    /// other's number. `since` is unchanged: this is not a check-in.
+    /// The pass loads the generation, and the keeper loads the pass's word, so that each knows the other's number. `since` is unchanged:
+    /// this is not a check-in.
     ///
     /// It allocates nothing, never waits, and is never refused.
     ///
@@ -17,8 +18,8 @@ impl Gens {
         requires keeper { keeper.old.table ≡ self.now }
         ensures { HasMet pass.old keeper.old pass.new keeper.new }
     {
-        // A load reveals nothing about another token's view. The keeper's token therefore takes in
-        // the pass's view for the two loads, and then gives it back.
+        // A load reveals nothing about another token's view. The keeper's token therefore takes in the pass's view for the two loads, and
+        // then gives it back.
         let words = &self.words.shared;
         let lent = words.split_seat::<PassOut>(&mut pass.token);
         words.join_seat::<PassIn>(&mut keeper.token, lent);

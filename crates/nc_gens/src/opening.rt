@@ -1,4 +1,5 @@
 //! Creates a table with its keeper and its passes.
+
 ghost use Rattle.std.specs.Prelude.{◌≡◌, ◌+◌, ◌<◌, ◌≤◌, ◌↔◌, ◌⊎◌, [], All, IfOk, OnOk, IsErrOf, length, replicate};
 ghost use Rattle.nc_gens.specs.machinery.Views.{giving_view};
 ghost use Rattle.nc_gens.specs.Seen.{AreSeats, new_passes, first_keeper};
@@ -14,11 +15,10 @@ use std::alloc::{AllocError, Global};
 pub const MOST_SEATS: usize = 256;
 
 impl Gens {
-    /// The table, its keeper, and a pass for each seat, in the seats' order. The generation, every
-    /// word and every `since` begin at 0.
+    /// The table, its keeper, and a pass for each seat, in the seats' order. The generation, every word and every `since` begin at 0.
     ///
-    /// Refusals, the first in this order: `BadSeats` exactly if `seats` isn't in 1 to [`MOST_SEATS`], before anything
-    /// is allocated; `OutOfMemory` if an allocation was refused. No other call allocates.
+    /// Refusals, the first in this order: `BadSeats` exactly if `seats` isn't in 1 to [`MOST_SEATS`], before anything is allocated;
+    /// `OutOfMemory` if an allocation was refused. No other call allocates.
     ///
     /// Not promised: that memory is available.
     pub fn new(alloc: Global, seats: u32) -> Result<(Gens, Keeper, Vec<Pass>), GensFault>
@@ -37,6 +37,7 @@ impl Gens {
     }
 }
 
+/// The table, its keeper, and its passes, for a number of seats that is in range.
 fn open(alloc: Global, seats: usize) -> Result<(Gens, Keeper, Vec<Pass>), AllocError>
     requires { AreSeats seats }
     ensures keeper { IfOk result (λ r. (r.1 ≡ first_keeper r.0 seats) × (r.1.table ≡ r.0)) }
@@ -54,6 +55,7 @@ fn open(alloc: Global, seats: usize) -> Result<(Gens, Keeper, Vec<Pass>), AllocE
     Ok((Gens { words }, keeper, passes))
 }
 
+/// The words of a table, all 0, and the token of its keeper, which has given out no pass.
 fn lay_words(alloc: Global, seats: usize) -> Result<(WordTable, Token), AllocError>
     requires { AreSeats seats }
     ensures words { IfOk result (λ r. r.0.shared.table_id.words ≡ seats + 1) }
@@ -64,6 +66,7 @@ fn lay_words(alloc: Global, seats: usize) -> Result<(WordTable, Token), AllocErr
     WordTable::of_words(alloc, zeros.as_slice(), &seats)
 }
 
+/// A pass for each seat, in the seats' order. The token of each is split off the keeper's.
 fn give_passes(
     alloc: Global,
     words: &WordTable,
@@ -92,6 +95,7 @@ fn give_passes(
     Ok(passes)
 }
 
+/// The bound of each seat, 0.
 fn zero_bounds(seats: usize) -> ArrayVec<u64, MOST_SEATS>
     requires { AreSeats seats }
     ensures { result.items ≡ replicate seats 0 }

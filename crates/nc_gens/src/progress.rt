@@ -9,8 +9,8 @@ ghost use Rattle.nc_gens.specs.Seen.{HasLooked, KeeperState, least_number};
 /// If each seat has checked in since a stamp, or has left, at some moment before the first load of a look, then the number that the
 /// look returns is at least the stamp. So a span retired with that stamp can be reclaimed then.
 ///
-/// The moment is a part of the history that the keeper recalls after the look, in which other threads' steps stand where they
-/// happened. The stamp is at most the generation, as each that was drawn is. The function does nothing when called.
+/// The moment is a part of the history that the keeper recalls after the look, in which other threads' steps stand where they happened. The
+/// stamp is at most the generation, as each that was drawn is. The function does nothing when called.
 ///
 /// Not promised: that any seat ever checks in or leaves.
 pub fn law_of_progress()

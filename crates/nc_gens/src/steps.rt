@@ -1,4 +1,5 @@
 //! The kinds of atomic step on the words, and the moves of a view from one token to another.
+
 ghost use Rattle.nc_gens.specs.machinery.Steps.{TakesGeneration, SeesGeneration, StoresSince, StoresLeft, AddsOne, TakesWord};
 ghost use Rattle.nc_gens.specs.machinery.Views.{given_one_more};
 ghost use Rattle.nc_gens.specs.machinery.Views.{new_pass_view, without_pass, without_keeper, with_pass_of, spent_view};

@@ -1,4 +1,5 @@
 //! The table, its passes and its keeper.
+
 ghost use Rattle.std.specs.Prelude.{◌≡◌, ◌^◌, ◌≤◌};
 
 use crate::opening::MOST_SEATS;
@@ -9,8 +10,7 @@ use std::marker::Model;
 /// The word of a seat that has left.
 pub(crate) const LEFT: u64 = u64::MAX;
 
-/// The table of generations. Contracts see its identity and not its words, which other threads may
-/// change at any moment.
+/// The table of generations. Contracts see its identity and not its words, which other threads may change at any moment.
 ///
 /// A `&Gens` may be shared among threads. Each call takes effect by single atomic steps.
 #[derive(Drop)]
@@ -30,8 +30,8 @@ impl Model for Gens {
 
 /// One seat's right to check in and to leave. There is one for each seat, and it can't be copied.
 ///
-/// If a pass is dropped without [`Gens::leave`], its seat keeps its last word for good, and no span
-/// with a stamp above that word is ever reclaimed.
+/// If a pass is dropped without [`Gens::leave`], its seat keeps its last word for good, and no span with a stamp above that word is ever
+/// reclaimed.
 #[derive(Drop)]
 pub struct Pass {
     pub(crate) seat: usize,
@@ -72,8 +72,8 @@ impl Model for Keeper {
 }
 
 impl Pass {
-    /// The generation that the last check-in took, or 0 if there was none. The seat holds back
-    /// every span that is retired with a higher stamp.
+    /// The generation that the last check-in took, or 0 if there was none. The seat holds back every span that is retired with a higher
+    /// stamp.
     pub fn since(&self) -> u64
         ensures { result ≡ self.now.numbers.since }
     {

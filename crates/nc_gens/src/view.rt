@@ -1,7 +1,8 @@
 //! The table's words, and what the holder of each token knows about them.
 //!
-//! Word 0 is the generation, and word i + 1 is the word of seat i. The structs of numbers exist
-//! only for proofs: no value of them is ever made, so they cost nothing at run time.
+//! Word 0 is the generation, and word i + 1 is the word of seat i. The structs of numbers exist only for proofs: no value of them is ever
+//! made, so they cost nothing at run time.
+
 use atomic_table::{Seat, Table, TableRule};
 use std::alloc::Global;
 
@@ -20,8 +21,7 @@ pub struct PassNumbers {
 /// The numbers of the keeper. No value of it is made.
 pub struct KeeperNumbers {
     pub generation: u64,
-    /// For each seat, the number last loaded from its word, initially 0. In a clause, an array is a
-    /// list of any length.
+    /// For each seat, the number last loaded from its word, initially 0. In a clause, an array is a list of any length.
     pub bounds: [u64; 0],
     /// For each seat, the number of times that its word was loaded.
     pub looks: [u64; 0],
@@ -43,8 +43,7 @@ pub enum WordStep {
     TookWord(usize),
 }
 
-/// What a token knows about the words: a pass's part, the keeper's, both while they meet, or neither.
-/// No value of it is made.
+/// What a token knows about the words: a pass's part, the keeper's, both while they meet, or neither. No value of it is made.
 pub(crate) struct View {
     /// The number of seats of the table.
     pub seats: usize,

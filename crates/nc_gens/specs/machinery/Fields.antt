@@ -10,8 +10,7 @@ use Rattle.nc_gens.specs.Seen.{AreSeats, PassState, KeeperState}
 abbrev pub pass_state : pass.Inside → PassState
 pass_state a = record { table = a.token.table_id; seat = a.seat; numbers = a.token.me.0.pass; history = a.token.me.0.pass_history }
 
--- the fields of a pass agree with its token: its seat, and its `since`, at least its own word and at most the last
--- generation that it saw
+-- the fields of a pass agree with its token: its seat, and its `since`, at least its own word and at most the last generation that it saw
 pub record IsPass (a : pass.Inside) : Type 0 where
   pub no_slots : a.token.me.1 ≡ []
   pub is_pass : a.token.me.0.is_pass ≡ true
@@ -30,8 +29,8 @@ pub record IsPass (a : pass.Inside) : Type 0 where
 abbrev pub keeper_state : keeper.Inside → KeeperState
 keeper_state a = record { table = a.token.table_id; numbers = a.token.me.0.keeper; history = a.token.me.0.keeper_history }
 
--- the fields of the keeper agree with its token: the generation, at most 2^62, and for each of 1 to 256 seats a bound, at
--- most the generation unless it is "left"
+-- the fields of the keeper agree with its token: the generation, at most 2^62, and for each of 1 to 256 seats a bound, at most the
+-- generation unless it is "left"
 pub record IsKeeper (a : keeper.Inside) : Type 0 where
   pub no_slots : a.token.me.1 ≡ []
   pub is_keeper : a.token.me.0.is_keeper ≡ true

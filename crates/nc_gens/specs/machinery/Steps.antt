@@ -1,6 +1,6 @@
--- The kinds of step on the words. Each definition says which word (`st.word`) the step is on, who takes it, and what
--- is known about the token before (m) and after (m') and about the number n that it found or stored. The step is the
--- last one of the history that the token then recalls.
+-- The kinds of step on the words. Each definition says which word (`st.word`) the step is on, who takes it, and what is known about the
+-- token before (m) and after (m') and about the number n that it found or stored. The step is the last one of the history that the token
+-- then recalls.
 use Rattle.std.specs.Prelude.{◌≡◌, ◌≢◌, ℕ, ◌+◌, ◌-◌, ◌<◌, ◌≤◌, true, [], ◌∷◌, slice_index}
 use Rattle.atomic_table.specs.Table.{Me, Step}
 use Rattle.nc_gens.specs.declared.view.View.{View}

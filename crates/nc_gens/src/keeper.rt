@@ -1,4 +1,5 @@
 //! The calls of the keeper, which draws stamps and looks at the words of the seats.
+
 ghost use Rattle.std.specs.Prelude.{◌≡◌, ◌≢◌, ◌+◌, ◌^◌, ◌<◌, ◌≤◌, ◌↔◌, [], ◌∷◌, All, length, slice_index, IfOk, IsOk, OnOk, OnErr};
 ghost use Rattle.nc_gens.specs.declared.view.WordStep.{WordStep};
 ghost use Rattle.nc_gens.specs.Rule.{left_word, word_taken};
@@ -15,8 +16,7 @@ pub const LAST_GENERATION: u64 = 1 << 62;
 impl Gens {
     /// Adds one to the generation, and returns the new one: the stamp for spans retired now.
     ///
-    /// It allocates nothing and never waits. It is refused exactly if the generation is 2^62, and
-    /// then changes nothing.
+    /// It allocates nothing and never waits. It is refused exactly if the generation is 2^62, and then changes nothing.
     ///
     /// Not promised: that any seat ever takes the new generation.
     pub fn bump(&self, keeper: &mut Keeper) -> Result<u64, GensFull>
@@ -36,17 +36,15 @@ impl Gens {
         Ok(keeper.generation)
     }
 
-    /// Loads each seat's word, and raises the keeper's bound for that seat to the number loaded.
-    /// Returns the least bound of the seats whose word it didn't find to be "left", or the
-    /// generation if there are none. A span retired with a stamp of at most the result can be
-    /// reclaimed: every seat has checked in since, or has left. Conversely, the result is at least
-    /// each stamp for which that was so before the look ([`law_of_progress`](crate::law_of_progress)).
+    /// Loads each seat's word, and raises the keeper's bound for that seat to the number loaded. Returns the least bound of the seats whose
+    /// word it didn't find to be "left", or the generation if there are none. A span retired with a stamp of at most the result can be
+    /// reclaimed: every seat has checked in since, or has left. Conversely, the result is at least each stamp for which that was so before
+    /// the look ([`law_of_progress`](crate::law_of_progress)).
     ///
     /// It allocates nothing, never waits, and is never refused.
     ///
-    /// Not promised: that the result ever increases, since a seat that neither checks in nor leaves
-    /// holds it back; or that the words had these values at a single moment. They are loaded one
-    /// after the other, and never decrease.
+    /// Not promised: that the result ever increases, since a seat that neither checks in nor leaves holds it back; or that the words had
+    /// these values at a single moment. They are loaded one after the other, and never decrease.
     pub fn look(&self, keeper: &mut Keeper) -> u64
         requires { keeper.old.table ≡ self.now }
         // Each seat's word is loaded once, no bound decreases, and the generation is unchanged. Each bound is what the seat's last
@@ -64,6 +62,7 @@ impl Gens {
         least_bound(keeper.bounds.as_slice(), keeper.generation)
     }
 
+    /// Loads the word of a seat, and raises the keeper's bound for that seat to the number loaded.
     fn look_at(&self, keeper: &mut Keeper, seat: usize)
         requires table { keeper.old.table ≡ self.now }
         requires inside { seat < length keeper.old.numbers.bounds }
@@ -84,6 +83,7 @@ impl Gens {
     }
 }
 
+/// The least bound that isn't "left", or the generation if there is none.
 fn least_bound(bounds: &[u64], generation: u64) -> u64
     requires { All (λ b. b ≢ left_word → b ≤ generation) bounds.now }
     ensures least { result ≡ least_or generation (staying bounds.now) }

@@ -1,7 +1,7 @@
 use Rattle.std.proofs.Common.{◌≡◌, arith, ap, ◌∙◌, fold, take_all}
 use Rattle.std.proofs.lemmas.Grind.{common_steps}
 use Rattle.nc_gens.proofs.LeastNumber.{lower, fold-lower, fold-lower_le, fold-lower_below}
-use Rattle.nc_gens.proofs.keeper_calls.least_bound.Goals as goal
+use Rattle.nc_gens.proofs.keeper.least_bound.Goals as goal
 
 -- the loop has gone through all bounds
 whole : (c : goal.After-loop-bound) → c.loop-bound.least ≡ fold lower c.args.generation c.args.bounds.now
