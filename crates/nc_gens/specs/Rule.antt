@@ -1,6 +1,6 @@
 -- The rule of the words, and the effect of each step on the numbers. Word 0 is the generation, and word i + 1 is the word of seat i. Steps
 -- on the words need a token, and each token has a view, which is its knowledge of the words.
-use Rattle.std.specs.Prelude.{◌≡◌, ◌≢◌, ℕ, ◌+◌, ◌<◌, ◌≤◌, ◌⊎◌, true, List, length, replicate, slice_index, slice_set}
+use Rattle.std.specs.Prelude.{◌≡◌, ◌≢◌, ℕ, ◌+◌, ◌-◌, ◌^◌, ◌<◌, ◌≤◌, ◌⊎◌, true, List, length, replicate, slice_index, slice_set}
 use mathlib.Core.Option.{some}
 use lib.ListN.{get_elem?}
 use Rattle.atomic_table.specs.Table.{State}
@@ -10,11 +10,11 @@ use Rattle.nc_gens.specs.declared.view.View.{View}
 
 -- the word of a seat that has left: all bits one
 abbrev pub left_word : ℕ
-left_word = 18446744073709551615
+left_word = 2 ^ 64 - 1
 
--- the last generation, 2^62
+-- the last generation
 abbrev pub last_generation : ℕ
-last_generation = 4611686018427387904
+last_generation = 2 ^ 62
 
 -- The effect of a step on the numbers of a pass, or of the keeper
 
