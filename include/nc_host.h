@@ -359,8 +359,8 @@ NcChange nc_region_load(NcRegion *region, NcVetted *vetted, NcAct *acts, size_t 
 
 /* Replaces whole instructions of a chunk with others of the same lengths, with at most 3 * `len` acts. There are none if no instruction
    differs. A patch has no runs, so it wants a buffer.
-   Promised: the patch was lawful (IsPatch), and the region has its bytes (IsModified) [modified]. A buffer was lent [lent]. It has the
-   patch's acts (log_of_modify) [reported, pending, at].
+   Promised: the patch was lawful (IsPatch), and the region has its bytes (IsPatched) [patched]. A buffer was lent [lent]. It has the
+   patch's acts (log_of_patch) [reported, pending, at].
    Refused: NC_UNDER_WAY; NC_NO_ROOM, if `len` is at most 32 and the buffer shorter than 3 * `len`, even of length 0; 16 to 21 [refused,
    allowed, unchanged, untouched]. */
 NcChange nc_region_patch(NcRegion *region, uint32_t at, const uint8_t *bytes, size_t len, NcAct *acts, size_t acts_len);

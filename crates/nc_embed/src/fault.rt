@@ -26,7 +26,7 @@ pub enum HostFault {
     #[error("{0}")]
     Load(#[from] LoadFault),
     #[error("not patched: {0}")]
-    Modify(#[from] ModifyFault),
+    Patch(#[from] ModifyFault),
     #[error("not deleted: {0}")]
     Delete(#[from] DeleteFault),
     #[error("not entered: {0}")]

@@ -27,7 +27,7 @@ use Rattle.nc_histories.proofs.CallSteps.{call_steps}
 use Rattle.nc_histories.proofs.WordSteps.{KnowsSteps, knows_first, knows_more, all_keepers}
 use Rattle.nc_histories.proofs.Knowing.{knows_as_much}
 use Rattle.nc_histories.proofs.Keeping.{begins, keeper}
-use Rattle.nc_histories.proofs.Modified.{modified}
+use Rattle.nc_histories.proofs.Patched.{patched}
 use Rattle.nc_histories.proofs.Reclaimed.{reclaimed}
 use Rattle.nc_histories.proofs.Refusals.{refusal_same, refusal_silent}
 use Rattle.nc_histories.proofs.Fetching.{fetch_whole_after}
@@ -76,7 +76,7 @@ call_leads limit seats before old turn s knows threads found (Creates v valid li
     (still_created old turn.region v s.region valid lim is)
 call_leads limit seats before old turn s knows threads found (Patches at bytes news lawful b is made tried own) =
     turn_stays limit seats before turn.events old turn.region s knows
-    (modified limit seats before turn.events old turn.region at bytes news made s.led s.region lawful b is tried own threads)
+    (patched limit seats before turn.events old turn.region at bytes news made s.led s.region lawful b is tried own threads)
     (still_patched old turn.region at bytes news s.region lawful b is)
 call_leads limit seats before old turn s knows threads found (Deletes base stamp is stops made stamped begun own) =
     turn_stays limit seats before turn.events old turn.region s knows

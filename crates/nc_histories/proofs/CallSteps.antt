@@ -17,14 +17,14 @@ use Rattle.nc_region.specs.Deletion.{freed, unmarkings}
 use Rattle.nc_region.specs.Quiet.{retired_spans}
 use Rattle.nc_region.specs.Region.{Region}
 use Rattle.nc_histories.specs.Steps.{word_steps}
-use Rattle.nc_histories.specs.Calls.{no_details, create_events, delete_events, modify_events, reclaim_events}
+use Rattle.nc_histories.specs.Calls.{no_details, create_events, delete_events, patch_events, reclaim_events}
 use Rattle.nc_histories.specs.Histories.{AreAttempts, NoneYet, OneMore, IsCall, Creates, Patches, Deletes, Reclaims, UsesKeeper, Refuses, Keeps}
 use Rattle.nc_histories.proofs.Entries.{events_of_only_acts}
 use Rattle.nc_histories.proofs.Refusals.{refusal_same, refusal_silent}
 use Rattle.nc_histories.proofs.WordSteps.{steps_append, all_keepers}
 use Rattle.nc_histories.proofs.Reclaiming.{frees, frees_same}
 use Rattle.nc_histories.proofs.lives.TextEvents.{AreOfText, create_first, create_second, create_first_text, create_second_text, create_parts}
-use Rattle.nc_histories.proofs.lives.TextEvents.{modify_text, delete_front, delete_parts, delete_front_text}
+use Rattle.nc_histories.proofs.lives.TextEvents.{patch_text, delete_front, delete_parts, delete_front_text}
 
 -- events of the text are no steps
 pub text_steps : (events : List Event) → AreOfText events → word_steps events ≡ []
@@ -80,8 +80,8 @@ create_steps v =
     ∙ (λ i. text_steps (create_first v) (create_first_text v) i ++ text_steps (create_second v) (create_second_text v) i))
 
 -- the events of a patch are no steps
-modify_steps : (text : List ℕ) (at : ℕ) (news : List Piece) → word_steps (modify_events text at news) ≡ []
-modify_steps text at news = text_steps (modify_events text at news) (modify_text text at news)
+patch_steps : (text : List ℕ) (at : ℕ) (news : List Piece) → word_steps (patch_events text at news) ≡ []
+patch_steps text at news = text_steps (patch_events text at news) (patch_text text at news)
 
 -- looks at seats are loads of their words
 look_steps : (a n : ℕ) → word_steps (map Looks (range_with_len a n)) ≡ map TookWord (range_with_len a n)
@@ -125,7 +125,7 @@ call_steps seats old new own many (Creates v valid lim is made tried same) =
     silent old new own (ap (λ (r : Region). r.keeper) is.others) (tried_steps (create_events v) made own tried (create_steps v) same)
 call_steps seats old new own many (Patches at bytes news lawful b is made tried same) =
     silent old new own (ap (λ (r : Region). r.keeper) is.others)
-    (tried_steps (modify_events old.marked.bytes at news) made own tried (modify_steps old.marked.bytes at news) same)
+    (tried_steps (patch_events old.marked.bytes at news) made own tried (patch_steps old.marked.bytes at news) same)
 call_steps seats old new own many (Deletes base stamp is stops made stamped tried same) =
     subst (KeeperSteps old.keeper new.keeper)
     (sym (ap (λ (l : List Event). filter is_by_keeper (word_steps l)) same

@@ -10,8 +10,8 @@ use Rattle.nc_acts.specs.declared.acts.Entry.{Entry}
 use Rattle.nc_acts.specs.declared.acts.Entry.TheVariants.{Did, Serialized}
 use Rattle.nc_acts.specs.Acts.{puts_where, is_inside, is_start, is_marked_at, is_unmarked_at}
 use Rattle.nc_acts.specs.Log.{only_acts}
-use Rattle.nc_region.specs.Patch.{any_place, stands_there, log_of_instruction, log_of_modify}
-use Rattle.nc_histories.specs.Calls.{Details, no_details, events_of_act, events_of_log, create_events, modify_events, delete_events}
+use Rattle.nc_region.specs.Patch.{any_place, stands_there, log_of_instruction, log_of_patch}
+use Rattle.nc_histories.specs.Calls.{Details, no_details, events_of_act, events_of_log, create_events, patch_events, delete_events}
 
 -- the events that acts are, with no serialization among them
 abbrev pub events_of : Details → List Act → List Event
@@ -82,10 +82,10 @@ instruction_events at (byte ∷ next ∷ rest) =
     Puts at 244 ∷ Serializes ∷ (events_of no_details (puts_where any_place (at + 1) (next ∷ rest)) ++ (Serializes ∷ Puts at byte ∷ []))
 
 -- the events of all instructions of a patch
-abbrev pub patch_events : List ℕ → ℕ → List Piece → List Event
-patch_events text at [] = []
-patch_events text at (p ∷ rest) =
-    cond (stands_there text at p.bytes) [] (instruction_events at p.bytes) ++ patch_events text (at + length p.bytes) rest
+abbrev pub events_of_instructions : List ℕ → ℕ → List Piece → List Event
+events_of_instructions text at [] = []
+events_of_instructions text at (p ∷ rest) =
+    cond (stands_there text at p.bytes) [] (instruction_events at p.bytes) ++ events_of_instructions text (at + length p.bytes) rest
 
 -- the log of an instruction
 instruction_is : (at : ℕ) (bytes : List ℕ) → events_of_log no_details (log_of_instruction at bytes) ≡ instruction_events at bytes
@@ -102,12 +102,12 @@ turn_is true at bytes = refl
 turn_is false at bytes = instruction_is at bytes
 
 -- the events of a patch are those of its instructions
-pub modify_is : (text : List ℕ) (at : ℕ) (news : List Piece) → modify_events text at news ≡ patch_events text at news
-modify_is text at [] = refl
-modify_is text at (n ∷ ns) =
+pub patch_is : (text : List ℕ) (at : ℕ) (news : List Piece) → patch_events text at news ≡ events_of_instructions text at news
+patch_is text at [] = refl
+patch_is text at (n ∷ ns) =
     log_append no_details (cond (stands_there text at n.bytes) [] (log_of_instruction at n.bytes))
-    (log_of_modify text (at + length n.bytes) ns)
-    ∙ (ap (λ (z : List Event). z ++ events_of_log no_details (log_of_modify text (at + length n.bytes) ns))
+    (log_of_patch text (at + length n.bytes) ns)
+    ∙ (ap (λ (z : List Event). z ++ events_of_log no_details (log_of_patch text (at + length n.bytes) ns))
     (turn_is (stands_there text at n.bytes) at n.bytes)
     ∙ ap (λ (z : List Event). cond (stands_there text at n.bytes) [] (instruction_events at n.bytes) ++ z)
-    (modify_is text (at + length n.bytes) ns))
+    (patch_is text (at + length n.bytes) ns))

@@ -22,7 +22,7 @@ pub mod Knowing
 pub mod OneMoreCall
 pub mod WordSteps
 pub mod CallSteps
-pub mod Modified
+pub mod Patched
 pub mod Looking
 pub mod Keeping
 pub mod Reclaiming

@@ -15,12 +15,12 @@ use Rattle.nc_region.specs.Region.{Region, IsCreated, IsRefused, MayRefuse, Meet
 use Rattle.nc_acts.specs.Log.{Logs, log_of_create, log_of_delete}
 use Rattle.nc_acts.proofs.Offered.{logs_none}
 use Rattle.nc_region.specs.Deletion.{IsDeleted, MayRefuseDelete, IsReclaimed}
-use Rattle.nc_region.specs.Patch.{IsPatch, IsModified, MayRefusePatch, AreBytesOf, log_of_modify}
+use Rattle.nc_region.specs.Patch.{IsPatch, IsPatched, MayRefusePatch, AreBytesOf, log_of_patch}
 use Rattle.nc_region.specs.Quiet.{retired_spans}
 use Rattle.nc_region.proofs.Offered.{listed_there}
 use Rattle.nc_histories.specs.Interleaving.{IsKeepers}
 use Rattle.nc_histories.specs.Calls.{Details, no_details, events_of_log}
-use Rattle.nc_histories.specs.Histories.{IsRefusal, OfCreation, OfPatch, OfDeletion, LogsRefusal}
+use Rattle.nc_histories.specs.Histories.{IsRefusal, OfRefusedCreation, OfRefusedPatch, OfRefusedDeletion, LogsRefusal}
 use Rattle.nc_histories.specs.Histories.{NoneYet, IsCall, Creates, Patches, Deletes, Reclaims, UsesKeeper, Refuses, Keeps, LogsCall}
 use Rattle.nc_histories.proofs.Entries.{stops_of, stops_then}
 use Rattle.nc_histories.proofs.Refusals.{same_but_pages, refusal_same}
@@ -65,17 +65,17 @@ pub refuses : {T : Type 0} (answer : Result T (MarkedChunk × CreateFault)) (sea
     → IfErr answer (λ e. (e.0 ≡ v) × IsRefused old new v e.1) → IfErr answer (λ e. MayRefuse old v e.1)
     → OnErr answer (LogsRefusal old new × LogsCall seats no_details old new)
 refuses (Ok x) seats old new v is due = tt
-refuses (Err e) seats old new v is due = logs_both seats old new (OfCreation v e.1 due is.1 refl)
+refuses (Err e) seats old new v is due = logs_both seats old new (OfRefusedCreation v e.1 due is.1 refl)
 
 -- a patch, accepted or refused
 pub patches : {T E : Type 0} (answer : Result T E) (seats : ℕ) (old new : Region) (at : ℕ) (bytes : List ℕ)
-    → OnOk answer (IsPatch old at bytes) → OnOk answer (IsModified old new at bytes)
+    → OnOk answer (IsPatch old at bytes) → OnOk answer (IsPatched old new at bytes)
     → OnOk answer ((news : List Piece) → AreBytesOf bytes news
-    → Logs old.logged new.logged (log_of_modify old.marked.bytes at news))
+    → Logs old.logged new.logged (log_of_patch old.marked.bytes at news))
     → IfErr answer (λ e. new ≡ old) → LogsCall seats no_details old new
 patches (Ok x) seats old new at bytes lawful is log same =
     let run = lawful.1.2.0.run in
-    logs_call seats no_details old new (log_of_modify old.marked.bytes at run.news) (log run.news run.bytes)
+    logs_call seats no_details old new (log_of_patch old.marked.bytes at run.news) (log run.news run.bytes)
     (Patches at bytes run.news lawful run.bytes is [] NoneYet refl)
 patches (Err e) seats old new at bytes lawful is log same = keeps_logged seats old new same
 
@@ -83,7 +83,7 @@ patches (Err e) seats old new at bytes lawful is log same = keeps_logged seats o
 pub patches_nothing : {T : Type 0} (answer : Result T ModifyFault) (old new : Region) (at : ℕ) (bytes : List ℕ)
     → IfErr answer (λ e. new ≡ old) → IfErr answer (MayRefusePatch old at bytes) → OnErr answer (LogsRefusal old new)
 patches_nothing (Ok x) old new at bytes same due = tt
-patches_nothing (Err e) old new at bytes same due = logs_refusal old new (OfPatch at bytes e due same refl)
+patches_nothing (Err e) old new at bytes same due = logs_refusal old new (OfRefusedPatch at bytes e due same refl)
 
 -- an accepted deletion is logged as a call
 pub deletes : {E : Type 0} (answer : Result ℕ E) (seats : ℕ) (old new : Region) (base : ℕ) → IfOk answer (IsDeleted old new base)
@@ -106,7 +106,7 @@ pub deletes_nothing : {T : Type 0} (answer : Result T DeleteFault) (seats : ℕ)
     → OnErr answer (new ≡ old) → IfErr answer (MayRefuseDelete old base)
     → OnErr answer (LogsRefusal old new × LogsCall seats no_details old new)
 deletes_nothing (Ok x) seats old new base same due = tt
-deletes_nothing (Err e) seats old new base same due = logs_both seats old new (OfDeletion base e due same refl)
+deletes_nothing (Err e) seats old new base same due = logs_both seats old new (OfRefusedDeletion base e due same refl)
 
 -- a reclaim is logged as a call
 pub reclaims : (seats : ℕ) (old new : Region) (count : ℕ) → IsReclaimed old new count

@@ -1,9 +1,9 @@
 -- What proofs of the crates above may use of this crate: what a history keeps from one call to the next, and what each call leads
 -- to. The other files are private.
-pub use Rattle.nc_histories.proofs.Entries.{events_of, log_append, create_is, stops_of, stops_then, instruction_events, patch_events, modify_is}
+pub use Rattle.nc_histories.proofs.Entries.{events_of, log_append, create_is, stops_of, stops_then, instruction_events, events_of_instructions, patch_is}
 pub use Rattle.nc_histories.proofs.Trying.{attempts_again, attempts_none}
 pub use Rattle.nc_histories.proofs.OneMoreCall.{Grows, goes_on, created, deleted}
-pub use Rattle.nc_histories.proofs.Modified.{modified}
+pub use Rattle.nc_histories.proofs.Patched.{patched}
 pub use Rattle.nc_histories.proofs.Reclaimed.{reclaimed}
 pub use Rattle.nc_histories.proofs.Instances.{begins_unused, refused}
 pub use Rattle.nc_histories.proofs.Looking.{KeeperOnly, keeper_interleaved}

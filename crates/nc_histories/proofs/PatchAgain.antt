@@ -24,11 +24,11 @@ use Rattle.nc_histories.proofs.Agreeing.{agrees_itself, agrees_more, agrees_wide
 use Rattle.nc_histories.proofs.Between.{IsInPlace, Changing, IsBetween, between_old, between_more, between_new, with_new}
 use Rattle.nc_histories.proofs.Between.{new_agrees, new_there, replaces, not_kept, stands_still}
 use Rattle.nc_histories.proofs.Deletion.{Agrees}
-use Rattle.nc_histories.proofs.Entries.{events_of, instruction_events, patch_events}
+use Rattle.nc_histories.proofs.Entries.{events_of, instruction_events, events_of_instructions}
 use Rattle.nc_histories.proofs.Fronts.{split_joined, AreFirstPuts, all_puts, first_puts, no_more, may_lay_some}
 use Rattle.nc_histories.proofs.OnePut.{byte_there}
 use Rattle.nc_histories.proofs.Parting.{region_good, region_stopped}
-use Rattle.nc_histories.proofs.Patching.{Sound, Open, stop_put, may_lay_rest, instruction_leads, held_place, patched_region}
+use Rattle.nc_histories.proofs.Patching.{Sound, Open, stop_put, may_lay_rest, instruction_leads, held_place, patch_keeps_region}
 use Rattle.nc_histories.proofs.Patching.{Starts as PatchStarts, starts}
 use Rattle.nc_histories.proofs.Putting.{with_text, serialized, Views, Leads, Reaches, leads_none, leads_more, put_leads, serialization_leads}
 use Rattle.nc_histories.proofs.Putting.{serialized_views, lay_all}
@@ -289,7 +289,7 @@ code_long n ns = length-append n.bytes (code_of ns)
 abbrev GoOn : World → List Chunk → List ℕ → ℕ → List Piece → Type 0
 GoOn w chunks final at ns =
     (now : List ℕ) (before : List (List ℕ)) → Between w final now → Views (λ view. Sound w chunks view) now before
-    → (part later : List Event) → part ++ later ≡ patch_events w.marked.bytes at ns
+    → (part later : List Event) → part ++ later ≡ events_of_instructions w.marked.bytes at ns
     → HasGone w chunks final at (length (code_of ns)) now before part
 
 -- the first events of an instruction and others
@@ -297,13 +297,13 @@ turn_gone : (n : Piece) (ns : List Piece) (w : World) (chunks : List Chunk) (fin
     (before : List (List ℕ)) → ChangesTo w chunks final → IsInPlace w.marked.marks chunks final at n.bytes → Between w final now
     → Views (λ view. Sound w chunks view) now before → GoOn w chunks final (at + length n.bytes) ns → (part later : List Event)
     → (stood : Bool) → stands_there w.marked.bytes at n.bytes ≡ stood
-    → part ++ later ≡ cond stood [] (instruction_events at n.bytes) ++ patch_events w.marked.bytes (at + length n.bytes) ns
+    → part ++ later ≡ cond stood [] (instruction_events at n.bytes) ++ events_of_instructions w.marked.bytes (at + length n.bytes) ns
     → HasGone w chunks final at (length (code_of (n ∷ ns))) now before part
 turn_gone n ns w chunks final at now before c s b views others part later true stood same =
     gone_wider w chunks final (at + length n.bytes) (length (code_of ns)) at (length (code_of (n ∷ ns))) now before part (omega arith)
     (omega (arith, code_long n ns)) (others now before b views part later same)
 turn_gone n ns w chunks final at now before c s b views others part later false fresh same =
-    elim (split_joined part later (instruction_events at n.bytes) (patch_events w.marked.bytes (at + length n.bytes) ns) same) [
+    elim (split_joined part later (instruction_events at n.bytes) (events_of_instructions w.marked.bytes (at + length n.bytes) ns) same) [
       | inl f ↦
           gone_wider w chunks final at (length n.bytes) at (length (code_of (n ∷ ns))) now before part (omega arith)
           (omega (arith, code_long n ns))
@@ -333,7 +333,7 @@ front_gone (n ∷ ns) w chunks final at c all = λ now before b views part later
 -- any number of attempts at a patch
 attempts_gone : (ns : List Piece) (w : World) (chunks : List Chunk) (final : List ℕ) (at : ℕ) → ChangesTo w chunks final
     → AllStand w.marked.marks chunks final at ns → Views (λ view. Sound w chunks view) w.marked.bytes w.earlier → (made : List Event)
-    → AreAttempts (patch_events w.marked.bytes at ns) made
+    → AreAttempts (events_of_instructions w.marked.bytes at ns) made
     → HasGone w chunks final at (length (code_of ns)) w.marked.bytes w.earlier made
 attempts_gone ns w chunks final at c all views [] NoneYet =
     none_gone w chunks final at (length (code_of ns)) w.marked.bytes w.earlier (between_old w.marked.marks w.marked.bytes final) views
@@ -354,10 +354,10 @@ turn_done : (n : Piece) (ns : List Piece) (w : World) (chunks : List Chunk) (fin
     → Views (λ view. Sound w chunks view) now before → Agrees at (length (code_of (n ∷ ns))) final now
     → ((later : List ℕ) (earlier : List (List ℕ)) → Between w final later → Views (λ view. Sound w chunks view) later earlier
     → Agrees (at + length n.bytes) (length (code_of ns)) final later
-    → HasEnded w chunks final later earlier (patch_events w.marked.bytes (at + length n.bytes) ns))
+    → HasEnded w chunks final later earlier (events_of_instructions w.marked.bytes (at + length n.bytes) ns))
     → (stood : Bool) → stands_there w.marked.bytes at n.bytes ≡ stood
     → HasEnded w chunks final now before
-    (cond stood [] (instruction_events at n.bytes) ++ patch_events w.marked.bytes (at + length n.bytes) ns)
+    (cond stood [] (instruction_events at n.bytes) ++ events_of_instructions w.marked.bytes (at + length n.bytes) ns)
 turn_done n ns w chunks final at now before c s b views agrees others true stood =
     others now before b views
     (agrees_rest at (length n.bytes) (length (code_of ns)) (length (code_of (n ∷ ns))) final now (code_long n ns) agrees
@@ -375,7 +375,7 @@ turn_done n ns w chunks final at now before c s b views agrees others false fres
     record {
       earlier = h.earlier;
       leads = leads_more (with_text w now before) (with_text w g.bytes g.earlier) (with_text w final h.earlier)
-          (instruction_events at n.bytes) (patch_events w.marked.bytes (at + length n.bytes) ns) g.leads h.leads;
+          (instruction_events at n.bytes) (events_of_instructions w.marked.bytes (at + length n.bytes) ns) g.leads h.leads;
       views = h.views;
     }
 
@@ -383,7 +383,7 @@ turn_done n ns w chunks final at now before c s b views agrees others false fres
 all_gone : (ns : List Piece) (w : World) (chunks : List Chunk) (final : List ℕ) (at : ℕ) (now : List ℕ) (before : List (List ℕ))
     → ChangesTo w chunks final → AllStand w.marked.marks chunks final at ns → Between w final now
     → Views (λ view. Sound w chunks view) now before → Agrees at (length (code_of ns)) final now
-    → HasEnded w chunks final now before (patch_events w.marked.bytes at ns)
+    → HasEnded w chunks final now before (events_of_instructions w.marked.bytes at ns)
 all_gone [] w chunks final at now before c all b views agrees =
     subst (λ (z : List ℕ). HasEnded w chunks z now before []) (agrees_all at final now agrees)
     (record { earlier = before; leads = leads_none (with_text w now before); views = views })
@@ -457,14 +457,15 @@ all_stand (n ∷ ns) marked chunks c at new region has live from patch b ends hi
 pub patch_leads : (news : List Piece) (w : World) (chunks : List Chunk) (c : Chunk) (at : ℕ) (new : List ℕ) (made : List Event)
     → IsRegion w.marked chunks → AreSpansOf w.retired chunks → Contains chunks c → IsLive c.state → c.base ≤ at → CanPatch w.marked c at new
     → AreBytesOf new news → at + length new ≤ c.base + c.length → Views (λ view. Sound w chunks view) w.marked.bytes w.earlier
-    → AreAttempts (patch_events w.marked.bytes at news) made
-    → Reaches w (made ++ patch_events w.marked.bytes at news) (record w { marked = changed w.marked at new }) (λ view. Sound w chunks view)
+    → AreAttempts (events_of_instructions w.marked.bytes at news) made
+    → Reaches w (made ++ events_of_instructions w.marked.bytes at news) (record w { marked = changed w.marked at new })
+    (λ view. Sound w chunks view)
 patch_leads news w chunks c at new made region are has live from patch b ends views attempts =
     let l = lies w.marked c region.whole patch.holds in
     let final : List ℕ = (changed w.marked at new).bytes in
     let low : 65536 ≤ at = omega (arith, l.low, from) in
     let high : at + length new ≤ 65536 + length w.marked.bytes = omega (arith, l.high, ends) in
-    let later = patched_region news w.marked chunks c at new region has live from patch b ends in
+    let later = patch_keeps_region news w.marked chunks c at new region has live from patch b ends in
     let changing : ChangesTo w chunks (changed w.marked at new).bytes =
     record {
       before = record { good = region_good w.marked chunks w.retired region are; stopped = region_stopped w.marked chunks region };
@@ -485,6 +486,6 @@ patch_leads news w chunks c at new made region are has live from patch b ends vi
     record {
       earlier = d.earlier;
       leads = leads_more w (with_text w g.bytes g.earlier) (record w { marked = changed w.marked at new; earlier = d.earlier }) made
-          (patch_events w.marked.bytes at news) g.leads d.leads;
+          (events_of_instructions w.marked.bytes at news) g.leads d.leads;
       views = d.views;
     }

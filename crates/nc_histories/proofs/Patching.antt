@@ -369,13 +369,13 @@ no_patch marked at new b =
     sym (ap (λ (z : List ℕ). with_span marked.bytes (at - 65536) z) b.parts ∙ span_none marked.bytes (at - 65536))
 
 -- a region's text with a lawful patch is a region's
-pub patched_region : (news : List Piece) (marked : MarkedText) (chunks : List Chunk) (c : Chunk) (at : ℕ) (new : List ℕ)
+pub patch_keeps_region : (news : List Piece) (marked : MarkedText) (chunks : List Chunk) (c : Chunk) (at : ℕ) (new : List ℕ)
     → IsRegion marked chunks → Contains chunks c → IsLive c.state → c.base ≤ at → CanPatch marked c at new → AreBytesOf new news
     → at + length new ≤ c.base + c.length → IsRegion (changed marked at new) chunks
-patched_region [] marked chunks c at new region has live from patch b ends =
+patch_keeps_region [] marked chunks c at new region has live from patch b ends =
     subst (λ (z : List ℕ). IsRegion (text_of z marked.marks) chunks) (no_patch marked at new b) region
-patched_region (n ∷ ns) marked chunks c at new region has live from patch b ends =
+patch_keeps_region (n ∷ ns) marked chunks c at new region has live from patch b ends =
     let s = starts marked chunks c at new n ns region has live from patch b ends in
     subst (λ (z : List ℕ). IsRegion (text_of z marked.marks) chunks) s.text
-    (patched_region ns (changed marked at n.bytes) chunks c (at + length n.bytes) (code_of ns) s.region has live (omega (arith, from))
+    (patch_keeps_region ns (changed marked at n.bytes) chunks c (at + length n.bytes) (code_of ns) s.region has live (omega (arith, from))
     s.patch_rest s.bytes_rest (omega (arith, ends, s.long)))

@@ -8,7 +8,7 @@ use Rattle.nc_region.specs.schedules.Events.{Event, Steps, Enters, Exits, Takes,
 use Rattle.nc_region.specs.schedules.Events.{Looks, after, world_after}
 use Rattle.nc_region.specs.Region.{Region, IsRefused}
 use Rattle.nc_histories.specs.Interleaving.{writers}
-use Rattle.nc_histories.specs.Histories.{IsRefusal, OfCreation, OfPatch, OfDeletion, Turn}
+use Rattle.nc_histories.specs.Histories.{IsRefusal, OfRefusedCreation, OfRefusedPatch, OfRefusedDeletion, Turn}
 
 -- an equal region is the same but for pages
 pub same_but_pages : (old new : Region) → new ≡ old → new ≡ record old { made = new.made }
@@ -23,15 +23,15 @@ refused_same old new v OutOfMemory pages = pages.0
 
 -- a refused call leaves the region as it was but for pages
 pub refusal_same : (old new : Region) (own : List Event) → IsRefusal old new own → new ≡ record old { made = new.made }
-refusal_same old new own (OfCreation v fault due is none) = refused_same old new v fault is
-refusal_same old new own (OfPatch at bytes fault due same none) = same_but_pages old new same
-refusal_same old new own (OfDeletion base fault due same none) = same_but_pages old new same
+refusal_same old new own (OfRefusedCreation v fault due is none) = refused_same old new v fault is
+refusal_same old new own (OfRefusedPatch at bytes fault due same none) = same_but_pages old new same
+refusal_same old new own (OfRefusedDeletion base fault due same none) = same_but_pages old new same
 
 -- a refused call has no event
 pub refusal_silent : (old new : Region) (own : List Event) → IsRefusal old new own → own ≡ []
-refusal_silent old new own (OfCreation v fault due is none) = none
-refusal_silent old new own (OfPatch at bytes fault due same none) = none
-refusal_silent old new own (OfDeletion base fault due same none) = none
+refusal_silent old new own (OfRefusedCreation v fault due is none) = none
+refusal_silent old new own (OfRefusedPatch at bytes fault due same none) = none
+refusal_silent old new own (OfRefusedDeletion base fault due same none) = none
 
 -- threads by themselves change nothing of a world but its seats
 pub only_seats : (w : World) (events : List Event) → writers events ≡ []

@@ -12,13 +12,13 @@ use Rattle.nc_list.specs.declared.chunk.Chunk.{Chunk}
 use Rattle.nc_gens.specs.Seen.{least_number}
 use Rattle.nc_acts.specs.Chunks.{HasGoodSpan}
 use Rattle.nc_region.specs.Deletion.{is_due, freed, kept, unmarked, IsDeleted, IsReclaimed}
-use Rattle.nc_region.specs.Patch.{IsPatch, IsModified, AreBytesOf}
+use Rattle.nc_region.specs.Patch.{IsPatch, IsPatched, AreBytesOf}
 use Rattle.nc_region.specs.Region.{Region, IsLive, IsRegion, IsCreated}
 use Rattle.nc_region.proofs.Offered.{due_dead, each_get, listed_there, same_code, region_deleted, region_freed, changed}
 use Rattle.nc_region.proofs.Offered.{place_of, Before, Within, Behind, before_span, span_before, span_behind, span_within}
 use Rattle.nc_histories.proofs.Creation.{created_region}
 use Rattle.nc_histories.proofs.Good.{text_of}
-use Rattle.nc_histories.proofs.Patching.{patched_region, patch_can, patch_ends}
+use Rattle.nc_histories.proofs.Patching.{patch_keeps_region, patch_can, patch_ends}
 
 -- after a creation the region is still one (`IsRegion`)
 pub still_created : (old new : Region) (v : MarkedChunk) → IsRegion old.marked old.chunks → IsValid v
@@ -33,7 +33,7 @@ still_created old new v region valid limit is =
 
 -- after a patch the region is still one (`IsRegion`)
 pub still_patched : (old new : Region) (at : ℕ) (bytes : List ℕ) (news : List Piece) → IsRegion old.marked old.chunks
-    → IsPatch old at bytes → AreBytesOf bytes news → IsModified old new at bytes → IsRegion new.marked new.chunks
+    → IsPatch old at bytes → AreBytesOf bytes news → IsPatched old new at bytes → IsRegion new.marked new.chunks
 still_patched old new at bytes news region lawful b is =
     let held = lawful.1.1 in
     let patch = patch_can old at bytes lawful in
@@ -42,7 +42,7 @@ still_patched old new at bytes news region lawful b is =
     same_code new.marked (changed old.marked at bytes) is.patched (ap (λ (r : Region). r.marked.marks) is.others) in
     subst (λ (m : MarkedText). IsRegion m new.chunks) (sym same)
     (subst (IsRegion (changed old.marked at bytes)) (sym (ap (λ (r : Region). r.chunks) is.others))
-    (patched_region news old.marked old.chunks lawful.1.0 at bytes region held.0 held.1 held.2.0 patch b ends))
+    (patch_keeps_region news old.marked old.chunks lawful.1.0 at bytes region held.0 held.1 held.2.0 patch b ends))
 
 -- a text in which a whole span is stops is closed
 stopped_closed : (marked : MarkedText) (base len : ℕ) → IsClosed marked.bytes marked.marks

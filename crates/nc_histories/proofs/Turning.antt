@@ -6,7 +6,7 @@ use Rattle.nc_acts.specs.declared.acts.Act.TheVariants.{Put}
 use Rattle.nc_acts.specs.Acts.{puts_where}
 use Rattle.nc_region.specs.Patch.{any_place, stands_there}
 use Rattle.nc_histories.specs.Calls.{Details, no_details}
-use Rattle.nc_histories.proofs.Entries.{events_of, instruction_events, patch_events}
+use Rattle.nc_histories.proofs.Entries.{events_of, instruction_events, events_of_instructions}
 
 module _ (P : List Event → Type 0) (put : (at byte : ℕ) (more : List Event) → P more → P (Puts at byte ∷ more))
     (serialized : (more : List Event) → P more → P (Serializes ∷ more)) where
@@ -38,8 +38,8 @@ module _ (P : List Event → Type 0) (put : (at byte : ℕ) (more : List Event) 
   turn_keeps false at bytes more p = instruction_keeps at bytes more p
 
   -- all instructions of a patch keep P
-  pub patch_keeps : P [] → (text : List ℕ) (at : ℕ) (news : List Piece) → P (patch_events text at news)
+  pub patch_keeps : P [] → (text : List ℕ) (at : ℕ) (news : List Piece) → P (events_of_instructions text at news)
   patch_keeps none text at [] = none
   patch_keeps none text at (n ∷ ns) =
-      turn_keeps (stands_there text at n.bytes) at n.bytes (patch_events text (at + length n.bytes) ns)
+      turn_keeps (stands_there text at n.bytes) at n.bytes (events_of_instructions text (at + length n.bytes) ns)
       (patch_keeps none text (at + length n.bytes) ns)

@@ -15,7 +15,7 @@ use Rattle.nc_acts.specs.declared.acts.Act.TheVariants.{Put, MarkSpan, UnmarkSpa
 use Rattle.nc_acts.specs.declared.acts.Entry.{Entry}
 use Rattle.nc_acts.specs.declared.acts.Entry.TheVariants.{Did, Serialized}
 use Rattle.nc_acts.specs.Log.{only_acts, log_of_create, log_of_delete}
-use Rattle.nc_region.specs.Patch.{log_of_modify}
+use Rattle.nc_region.specs.Patch.{log_of_patch}
 use Rattle.nc_region.specs.Deletion.{freed, unmarkings}
 use Rattle.nc_region.specs.Quiet.{retired_spans}
 use Rattle.nc_region.specs.Region.{Region}
@@ -87,8 +87,8 @@ abbrev pub create_events : MarkedChunk → List Event
 create_events v = events_of_log (record no_details { marks = v.marks }) (log_of_create v.base v.code)
 
 -- the events of the log of a patch
-abbrev pub modify_events : List ℕ → ℕ → List Piece → List Event
-modify_events text at news = events_of_log no_details (log_of_modify text at news)
+abbrev pub patch_events : List ℕ → ℕ → List Piece → List Event
+patch_events text at news = events_of_log no_details (log_of_patch text at news)
 
 -- the events of the log of a deletion, in which drawing the stamp retires the chunk's span
 abbrev pub delete_events : List Mark → ℕ → ℕ → List Event

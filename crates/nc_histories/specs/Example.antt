@@ -8,10 +8,10 @@ use Rattle.nc_gens.specs.Seen.{KeeperState}
 use Rattle.nc_region.specs.schedules.World.{first_world, seat_at}
 use Rattle.nc_region.specs.schedules.Events.{Event, Steps, Exits, Takes, Stores, Puts, Frees, Looks, world_after}
 use Rattle.nc_region.specs.Region.{Region, IsCreated}
-use Rattle.nc_region.specs.Patch.{AreBytesOf, IsModified}
+use Rattle.nc_region.specs.Patch.{AreBytesOf, IsPatched}
 use Rattle.nc_region.specs.Deletion.{IsDeleted, IsReclaimed}
 use Rattle.nc_histories.specs.Interleaving.{writers}
-use Rattle.nc_histories.specs.Calls.{create_events, modify_events, delete_events}
+use Rattle.nc_histories.specs.Calls.{create_events, patch_events, delete_events}
 use Rattle.nc_histories.specs.Histories.{Turn, IsHistory, happened, region_at_end}
 
 -- a new region up to this limit, over this keeper: no page is made, and nothing is logged
@@ -51,10 +51,10 @@ pub record CreatesAround (v : MarkedChunk) (keeper : KeeperState) (turn : Turn) 
 
 -- the turn puts these bytes from this address on, as a patch, and the thread does nothing
 pub record PatchesAt (old : Region) (at : ℕ) (bytes : List ℕ) (turn : Turn) : Type 0 where
-  pub modified : IsModified old turn.region at bytes
+  pub patched : IsPatched old turn.region at bytes
   pub news : List Piece
   pub bytes_are : AreBytesOf bytes news
-  pub own : turn.events ≡ modify_events old.marked.bytes at news
+  pub own : turn.events ≡ patch_events old.marked.bytes at news
 
 -- A history of a region with one seat. Its first turn creates the chunk while the thread enters it. Then come the turns
 -- `between`. Then the thread takes steps from the chunk's base along the path, and the chunk is deleted while the thread is in

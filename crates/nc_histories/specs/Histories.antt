@@ -17,19 +17,19 @@ use Rattle.nc_region.specs.declared.fault.ModifyFault.{ModifyFault}
 use Rattle.nc_region.specs.declared.fault.DeleteFault.{DeleteFault}
 use Rattle.nc_region.specs.Region.{Region, IsCreated, IsRefused, MayRefuse}
 use Rattle.nc_region.specs.Deletion.{IsDeleted, MayRefuseDelete, IsReclaimed}
-use Rattle.nc_region.specs.Patch.{IsPatch, IsModified, MayRefusePatch, AreBytesOf}
+use Rattle.nc_region.specs.Patch.{IsPatch, IsPatched, MayRefusePatch, AreBytesOf}
 use Rattle.nc_histories.specs.Interleaving.{writers, IsKeepers, IsNoLook, ThreadsMay}
 use Rattle.nc_histories.specs.Steps.{word_steps}
-use Rattle.nc_histories.specs.Calls.{Details, events_of_log, create_events, modify_events, delete_events, reclaim_events}
+use Rattle.nc_histories.specs.Calls.{Details, events_of_log, create_events, patch_events, delete_events, reclaim_events}
 
 -- A refused creation, patch or deletion, as its contract describes it. It has no event, and its fault is one that the call
 -- may return there. A patch or a deletion leaves an equal region; a creation may have made pages (`IsRefused`).
 pub data IsRefusal (old new : Region) (own : List Event) : Type 0 where
-  OfCreation : (v : MarkedChunk) (fault : CreateFault) → MayRefuse old v fault → IsRefused old new v fault → own ≡ []
+  OfRefusedCreation : (v : MarkedChunk) (fault : CreateFault) → MayRefuse old v fault → IsRefused old new v fault → own ≡ []
       → IsRefusal old new own
-  OfPatch : (at : ℕ) (bytes : List ℕ) (fault : ModifyFault) → MayRefusePatch old at bytes fault → new ≡ old → own ≡ []
+  OfRefusedPatch : (at : ℕ) (bytes : List ℕ) (fault : ModifyFault) → MayRefusePatch old at bytes fault → new ≡ old → own ≡ []
       → IsRefusal old new own
-  OfDeletion : (base : ℕ) (fault : DeleteFault) → MayRefuseDelete old base fault → new ≡ old → own ≡ [] → IsRefusal old new own
+  OfRefusedDeletion : (base : ℕ) (fault : DeleteFault) → MayRefuseDelete old base fault → new ≡ old → own ≡ [] → IsRefusal old new own
 
 -- Attempts at these events: prefixes of them, one after the other, each possibly empty or whole.
 pub data AreAttempts (events : List Event) : List Event → Type 0 where
@@ -45,9 +45,9 @@ pub data AreAttempts (events : List Event) : List Event → Type 0 where
 pub data IsCall (seats : ℕ) (old new : Region) (own : List Event) : Type 0 where
   Creates : (v : MarkedChunk) → IsValid v → v.limit ≡ limit_of old.marked.bytes → IsCreated old new v → (attempts : List Event)
       → AreAttempts (create_events v) attempts → own ≡ attempts ++ create_events v → IsCall seats old new own
-  Patches : (at : ℕ) (bytes : List ℕ) (news : List Piece) → IsPatch old at bytes → AreBytesOf bytes news → IsModified old new at bytes
-      → (attempts : List Event) → AreAttempts (modify_events old.marked.bytes at news) attempts
-      → own ≡ attempts ++ modify_events old.marked.bytes at news → IsCall seats old new own
+  Patches : (at : ℕ) (bytes : List ℕ) (news : List Piece) → IsPatch old at bytes → AreBytesOf bytes news → IsPatched old new at bytes
+      → (attempts : List Event) → AreAttempts (patch_events old.marked.bytes at news) attempts
+      → own ≡ attempts ++ patch_events old.marked.bytes at news → IsCall seats old new own
   Deletes : (base stamp : ℕ) (is : IsDeleted old new base stamp) (stops attempts : List Event)
       → stops ++ Retires base is.chunk.length ∷ [] ≡ delete_events old.marked.marks base is.chunk.length → AreAttempts stops attempts
       → own ≡ attempts ++ delete_events old.marked.marks base is.chunk.length → IsCall seats old new own

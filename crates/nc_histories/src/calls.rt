@@ -11,7 +11,7 @@ ghost use Rattle.nc_gens.specs.Seen.{HasMet};
 ghost use Rattle.nc_list.specs.declared.chunk.Chunk.{Chunk};
 ghost use Rattle.nc_acts.specs.Log.{Logs, log_of_create};
 ghost use Rattle.nc_region.specs.Region.{IsCreated, IsRefused, MayRefuse, Meets};
-ghost use Rattle.nc_region.specs.Patch.{AreBytesOf, IsPatch, IsModified, MayRefusePatch, log_of_modify};
+ghost use Rattle.nc_region.specs.Patch.{AreBytesOf, IsPatch, IsPatched, MayRefusePatch, log_of_patch};
 ghost use Rattle.nc_region.specs.Deletion.{IsDeleted, MayRefuseDelete, IsReclaimed, HasProgressed};
 ghost use Rattle.nc_region.specs.schedules.Events.{Event};
 ghost use Rattle.nc_region.specs.Quiet.{retired_spans};
@@ -44,15 +44,15 @@ pub fn create<A: Acts + Drop>(
 }
 
 /// [`RegionOf::modify`]. Its log is a call of a history.
-pub fn modify<A: Acts + Drop>(
+pub fn patch<A: Acts + Drop>(
     region: &mut RegionOf<A>,
     at: u32,
     new: &[u8],
 ) -> Result<(), ModifyFault>
     // As `RegionOf::modify` ensures it.
-    ensures modified { OnOk result (IsModified region.old region.new at new.now) }
+    ensures patched { OnOk result (IsPatched region.old region.new at new.now) }
     ensures log { OnOk result ((news : List Piece) → AreBytesOf new.now news
-        → Logs region.old.logged region.new.logged (log_of_modify region.old.marked.bytes at news)) }
+        → Logs region.old.logged region.new.logged (log_of_patch region.old.marked.bytes at news)) }
     ensures lawful { OnOk result (IsPatch region.old at new.now) }
     ensures unchanged { IfErr result (λ e. region.new ≡ region.old) }
     ensures due { IfErr result (MayRefusePatch region.old at new.now) }

@@ -12,9 +12,9 @@ ghost use Rattle.nc_region.specs.schedules.Events.{Event, world_after};
 ghost use Rattle.nc_region.specs.declared.fault.CreateFault.{CreateFault};
 ghost use Rattle.nc_region.specs.Region.{Region, IsRegion, IsCreated, IsRefused};
 ghost use Rattle.nc_region.specs.Deletion.{IsDeleted, IsReclaimed};
-ghost use Rattle.nc_region.specs.Patch.{IsPatch, IsModified, AreBytesOf};
+ghost use Rattle.nc_region.specs.Patch.{IsPatch, IsPatched, AreBytesOf};
 ghost use Rattle.nc_histories.specs.Interleaving.{writers, IsKeepers, ThreadsMay};
-ghost use Rattle.nc_histories.specs.Calls.{KnowsNoMore, HasLedTo, create_events, modify_events, delete_events, reclaim_events};
+ghost use Rattle.nc_histories.specs.Calls.{KnowsNoMore, HasLedTo, create_events, patch_events, delete_events, reclaim_events};
 
 /// The acts of each call of a region are allowed events, whatever the threads do between them.
 ///
@@ -55,9 +55,9 @@ pub fn law_of_calls()
         → IsCreated old new v → writers events ≡ create_events v
         → ThreadsMay (world_after (first_world limit seats) before) events → HasLedTo limit seats (before ++ events) new }
     // A patch.
-    ensures modified { (limit seats : ℕ) (before events : List Event) (old new : Region) (at : ℕ) (bytes : List ℕ)
+    ensures patched { (limit seats : ℕ) (before events : List Event) (old new : Region) (at : ℕ) (bytes : List ℕ)
         (news : List Piece) → HasLedTo limit seats before old → IsRegion old.marked old.chunks → IsPatch old at bytes
-        → AreBytesOf bytes news → IsModified old new at bytes → writers events ≡ modify_events old.marked.bytes at news
+        → AreBytesOf bytes news → IsPatched old new at bytes → writers events ≡ patch_events old.marked.bytes at news
         → ThreadsMay (world_after (first_world limit seats) before) events → HasLedTo limit seats (before ++ events) new }
     // A deletion.
     ensures deleted { (limit seats : ℕ) (before events : List Event) (old new : Region) (base stamp : ℕ)

@@ -16,7 +16,7 @@
 //!
 //! [`law_of_progress`] says that a reclaim frees each chunk whose stamp every seat has passed: it has checked in since, or has left.
 //!
-//! [`create`], [`modify`], [`delete`], [`reclaim`] and [`meet`] make these calls of a region, and their contracts say that the
+//! [`create`], [`patch`], [`delete`], [`reclaim`] and [`meet`] make these calls of a region, and their contracts say that the
 //! logged entries are a call of a history. Nobody has to compare `IsCall`, the calls that the laws are about, with the
 //! contracts of `nc_region`. A host calls the region itself: these functions do the same and promise nothing more.
 //!
@@ -41,7 +41,7 @@ mod history;
 mod law;
 mod progress;
 
-pub use calls::{create, delete, meet, modify, reclaim};
+pub use calls::{create, delete, meet, patch, reclaim};
 pub use example::law_of_example;
 pub use history::law_of_histories;
 pub use law::law_of_calls;

@@ -18,7 +18,7 @@ use Rattle.nc_host_handles.specs.declared.fault.RetireFault.TheVariants as retir
 use Rattle.nc_host_handles.specs.declared.vetted_handle.VettedHandle.{VettedHandle}
 use Rattle.nc_host_handles.specs.RegionHandle.{RegionHandleState}
 use Rattle.nc_host_handles.specs.Pending.{ChangesPages}
-use Rattle.nc_host.specs.Shown.{patch_number}
+use Rattle.nc_host.specs.Shown.{refused_patch_number}
 
 -- the handle had a value and has one, and the relation holds between the two
 pub record IsDone {X : Type 0} (old new : Option X) (step : X → X → Type 0) : Type 0 where
@@ -61,16 +61,16 @@ load_wanted (load.NoRoom wanted) = wanted
 load_wanted (load.Refused fault) = 0
 
 -- the number of a refused patch
-abbrev pub modify_number : PatchFault → ℕ
-modify_number patch.Underway = 37
-modify_number (patch.NoRoom wanted) = 9
-modify_number (patch.Refused fault) = patch_number fault
+abbrev pub patch_number : PatchFault → ℕ
+patch_number patch.Underway = 37
+patch_number (patch.NoRoom wanted) = 9
+patch_number (patch.Refused fault) = refused_patch_number fault
 
 -- the largest number of acts of a patch that is refused for no room; otherwise 0
-abbrev pub modify_wanted : PatchFault → ℕ
-modify_wanted patch.Underway = 0
-modify_wanted (patch.NoRoom wanted) = wanted
-modify_wanted (patch.Refused fault) = 0
+abbrev pub patch_wanted : PatchFault → ℕ
+patch_wanted patch.Underway = 0
+patch_wanted (patch.NoRoom wanted) = wanted
+patch_wanted (patch.Refused fault) = 0
 
 -- the number of a deletion that doesn't begin
 abbrev pub retire_number : RetireFault → ℕ

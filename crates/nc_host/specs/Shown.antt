@@ -68,10 +68,10 @@ fault_place (BadTarget at) = at
 fault_place _ = 0
 
 -- the number of a patch's fault
-abbrev pub patch_number : ModifyFault → ℕ
-patch_number patch.BadSpan = 16
-patch_number patch.NotLive = 17
-patch_number patch.NotPermitted = 18
-patch_number patch.Boundaries = 19
-patch_number patch.PairTouched = 20
-patch_number patch.BadTarget = 21
+abbrev pub refused_patch_number : ModifyFault → ℕ
+refused_patch_number patch.BadSpan = 16
+refused_patch_number patch.NotLive = 17
+refused_patch_number patch.NotPermitted = 18
+refused_patch_number patch.Boundaries = 19
+refused_patch_number patch.PairTouched = 20
+refused_patch_number patch.BadTarget = 21

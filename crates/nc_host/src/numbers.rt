@@ -1,8 +1,8 @@
 //! The numbers of refusals.
 
 ghost use Rattle.std.specs.Prelude.{◌≡◌};
-ghost use Rattle.nc_host.specs.Shown.{patch_number};
-ghost use Rattle.nc_host.specs.Handles.{new_number, seat_number, load_number, load_wanted, modify_number, modify_wanted, retire_number, retire_wanted};
+ghost use Rattle.nc_host.specs.Shown.{refused_patch_number};
+ghost use Rattle.nc_host.specs.Handles.{new_number, seat_number, load_number, load_wanted, patch_number, patch_wanted, retire_number, retire_wanted};
 
 use crate::lent_answers::{NO_MEMORY, NO_ROOM};
 use nc_host_handles::{LoadFault, NewFault, PatchFault, RetireFault, SeatFault};
@@ -64,8 +64,8 @@ pub(crate) fn load_numbers(fault: LoadFault) -> (u32, usize)
 }
 
 /// The number of a patch's fault.
-fn patch_number(fault: ModifyFault) -> u32
-    ensures { result ≡ patch_number fault }
+fn refused_patch_number(fault: ModifyFault) -> u32
+    ensures { result ≡ refused_patch_number fault }
 {
     match fault {
         ModifyFault::BadSpan => 16,
@@ -78,13 +78,13 @@ fn patch_number(fault: ModifyFault) -> u32
 }
 
 /// The number of a refused patch, with the number of acts needed if there is no room.
-pub(crate) fn modify_numbers(fault: PatchFault) -> (u32, usize)
-    ensures { (result.0 ≡ modify_number fault) × (result.1 ≡ modify_wanted fault) }
+pub(crate) fn patch_numbers(fault: PatchFault) -> (u32, usize)
+    ensures { (result.0 ≡ patch_number fault) × (result.1 ≡ patch_wanted fault) }
 {
     match fault {
         PatchFault::Underway => (UNDERWAY, 0),
         PatchFault::NoRoom(wanted) => (NO_ROOM, wanted),
-        PatchFault::Refused(fault) => (patch_number(fault), 0),
+        PatchFault::Refused(fault) => (refused_patch_number(fault), 0),
     }
 }
 

@@ -4,17 +4,17 @@ ghost use Rattle.std.specs.Prelude.{◌≡◌, ◌<◌, ◌⊎◌, List, None, S
 ghost use Rattle.nc_text.specs.Places.{limit_of};
 ghost use Rattle.nc_vet.specs.Chunk.{MarkedChunk, Piece};
 ghost use Rattle.nc_acts.specs.Log.{log_of_create};
-ghost use Rattle.nc_region.specs.Patch.{AreBytesOf, log_of_modify};
-ghost use Rattle.nc_host_handles.specs.RegionHandle.{HasLoaded, HasPatched, RegionHandleState, IsShortForPatch, MayRefuseLoad, MayRefuseModify};
+ghost use Rattle.nc_region.specs.Patch.{AreBytesOf, log_of_patch};
+ghost use Rattle.nc_host_handles.specs.RegionHandle.{HasLoaded, HasPatched, RegionHandleState, IsShortForPatch, MayRefuseLoad, MayRefuseHandlePatch};
 ghost use Rattle.nc_host_handles.specs.Pending.{ReportsPending};
 ghost use Rattle.nc_host_handles.specs.Lent.{IsReported};
 ghost use Rattle.nc_host_handles.specs.declared.fault.LoadFault.{LoadFault};
 ghost use Rattle.nc_host_handles.specs.declared.fault.PatchFault.{PatchFault};
-ghost use Rattle.nc_host.specs.Handles.{IsChunkFor, IsDone, IsNumberedRefusal, IsSameButPages, load_number, load_wanted, modify_number, modify_wanted};
+ghost use Rattle.nc_host.specs.Handles.{IsChunkFor, IsDone, IsNumberedRefusal, IsSameButPages, load_number, load_wanted, patch_number, patch_wanted};
 ghost use Rattle.nc_host.specs.Outcomes.{IsChunkFault};
 
 use crate::chunks::vet_copy;
-use crate::numbers::{NOTHING, load_numbers, modify_numbers};
+use crate::numbers::{NOTHING, load_numbers, patch_numbers};
 use crate::region_answers::{NcChange, no_change};
 use nc_host_handles::{NcAct, NcRegion, RegionHandle};
 use nc_vet::Vetted;
@@ -113,22 +113,22 @@ pub extern "C" fn nc_region_create(
 
 /// Patches a chunk, and returns the result as numbers.
 fn patch(handle: &mut RegionHandle, at: u32, new: &[u8], acts: &mut [NcAct]) -> NcChange
-    ensures modified { result.fault ≡ 0 → HasPatched at new.now handle.old handle.new }
+    ensures patched { result.fault ≡ 0 → HasPatched at new.now handle.old handle.new }
     ensures allowed { result.fault ≡ 0 → ¬ IsShortForPatch (length acts.old) (length new.now) }
     ensures lent { result.fault ≡ 0 → 0 < length acts.old }
     ensures reported { result.fault ≡ 0 → (news : List Piece) → AreBytesOf new.now news
-        → IsReported acts.old acts.new result.count (log_of_modify handle.old.region.marked.bytes at news) }
+        → IsReported acts.old acts.new result.count (log_of_patch handle.old.region.marked.bytes at news) }
     ensures pending { (v : MarkedChunk) → result.fault ≡ 0 → ReportsPending handle.old handle.new v acts.old acts.new result.count }
     ensures untouched { 0 < result.fault → acts.new ≡ acts.old }
     ensures unchanged { 0 < result.fault → handle.new ≡ handle.old }
     ensures at { result.at ≡ 0 }
-    ensures refused { 0 < result.fault → (f : PatchFault) × MayRefuseModify handle.old at new.now (length acts.old) f
-        × (result.fault ≡ modify_number f) × (result.count ≡ modify_wanted f) }
+    ensures refused { 0 < result.fault → (f : PatchFault) × MayRefuseHandlePatch handle.old at new.now (length acts.old) f
+        × (result.fault ≡ patch_number f) × (result.count ≡ patch_wanted f) }
 {
-    match handle.modify(at, new, acts) {
+    match handle.patch(at, new, acts) {
         Ok(count) => no_change(0, count),
         Err(fault) => {
-            let (number, wanted) = modify_numbers(fault);
+            let (number, wanted) = patch_numbers(fault);
             no_change(number, wanted)
         }
     }
@@ -148,13 +148,13 @@ pub extern "C" fn nc_region_patch(
     acts: &mut [NcAct],
 ) -> NcChange
     // No deletion was under way, and the new bytes are in place, by a lawful patch; all else is as before.
-    ensures modified { result.fault ≡ 0 → IsDone region.old.value region.new.value (HasPatched at bytes.now) }
+    ensures patched { result.fault ≡ 0 → IsDone region.old.value region.new.value (HasPatched at bytes.now) }
     // A buffer was lent, with room for three acts for each byte.
     ensures allowed { result.fault ≡ 0 → ¬ IsShortForPatch (length acts.old) (length bytes.now) }
     ensures lent { result.fault ≡ 0 → 0 < length acts.old }
     // The acts written are those of a patch of the region's own bytes, with the serializations.
     ensures reported { result.fault ≡ 0 → (h : RegionHandleState) (news : List Piece) → region.old.value ≡ Some h → AreBytesOf bytes.now news
-        → IsReported acts.old acts.new result.count (log_of_modify h.region.marked.bytes at news) }
+        → IsReported acts.old acts.new result.count (log_of_patch h.region.marked.bytes at news) }
     // The acts in the buffer are then pending.
     ensures pending { (v : MarkedChunk) → result.fault ≡ 0 → IsDone region.old.value region.new.value
         (λ old new. ReportsPending old new v acts.old acts.new result.count) }
@@ -162,8 +162,8 @@ pub extern "C" fn nc_region_patch(
     ensures unchanged { 0 < result.fault → region.new.value ≡ region.old.value }
     ensures at { result.at ≡ 0 }
     // Each refusal is returned exactly when it is due.
-    ensures refused { 0 < result.fault → IsNumberedRefusal region.old.value (λ h f. MayRefuseModify h at bytes.now (length acts.old) f)
-        modify_number modify_wanted result.fault result.count }
+    ensures refused { 0 < result.fault → IsNumberedRefusal region.old.value (λ h f. MayRefuseHandlePatch h at bytes.now (length acts.old) f)
+        patch_number patch_wanted result.fault result.count }
 {
     let Some(mut handle) = region.take(alloc) else {
         return no_change(NOTHING, 0);

@@ -2,7 +2,7 @@
 
 ghost use Rattle.std.specs.Prelude.{◌≡◌, ◌+◌, ◌*◌, ◌<◌, ◌≤◌, ◌^◌, ℕ, List, [], length, if◌then◌else◌};
 ghost use Rattle.nc_vet.specs.Chunk.{Piece};
-ghost use Rattle.nc_region.specs.Patch.{AreBytesOf, stands_there, any_place, log_of_instruction, log_of_modify};
+ghost use Rattle.nc_region.specs.Patch.{AreBytesOf, stands_there, any_place, log_of_instruction, log_of_patch};
 ghost use Rattle.nc_host_acts.specs.Standing.{AreBytesAt};
 ghost use Rattle.nc_host_acts.specs.Written.{AddsEntries};
 ghost use Rattle.nc_host_acts.specs.machinery.Writing.{HasPutUpTo};
@@ -101,7 +101,7 @@ pub fn write_patch(
     ensures len { length acts.new ≡ length acts.old }
     ensures within { result ≤ count + 3 * length new.now }
     ensures written { (text : List ℕ) (news : List Piece) → AreBytesAt text base code.now → AreBytesOf new.now news
-        → AddsEntries acts.old count acts.new result (log_of_modify text (base + from) news) }
+        → AddsEntries acts.old count acts.new result (log_of_patch text (base + from) news) }
 {
     if new.is_empty() {
         return count;

@@ -14,7 +14,7 @@ use Rattle.nc_acts.specs.declared.acts.Entry.{Entry}
 use Rattle.nc_acts.specs.declared.acts.Entry.TheVariants.{Did, Serialized}
 use Rattle.nc_acts.specs.Acts.{puts_where, is_inside, is_start, is_marked_at, is_unmarked_at}
 use Rattle.nc_acts.specs.Log.{only_acts, log_of_create, log_of_delete}
-use Rattle.nc_region.specs.Patch.{IsPatch, IsModified, AreBytesOf, any_place, stands_there, log_of_instruction, log_of_modify}
+use Rattle.nc_region.specs.Patch.{IsPatch, IsPatched, AreBytesOf, any_place, stands_there, log_of_instruction, log_of_patch}
 use Rattle.nc_gens.specs.Seen.{PassState, least_number}
 use Rattle.nc_region.specs.Quiet.{retired_spans}
 use Rattle.nc_region.specs.Deletion.{freed, unmarkings}
@@ -84,11 +84,11 @@ instruction_all v d at (byte ∷ next ∷ rest) =
     (All-cons (IsRead v d) (Did (Put at byte)) [] refl (All-nil (IsRead v d))))))
 
 -- each entry of a patch is read as its events
-patch_all : (v : MarkedChunk) (d : Details) (text : List ℕ) (at : ℕ) (news : List Piece) → All (IsRead v d) (log_of_modify text at news)
+patch_all : (v : MarkedChunk) (d : Details) (text : List ℕ) (at : ℕ) (news : List Piece) → All (IsRead v d) (log_of_patch text at news)
 patch_all v d text at [] = All-nil (IsRead v d)
 patch_all v d text at (p ∷ rest) =
     All-append (IsRead v d) (cond (stands_there text at p.bytes) [] (log_of_instruction at p.bytes))
-    (log_of_modify text (at + length p.bytes) rest) (go (stands_there text at p.bytes)) (patch_all v d text (at + length p.bytes) rest)
+    (log_of_patch text (at + length p.bytes) rest) (go (stands_there text at p.bytes)) (patch_all v d text (at + length p.bytes) rest)
   where
     go : (b : Bool) → All (IsRead v d) (cond b [] (log_of_instruction at p.bytes))
     go true = All-nil (IsRead v d)
@@ -163,16 +163,16 @@ loads old new v lent now count valid limit is none others reported =
 
 -- the entries reported for a patch are its pending events
 pub patches : (old new : RegionHandleState) (at : ℕ) (bytes : List ℕ) (lent now : List NcAct) (count : ℕ) (v : MarkedChunk)
-    → IsPatch old.region at bytes → IsModified old.region new.region at bytes → old.begun ≡ None
+    → IsPatch old.region at bytes → IsPatched old.region new.region at bytes → old.begun ≡ None
     → new ≡ record old { region = new.region }
-    → ((news : List Piece) → AreBytesOf bytes news → IsReported lent now count (log_of_modify old.region.marked.bytes at news))
+    → ((news : List Piece) → AreBytesOf bytes news → IsReported lent now count (log_of_patch old.region.marked.bytes at news))
     → ReportsPending old new v lent now count
 patches old new at bytes lent now count v lawful is none others reported =
     let run = lawful.1.2.0.run in
-    reported_due old new v lent now count (log_of_modify old.region.marked.bytes at run.news) (reported run.news run.bytes)
+    reported_due old new v lent now count (log_of_patch old.region.marked.bytes at run.news) (reported run.news run.bytes)
     (λ seats. Changes none (still_none old new others none)
     (Patches at bytes run.news lawful run.bytes is [] NoneYet
-    (due_log v no_details (log_of_modify old.region.marked.bytes at run.news)
+    (due_log v no_details (log_of_patch old.region.marked.bytes at run.news)
     (patch_all v no_details old.region.marked.bytes at run.news))))
 
 -- the entries reported for the first call of a deletion are its pending events

@@ -13,7 +13,7 @@ use Rattle.nc_list.specs.declared.chunk.ChunkState.TheVariants.{Live}
 use Rattle.nc_text.specs.Places.{limit_of}
 use Rattle.nc_region.specs.Region.{Region, IsCreated, IsRefused, MayRefuse, Meets}
 use Rattle.nc_region.specs.Deletion.{IsDeleted, MayRefuseDelete, IsReclaimed, AreFreedUpTo}
-use Rattle.nc_region.specs.Patch.{IsModified, IsPatch, MayRefusePatch}
+use Rattle.nc_region.specs.Patch.{IsPatched, IsPatch, MayRefusePatch}
 use Rattle.nc_region.specs.Quiet.{retired_spans}
 use Rattle.nc_region.specs.schedules.Events.{Event, Looks}
 use Rattle.nc_histories.specs.Calls.{no_details}
@@ -91,13 +91,13 @@ IsNotLoaded old new v load.Underway = new ≡ old
 IsNotLoaded old new v (load.NoRoom wanted) = new ≡ old
 IsNotLoaded old new v (load.Refused fault) = (new ≡ record old { region = new.region }) × IsRefused old.region new.region v fault
 
--- when `modify` returns each refusal: a deletion is under way; or else the buffer for at most 32 new bytes has room for
+-- when `patch` returns each refusal: a deletion is under way; or else the buffer for at most 32 new bytes has room for
 -- fewer than three acts for each; or else the region refuses (`MayRefusePatch` of nc_region)
-abbrev pub MayRefuseModify : RegionHandleState → ℕ → List ℕ → ℕ → PatchFault → Type 0
-MayRefuseModify h at new room patch.Underway = IsSome h.begun
-MayRefuseModify h at new room (patch.NoRoom wanted) =
+abbrev pub MayRefuseHandlePatch : RegionHandleState → ℕ → List ℕ → ℕ → PatchFault → Type 0
+MayRefuseHandlePatch h at new room patch.Underway = IsSome h.begun
+MayRefuseHandlePatch h at new room (patch.NoRoom wanted) =
     (h.begun ≡ None) × IsShortForPatch room (length new) × (wanted ≡ 3 * length new)
-MayRefuseModify h at new room (patch.Refused fault) =
+MayRefuseHandlePatch h at new room (patch.Refused fault) =
     (h.begun ≡ None) × (¬ IsShortForPatch room (length new)) × MayRefusePatch h.region at new fault
 
 -- when `begin_delete` returns each refusal: a deletion is under way; or else the region refuses (`MayRefuseDelete` of
@@ -185,9 +185,9 @@ HasLoaded v old new =
     × IsCreated old.region new.region v × (new ≡ record old { region = new.region })
     × ((seats : ℕ) → LogsCall seats (record no_details { marks = v.marks }) old.region new.region)
 
--- no deletion was under way, a lawful patch (`IsPatch`) was made in the region (`IsModified`), all else is as before,
+-- no deletion was under way, a lawful patch (`IsPatch`) was made in the region (`IsPatched`), all else is as before,
 -- and the entries logged are a call of a history (`LogsCall` of nc_histories)
 abbrev pub HasPatched : ℕ → List ℕ → RegionHandleState → RegionHandleState → Type 0
 HasPatched at bytes old new =
-    (old.begun ≡ None) × IsPatch old.region at bytes × IsModified old.region new.region at bytes × (new ≡ record old { region = new.region })
+    (old.begun ≡ None) × IsPatch old.region at bytes × IsPatched old.region new.region at bytes × (new ≡ record old { region = new.region })
     × ((seats : ℕ) → LogsCall seats no_details old.region new.region)

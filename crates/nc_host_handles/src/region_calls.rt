@@ -5,12 +5,12 @@ ghost use Rattle.nc_text.specs.Places.{limit_of};
 ghost use Rattle.nc_vet.specs.Chunk.{MarkedChunk, Piece};
 ghost use Rattle.nc_vet.specs.Faults.{HasGoodSpan};
 ghost use Rattle.nc_acts.specs.Log.{Logs, log_of_create, log_of_delete};
-ghost use Rattle.nc_region.specs.Patch.{AreBytesOf, IsModified, IsPatch, log_of_modify};
+ghost use Rattle.nc_region.specs.Patch.{AreBytesOf, IsPatched, IsPatch, log_of_patch};
 ghost use Rattle.nc_region.specs.Region.{IsCreated, Meets};
 ghost use Rattle.nc_histories.specs.Calls.{no_details};
 ghost use Rattle.nc_histories.specs.Histories.{LogsCall};
 ghost use Rattle.nc_host_acts.specs.Standing.{AreBytesAt};
-ghost use Rattle.nc_host_handles.specs.RegionHandle.{IsLiveAt, IsShort, IsShortForPatch, HasBegunDeletion, HasEndedDeletion, IsNotLoaded, MayRefuseBegin, MayRefuseLoad, MayRefuseModify};
+ghost use Rattle.nc_host_handles.specs.RegionHandle.{IsLiveAt, IsShort, IsShortForPatch, HasBegunDeletion, HasEndedDeletion, IsNotLoaded, MayRefuseBegin, MayRefuseLoad, MayRefuseHandlePatch};
 ghost use Rattle.nc_host_handles.specs.Pending.{ReportsPending, DoesItself};
 ghost use Rattle.nc_host_handles.specs.Lent.{IsReported, bytes_of_span};
 
@@ -51,7 +51,7 @@ fn report_patch(acts: &mut [NcAct], at: u32, before: &[u8], new: &[u8]) -> usize
     requires high { at + length before.now < 2 ^ 32 }
     requires room { 3 * length new.now ≤ length acts.old }
     ensures { (text : List ℕ) (news : List Piece) → AreBytesAt text at before.now → AreBytesOf new.now news
-        → IsReported acts.old acts.new result (log_of_modify text at news) }
+        → IsReported acts.old acts.new result (log_of_patch text at news) }
 {
     write_patch(acts, 0, at, before, 0, new)
 }
@@ -101,7 +101,7 @@ impl RegionHandle {
     /// Checks that no deletion is under way, and that the buffer has room for the acts of a patch with these bytes, at any address.
     fn check_patch(&self, new: &[u8], room: usize) -> Result<(), PatchFault>
         ensures allowed { OnOk result ((self.now.begun ≡ None) × ¬ IsShortForPatch room (length new.now)) }
-        ensures refused { IfErr result (λ fault. (at : ℕ) → MayRefuseModify self.now at new.now room fault) }
+        ensures refused { IfErr result (λ fault. (at : ℕ) → MayRefuseHandlePatch self.now at new.now room fault) }
     {
         if self.begun.is_some() {
             return Err(PatchFault::Underway);
@@ -190,9 +190,9 @@ impl RegionHandle {
     /// `RegionOf::modify`, which also writes its acts into the buffer, with the serializations among them: at most three for each
     /// new byte. Since no other call writes them, an empty buffer is too short. Returns the number of acts written. It takes no
     /// memory, and a refusal changes nothing.
-    pub fn modify(&mut self, at: u32, new: &[u8], acts: &mut [NcAct]) -> Result<usize, PatchFault>
+    pub fn patch(&mut self, at: u32, new: &[u8], acts: &mut [NcAct]) -> Result<usize, PatchFault>
         // The new bytes are in place; all else is as before.
-        ensures modified { OnOk result (IsModified self.old.region self.new.region at new.now) }
+        ensures patched { OnOk result (IsPatched self.old.region self.new.region at new.now) }
         ensures others { OnOk result (self.new ≡ record self.old { region = self.new.region }) }
         // Only lawful patches are made.
         ensures lawful { OnOk result (IsPatch self.old.region at new.now) }
@@ -201,23 +201,23 @@ impl RegionHandle {
         ensures lent { OnOk result (0 < length acts.old) }
         // The acts written are those of a patch of the region's own bytes, with the serializations.
         ensures reported { IfOk result (λ count. (news : List Piece) → AreBytesOf new.now news
-            → IsReported acts.old acts.new count (log_of_modify self.old.region.marked.bytes at news)) }
+            → IsReported acts.old acts.new count (log_of_patch self.old.region.marked.bytes at news)) }
         // So are those logged, and they are a call of a history.
         ensures log { OnOk result ((news : List Piece) → AreBytesOf new.now news
-            → Logs self.old.region.logged self.new.region.logged (log_of_modify self.old.region.marked.bytes at news)) }
+            → Logs self.old.region.logged self.new.region.logged (log_of_patch self.old.region.marked.bytes at news)) }
         ensures call { (seats : ℕ) → OnOk result (LogsCall seats no_details self.old.region self.new.region) }
         // The acts in the buffer are then pending.
         ensures pending { (v : MarkedChunk) → IfOk result (ReportsPending self.old self.new v acts.old acts.new) }
         ensures unchanged { OnErr result (self.new ≡ self.old) }
         ensures untouched { OnErr result (acts.new ≡ acts.old) }
         // Each refusal is returned exactly when it is due.
-        ensures refused { IfErr result (MayRefuseModify self.old at new.now (length acts.old)) }
+        ensures refused { IfErr result (MayRefuseHandlePatch self.old at new.now (length acts.old)) }
     {
         if let Err(fault) = self.check_patch(new, acts.len()) {
             return Err(fault);
         }
         let before = read_window(&self.region, at, bytes_before(new.len()));
-        if let Err(fault) = nc_histories::modify(&mut self.region, at, new) {
+        if let Err(fault) = nc_histories::patch(&mut self.region, at, new) {
             return Err(PatchFault::Refused(fault));
         }
         Ok(report_patch(acts, at, &before[..new.len()], new))

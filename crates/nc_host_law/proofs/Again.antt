@@ -11,7 +11,7 @@ use Rattle.nc_region.specs.Deletion.{freed, unmarkings}
 use Rattle.nc_region.specs.Quiet.{retired_spans}
 use Rattle.nc_region.specs.Region.{Region}
 use Rattle.nc_histories.specs.Interleaving.{IsKeepers}
-use Rattle.nc_histories.specs.Calls.{Details, no_details, events_of_log, create_events, modify_events, delete_events, reclaim_events, span_from}
+use Rattle.nc_histories.specs.Calls.{Details, no_details, events_of_log, create_events, patch_events, delete_events, reclaim_events, span_from}
 use Rattle.nc_histories.specs.Histories.{AreAttempts, IsCall, Creates, Patches, Deletes, Reclaims, UsesKeeper, Refuses, Keeps}
 use Rattle.nc_histories.proofs.Offered.{attempts_again, attempts_none, refusal_silent}
 use Rattle.nc_host_law.specs.Hosts.{IsHosts}
@@ -64,8 +64,8 @@ call_again seats old new own made (Creates v valid lim is tries tried same) host
     (ap (λ (z : List Event). made ++ z) same ∙ sym (append_assoc made tries (create_events v)))
 call_again seats old new own made (Patches at bytes news lawful b is tries tried same) hosts again =
     Patches at bytes news lawful b is (made ++ tries)
-    (attempts_again (modify_events old.marked.bytes at news) tries made tried (subst (λ (z : List Event). AreAttempts z made) same again))
-    (ap (λ (z : List Event). made ++ z) same ∙ sym (append_assoc made tries (modify_events old.marked.bytes at news)))
+    (attempts_again (patch_events old.marked.bytes at news) tries made tried (subst (λ (z : List Event). AreAttempts z made) same again))
+    (ap (λ (z : List Event). made ++ z) same ∙ sym (append_assoc made tries (patch_events old.marked.bytes at news)))
 call_again seats old new own made (Deletes base stamp is stops tries stamped tried same) hosts again =
     let deletion : All IsHosts (delete_events old.marked.marks base is.chunk.length) =
     all_back IsHosts tries (delete_events old.marked.marks base is.chunk.length) (subst (All IsHosts) same hosts) in

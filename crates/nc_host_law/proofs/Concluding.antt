@@ -29,7 +29,7 @@ use Rattle.nc_histories.specs.Histories.{IsRefusal, IsCall, Creates, Patches, De
 use Rattle.nc_histories.proofs.Offered.{goes_on, created, deleted}
 use Rattle.nc_histories.proofs.Offered.{refused}
 use Rattle.nc_histories.proofs.Offered.{keeper_interleaved}
-use Rattle.nc_histories.proofs.Offered.{modified}
+use Rattle.nc_histories.proofs.Offered.{patched}
 use Rattle.nc_histories.proofs.Offered.{reclaimed}
 use Rattle.nc_histories.proofs.Offered.{still_created, still_patched, still_deleted, still_reclaimed}
 use Rattle.nc_histories.proofs.Offered.{refusal_same}
@@ -121,7 +121,7 @@ call_goes limit seats before since pending from region stays some threads own fo
     (created limit seats before (since ++ pending) from region v made stays.led stays.region valid lim is tried (own ∙ same) threads)
 call_goes limit seats before since pending from region stays some threads own found (Patches at bytes news lawful b is made tried same) =
     led_goes limit seats before since pending from region stays
-    (modified limit seats before (since ++ pending) from region at bytes news made stays.led stays.region lawful b is tried
+    (patched limit seats before (since ++ pending) from region at bytes news made stays.led stays.region lawful b is tried
     (own ∙ same) threads)
 call_goes limit seats before since pending from region stays some threads own found (Deletes base stamp is stops made stamped tried same) =
     led_goes limit seats before since pending from region stays

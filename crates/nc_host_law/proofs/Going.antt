@@ -9,7 +9,7 @@ use Rattle.nc_region.specs.schedules.Events.{Event, Retires, ThreadMay}
 use Rattle.nc_region.specs.Patch.{AreBytesOf}
 use Rattle.nc_region.specs.Region.{Region}
 use Rattle.nc_histories.specs.Interleaving.{is_writers, IsNoLook}
-use Rattle.nc_histories.specs.Calls.{create_events, modify_events, delete_events}
+use Rattle.nc_histories.specs.Calls.{create_events, patch_events, delete_events}
 use Rattle.nc_histories.specs.Histories.{NoneYet, Creates, Patches}
 use Rattle.nc_host_handles.specs.RegionHandle.{RegionHandleState, HasLoaded, HasPatched, HasBegunDeletion, HasEndedDeletion, HasReclaimed, meetings}
 use Rattle.nc_host_handles.specs.Pending.{IsHandleCall, ChangesPages, Changes, Begins, Ends}
@@ -56,11 +56,11 @@ pub patches : (bundles seats : ℕ) (host : Host) (new : RegionHandleState) (at 
     → IsReached bundles seats host → host.pending ≡ [] → AreBytesOf bytes news → HasPatched at bytes host.handle new
     → IsReached bundles seats (record host {
       handle = new;
-      pending = modify_events host.handle.region.marked.bytes at news;
-      called = modify_events host.handle.region.marked.bytes at news;
+      pending = patch_events host.handle.region.marked.bytes at news;
+      called = patch_events host.handle.region.marked.bytes at news;
     })
 patches bundles seats host new at bytes news reached none b patched =
-    calls bundles seats host new (modify_events host.handle.region.marked.bytes at news) reached none
+    calls bundles seats host new (patch_events host.handle.region.marked.bytes at news) reached none
     (Changes patched.0 (ap (λ (h : RegionHandleState). h.begun) patched.3 ∙ patched.0)
     (Patches at bytes news patched.1 b patched.2 [] NoneYet refl))
 

@@ -13,11 +13,11 @@ use Rattle.nc_acts.specs.declared.acts.Entry.TheVariants.{Did, Serialized}
 use Rattle.nc_gens.specs.Seen.{least_number}
 use Rattle.nc_region.specs.Region.{Region}
 use Rattle.nc_acts.specs.Log.{only_acts, log_of_create, log_of_delete}
-use Rattle.nc_region.specs.Patch.{log_of_modify}
+use Rattle.nc_region.specs.Patch.{log_of_patch}
 use Rattle.nc_region.specs.Deletion.{freed, unmarkings}
 use Rattle.nc_region.specs.Quiet.{retired_spans}
 use Rattle.nc_histories.specs.Interleaving.{is_writers, writers, IsKeepers, ThreadsMay}
-use Rattle.nc_histories.specs.Calls.{Details, no_details, events_of_entry, events_of_log, create_events, modify_events, delete_events}
+use Rattle.nc_histories.specs.Calls.{Details, no_details, events_of_entry, events_of_log, create_events, patch_events, delete_events}
 use Rattle.nc_histories.proofs.Offered.{refusal_silent}
 use Rattle.nc_histories.specs.Histories.{AreAttempts, NoneYet, OneMore, IsCall, Creates, Patches, Deletes, Reclaims, UsesKeeper, Refuses, Keeps}
 
@@ -137,8 +137,8 @@ call_writers seats old new own (Creates v valid lim is made tried same) =
     let all : All IsWriters (create_events v) = log_writers (record no_details { marks = v.marks }) (log_of_create v.base v.code) in
     subst (All IsWriters) (sym same) (tried_writers (create_events v) made (create_events v) tried all all)
 call_writers seats old new own (Patches at bytes news lawful b is made tried same) =
-    let events : List Event = modify_events old.marked.bytes at news in
-    let all : All IsWriters (modify_events old.marked.bytes at news) = log_writers no_details (log_of_modify old.marked.bytes at news) in
+    let events : List Event = patch_events old.marked.bytes at news in
+    let all : All IsWriters (patch_events old.marked.bytes at news) = log_writers no_details (log_of_patch old.marked.bytes at news) in
     subst (All IsWriters) (sym same) (tried_writers events made events tried all all)
 call_writers seats old new own (Deletes base stamp is stops made stamped tried same) =
     let all : All IsWriters (delete_events old.marked.marks base is.chunk.length) =

@@ -11,8 +11,8 @@ use Rattle.nc_histories.specs.Interleaving.{IsNoLook}
 use Rattle.nc_acts.specs.declared.acts.Act.TheVariants.{Put}
 use Rattle.nc_acts.specs.Acts.{puts_where, is_inside, is_start, is_marked_at, is_unmarked_at}
 use Rattle.nc_region.specs.Patch.{any_place, stands_there}
-use Rattle.nc_histories.specs.Calls.{Details, no_details, create_events, modify_events, delete_events}
-use Rattle.nc_histories.proofs.Offered.{events_of, create_is, stops_of, stops_then, instruction_events, patch_events, modify_is}
+use Rattle.nc_histories.specs.Calls.{Details, no_details, create_events, patch_events, delete_events}
+use Rattle.nc_histories.proofs.Offered.{events_of, create_is, stops_of, stops_then, instruction_events, events_of_instructions, patch_is}
 use Rattle.nc_host_acts.specs.declared.act.NcAct.{NcAct}
 use Rattle.nc_host_handles.specs.Pending.{puts_pending, events_pending_by, events_pending}
 use Rattle.nc_host_law.specs.Hosts.{IsHosts}
@@ -77,19 +77,19 @@ instruction_hosts at (byte ∷ next ∷ rest) =
     (puts_then no_details any_place (at + 1) (next ∷ rest) (Puts at byte ∷ []) (All-cons IsHosts (Puts at byte) [] tt (All-nil IsHosts))))
 
 -- a host makes the events of the instructions of a patch
-patch_hosts : (text : List ℕ) (at : ℕ) (news : List Piece) → All IsHosts (patch_events text at news)
-patch_hosts text at [] = All-nil IsHosts
-patch_hosts text at (n ∷ ns) =
-    All-append IsHosts (cond (stands_there text at n.bytes) [] (instruction_events at n.bytes)) (patch_events text (at + length n.bytes) ns)
-    (go (stands_there text at n.bytes)) (patch_hosts text (at + length n.bytes) ns)
+instructions_hosts : (text : List ℕ) (at : ℕ) (news : List Piece) → All IsHosts (events_of_instructions text at news)
+instructions_hosts text at [] = All-nil IsHosts
+instructions_hosts text at (n ∷ ns) =
+    All-append IsHosts (cond (stands_there text at n.bytes) [] (instruction_events at n.bytes)) (events_of_instructions text (at + length n.bytes) ns)
+    (go (stands_there text at n.bytes)) (instructions_hosts text (at + length n.bytes) ns)
   where
     go : (b : Bool) → All IsHosts (cond b [] (instruction_events at n.bytes))
     go true = All-nil IsHosts
     go false = instruction_hosts at n.bytes
 
 -- a host makes the events of a patch
-pub modify_hosts : (text : List ℕ) (at : ℕ) (news : List Piece) → All IsHosts (modify_events text at news)
-modify_hosts text at news = subst (All IsHosts) (sym (modify_is text at news)) (patch_hosts text at news)
+pub patch_hosts : (text : List ℕ) (at : ℕ) (news : List Piece) → All IsHosts (patch_events text at news)
+patch_hosts text at news = subst (All IsHosts) (sym (patch_is text at news)) (instructions_hosts text at news)
 
 -- a host makes the events that are left of a deletion before its retiring
 pub rest_hosts : (marks : List Mark) (base len : ℕ) (first rest : List Event)

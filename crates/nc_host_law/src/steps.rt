@@ -6,7 +6,7 @@ ghost use Rattle.nc_list.specs.declared.chunk.Chunk.{Chunk};
 ghost use Rattle.nc_region.specs.schedules.Events.{Event, ThreadMay};
 ghost use Rattle.nc_region.specs.Patch.{AreBytesOf};
 ghost use Rattle.nc_histories.specs.Interleaving.{is_writers, IsNoLook};
-ghost use Rattle.nc_histories.specs.Calls.{create_events, modify_events, delete_events};
+ghost use Rattle.nc_histories.specs.Calls.{create_events, patch_events, delete_events};
 ghost use Rattle.nc_host_acts.specs.declared.act.NcAct.{NcAct};
 ghost use Rattle.nc_host_handles.specs.RegionHandle.{RegionHandleState, HasLoaded, HasPatched, HasBegunDeletion, HasEndedDeletion, HasReclaimed, meetings};
 ghost use Rattle.nc_host_handles.specs.Pending.{IsHandleCall, ChangesPages, events_pending};
@@ -37,8 +37,8 @@ pub fn law_of_reaching()
         → IsReached bundles seats host → host.pending ≡ [] → AreBytesOf bytes news → HasPatched at bytes host.handle new
         → IsReached bundles seats (record host {
           handle = new;
-          pending = modify_events host.handle.region.marked.bytes at news;
-          called = modify_events host.handle.region.marked.bytes at news;
+          pending = patch_events host.handle.region.marked.bytes at news;
+          called = patch_events host.handle.region.marked.bytes at news;
         }) }
     ensures begins { (bundles seats : ℕ) (host : Host) (new : RegionHandleState) (c : Chunk) (stops : List Event) → IsReached bundles seats host
         → host.pending ≡ [] → HasBegunDeletion host.handle new c.base c
@@ -48,7 +48,7 @@ pub fn law_of_reaching()
         → IsReached bundles seats (record host { pending = host.called }) }
     ensures buffers { (v : MarkedChunk) (acts : List NcAct) → All IsHosts (events_pending v acts) }
     ensures changes { (v : MarkedChunk) (text : List ℕ) (at : ℕ) (news : List Piece) → All IsHosts (create_events v)
-        × All IsHosts (modify_events text at news) }
+        × All IsHosts (patch_events text at news) }
     ensures restarts { (bundles seats : ℕ) (host : Host) (c : Chunk) (stops : List Event) → IsReached bundles seats host
         → host.handle.begun ≡ Some c
         → stops ++ Event.Retires c.base c.length ∷ [] ≡ delete_events host.handle.region.marked.marks c.base c.length

@@ -90,7 +90,7 @@ impl Jit {
         let Some(patch) = self.plan.patch(pieces) else {
             return;
         };
-        match self.handle.modify(patch.at, &patch.new, &mut self.acts) {
+        match self.handle.patch(patch.at, &patch.new, &mut self.acts) {
             Ok(count) => self.add_acts(digest, count),
             Err(_) => digest.add(4),
         }

@@ -23,7 +23,7 @@ use Rattle.nc_list.proofs.Offered.{each_map, ascending_above}
 use Rattle.nc_acts.specs.declared.acts.Act.TheVariants.{Look}
 use Rattle.nc_acts.specs.Log.{only_acts, log_of_create, log_of_delete}
 use Rattle.nc_region.specs.Region.{Region, IsLive, IsCreated, live_chunk}
-use Rattle.nc_region.specs.Patch.{IsModified, log_of_modify}
+use Rattle.nc_region.specs.Patch.{IsPatched, log_of_patch}
 use Rattle.nc_region.specs.Deletion.{HasLive, IsDeleted, IsReclaimed, freed, kept, unmarked, unmarkings}
 use Rattle.nc_region.proofs.deleting.Due.{unmarked_bytes}
 use Rattle.nc_region.proofs.deleting.Deleted.{deleted_is}
@@ -198,17 +198,17 @@ created_exists old v made ascending free gets =
 -- ---- a patch
 
 -- the region after these instructions were put from this address on
-abbrev pub modified_region : Region → ℕ → List ℕ → List Piece → Region
-modified_region old at bytes news =
+abbrev pub patched_region : Region → ℕ → List ℕ → List Piece → Region
+patched_region old at bytes news =
     record old {
       marked = record old.marked { bytes = with_span old.marked.bytes (at - 65536) bytes };
-      logged = old.logged ++ log_of_modify old.marked.bytes at news;
+      logged = old.logged ++ log_of_patch old.marked.bytes at news;
     }
 
 -- a patch leaves a region
-pub modified_exists : (old : Region) (at : ℕ) (bytes : List ℕ) (news : List Piece)
-    → IsModified old (modified_region old at bytes news) at bytes
-modified_exists old at bytes news = record { patched = refl; others = refl }
+pub patched_exists : (old : Region) (at : ℕ) (bytes : List ℕ) (news : List Piece)
+    → IsPatched old (patched_region old at bytes news) at bytes
+patched_exists old at bytes news = record { patched = refl; others = refl }
 
 -- ---- a reclaim
 

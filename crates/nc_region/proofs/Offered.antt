@@ -40,5 +40,5 @@ pub use Rattle.nc_region.proofs.events.Seeing.{as_it_stands, only_as_it_stands, 
 pub use Rattle.nc_region.proofs.events.WriterEvents.{may_free_now, same_as_itself}
 pub use Rattle.nc_region.proofs.Constructing.{deleted_region, deleted_at, deleted_exists, created_region}
 pub use Rattle.nc_region.proofs.Constructing.{created_at, created_exists}
-pub use Rattle.nc_region.proofs.Constructing.{pages_made, pages_get_ready, modified_region, modified_exists}
+pub use Rattle.nc_region.proofs.Constructing.{pages_made, pages_get_ready, patched_region, patched_exists}
 pub use Rattle.nc_region.proofs.Constructing.{reclaimed_region, reclaimed_exists}

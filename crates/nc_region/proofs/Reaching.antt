@@ -6,9 +6,9 @@ use Rattle.nc_region.specs.declared.fault.CreateFault.{CreateFault}
 use Rattle.nc_region.specs.declared.fault.ModifyFault.{ModifyFault}
 use Rattle.nc_region.specs.declared.fault.DeleteFault.{DeleteFault}
 use Rattle.nc_region.specs.Region.{Region, IsCreated, IsRefused, MayRefuse, Meets}
-use Rattle.nc_region.specs.Patch.{IsPatch, IsModified}
+use Rattle.nc_region.specs.Patch.{IsPatch, IsPatched}
 use Rattle.nc_region.specs.Deletion.{IsDeleted}
-use Rattle.nc_region.specs.Reached.{IsOneCall, OfCreate, OfRefusedCreate, OfModify, OfDelete, AfterCall, IsUnderRule}
+use Rattle.nc_region.specs.Reached.{IsOneCall, OfCreate, OfRefusedCreate, OfPatch, OfDelete, AfterCall, IsUnderRule}
 
 pub after-call : (first : Option Region) {old new : Region} → IsUnderRule first old → IsOneCall old new → IsUnderRule first new
 after-call None under call = tt
@@ -22,11 +22,11 @@ pub after-delete : (first : Option Region) (answer : Result ℕ DeleteFault) (ol
 after-delete first (Ok stamp) old new base under is _ = after-call first under (OfDelete base stamp is)
 after-delete first (Err fault) old new base under _ same = kept first under same
 
-pub after-modify : (first : Option Region) (answer : Result (Unit {0}) ModifyFault) (old new : Region) (at : ℕ) (bytes : List ℕ)
-    → IsUnderRule first old → OnOk answer (IsPatch old at bytes) → OnOk answer (IsModified old new at bytes)
+pub after-patch : (first : Option Region) (answer : Result (Unit {0}) ModifyFault) (old new : Region) (at : ℕ) (bytes : List ℕ)
+    → IsUnderRule first old → OnOk answer (IsPatch old at bytes) → OnOk answer (IsPatched old new at bytes)
     → IfErr answer (λ e. new ≡ old) → IsUnderRule first new
-after-modify first (Ok _) old new at bytes under lawful is _ = after-call first under (OfModify at bytes lawful is)
-after-modify first (Err fault) old new at bytes under _ _ same = kept first under same
+after-patch first (Ok _) old new at bytes under lawful is _ = after-call first under (OfPatch at bytes lawful is)
+after-patch first (Err fault) old new at bytes under _ _ same = kept first under same
 
 pub after-create : (first : Option Region) (answer : Result (Unit {0}) (MarkedChunk × CreateFault)) (old new : Region) (v : MarkedChunk)
     → IsUnderRule first old → IsValid v → OnOk answer (IsCreated old new v)

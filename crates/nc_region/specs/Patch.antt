@@ -129,7 +129,7 @@ abbrev pub MayRefusePatch : Region → ℕ → List ℕ → ModifyFault → Type
 MayRefusePatch r at new fault = IsRefusalBy (IsHeld r.chunks at) (Fits r at new) (FitsBesidePairs r at new) (IsPatch r at new) at new fault
 
 -- The region after a patch: it has the new bytes at their place. All else is as before, except for the log.
-pub record IsModified (old new : Region) (at : ℕ) (bytes : List ℕ) : Type 0 where
+pub record IsPatched (old new : Region) (at : ℕ) (bytes : List ℕ) : Type 0 where
   pub patched : new.marked.bytes ≡ with_span old.marked.bytes (at - 0x10000) bytes
   pub others : new ≡ record old { marked = record old.marked { bytes = new.marked.bytes }; logged = new.logged }
 
@@ -152,10 +152,10 @@ acts_of_instruction at (byte ∷ next ∷ rest) = Put at 0xF4 ∷ (puts_where an
 -- The acts of a patch: each instruction whose bytes aren't there already is replaced, in ascending order. An instruction
 -- of one byte takes one put; for a longer one F4 is put at its first byte, then its further bytes in ascending order, then
 -- its first byte (Ansel et al. 2011).
-abbrev pub acts_of_modify : List ℕ → ℕ → List Piece → List Act
-acts_of_modify text at [] = []
-acts_of_modify text at (p ∷ rest) =
-    (if stands_there text at p.bytes then [] else acts_of_instruction at p.bytes) ++ acts_of_modify text (at + length p.bytes) rest
+abbrev pub acts_of_patch : List ℕ → ℕ → List Piece → List Act
+acts_of_patch text at [] = []
+acts_of_patch text at (p ∷ rest) =
+    (if stands_there text at p.bytes then [] else acts_of_instruction at p.bytes) ++ acts_of_patch text (at + length p.bytes) rest
 
 -- The log of replacing one instruction: its acts, and for an instruction of more than one byte two serializations, after F4 is
 -- put at its first byte and after its further bytes are put.
@@ -167,7 +167,7 @@ log_of_instruction at (byte ∷ next ∷ rest) =
 
 -- the log of a patch: its acts, and for each replaced instruction of more than one byte two serializations, after F4 is put
 -- and before its first byte is put
-abbrev pub log_of_modify : List ℕ → ℕ → List Piece → List Entry
-log_of_modify text at [] = []
-log_of_modify text at (p ∷ rest) =
-    (if stands_there text at p.bytes then [] else log_of_instruction at p.bytes) ++ log_of_modify text (at + length p.bytes) rest
+abbrev pub log_of_patch : List ℕ → ℕ → List Piece → List Entry
+log_of_patch text at [] = []
+log_of_patch text at (p ∷ rest) =
+    (if stands_there text at p.bytes then [] else log_of_instruction at p.bytes) ++ log_of_patch text (at + length p.bytes) rest

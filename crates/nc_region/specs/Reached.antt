@@ -5,7 +5,7 @@ use Rattle.nc_vet.specs.Chunk as vet
 use Rattle.nc_text.specs.Places.{limit_of}
 use Rattle.nc_region.specs.declared.fault.CreateFault.{CreateFault}
 use Rattle.nc_region.specs.Region.{Region, IsCreated, IsRefused, MayRefuse, Meets}
-use Rattle.nc_region.specs.Patch.{IsPatch, IsModified}
+use Rattle.nc_region.specs.Patch.{IsPatch, IsPatched}
 use Rattle.nc_region.specs.Deletion.{IsDeleted, IsReclaimed}
 
 -- One call made the new region of the old one, as the call's contract says: it created a valid chunk, patched or deleted one, or
@@ -14,7 +14,7 @@ pub data IsOneCall (old new : Region) : Type 0 where
   OfCreate : (v : vet.MarkedChunk) → vet.IsValid v → v.limit ≡ limit_of old.marked.bytes → ¬ Meets v.base (length v.code) old.chunks
       → IsCreated old new v → IsOneCall old new
   OfRefusedCreate : (v : vet.MarkedChunk) (fault : CreateFault) → MayRefuse old v fault → IsRefused old new v fault → IsOneCall old new
-  OfModify : (at : ℕ) (bytes : List ℕ) → IsPatch old at bytes → IsModified old new at bytes → IsOneCall old new
+  OfPatch : (at : ℕ) (bytes : List ℕ) → IsPatch old at bytes → IsPatched old new at bytes → IsOneCall old new
   OfDelete : (base stamp : ℕ) → IsDeleted old new base stamp → IsOneCall old new
   OfReclaim : (count : ℕ) → IsReclaimed old new count → IsOneCall old new
 

@@ -9,7 +9,7 @@ ghost use Rattle.nc_vet.specs.Chunk.{MarkedChunk, Piece, IsValid};
 ghost use Rattle.nc_acts.specs.Acts.{acts_of_create, acts_of_delete};
 ghost use Rattle.nc_acts.specs.Chunks.{IsClosedChunk};
 ghost use Rattle.nc_acts.specs.Log.{acts_in, log_of_create, log_of_delete};
-ghost use Rattle.nc_region.specs.Patch.{acts_of_modify, log_of_modify};
+ghost use Rattle.nc_region.specs.Patch.{acts_of_patch, log_of_patch};
 ghost use Rattle.nc_gens.specs.Progress.{IsBeforeLook};
 ghost use Rattle.nc_region.specs.Region.{Region};
 ghost use Rattle.nc_region.specs.Deletion.{IsReclaimed, HasProgressed};
@@ -28,7 +28,7 @@ pub fn law_of_chunks()
 pub fn law_of_logs()
     ensures create { (base : ℕ) (code : List ℕ) → acts_in (log_of_create base code) ≡ acts_of_create base code }
     ensures delete { (marks : List Mark) (base len : ℕ) → acts_in (log_of_delete marks base len) ≡ acts_of_delete marks base len }
-    ensures modify { (text : List ℕ) (at : ℕ) (news : List Piece) → acts_in (log_of_modify text at news) ≡ acts_of_modify text at news }
+    ensures patch { (text : List ℕ) (at : ℕ) (news : List Piece) → acts_in (log_of_patch text at news) ≡ acts_of_patch text at news }
 {}
 
 /// A reclaim frees each chunk for which, at some moment before its look, each seat had checked in since the stamp or had left. The

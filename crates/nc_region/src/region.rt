@@ -16,7 +16,7 @@ ghost use Rattle.nc_region.specs.Deletion.{HasLive, IsDeleted, MayRefuseDelete, 
 ghost use Rattle.nc_vet.specs.Faults.{HasGoodSpan};
 ghost use Rattle.nc_region.specs.Region.{Region, IsRegion, AreChunksReady, IsNew, IsAboveAll, IsNextChunk, IsCreated, IsRefused, MayRefuse, Meets, told};
 ghost use Rattle.nc_vet.specs.Chunk.{Piece};
-ghost use Rattle.nc_region.specs.Patch.{IsPatch, MayRefusePatch, IsModified, AreBytesOf, acts_of_modify, log_of_modify};
+ghost use Rattle.nc_region.specs.Patch.{IsPatch, MayRefusePatch, IsPatched, AreBytesOf, acts_of_patch, log_of_patch};
 ghost use Rattle.nc_region.specs.Trace.{IsTrace, IsOnlyTrace, IsSafeWalk, IsWalkStart, MayRefuseWalk};
 
 use crate::create::{make_room, put_chunk};
@@ -238,13 +238,13 @@ impl<A: Acts + Drop> RegionOf<A> {
     /// transfer exactly if the old one is, and on the same register: a masked jump may become a masked call, and vice versa.
     pub fn modify(&mut self, at: u32, new: &[u8]) -> Result<(), ModifyFault>
         // The new bytes are in their place; all else is as before.
-        ensures modified { OnOk result (IsModified self.old self.new at new.now) }
+        ensures modified { OnOk result (IsPatched self.old self.new at new.now) }
         // Exactly the acts of a patch are told.
         ensures acts { OnOk result ((news : List Piece) → AreBytesOf new.now news
-            → told self.new ≡ told self.old ++ acts_of_modify self.old.marked.bytes at news) }
+            → told self.new ≡ told self.old ++ acts_of_patch self.old.marked.bytes at news) }
         // The region serialized twice for each instruction of more than one byte that was replaced.
         ensures log { OnOk result ((news : List Piece) → AreBytesOf new.now news
-            → Logs self.old.logged self.new.logged (log_of_modify self.old.marked.bytes at news)) }
+            → Logs self.old.logged self.new.logged (log_of_patch self.old.marked.bytes at news)) }
         // Only lawful patches are made.
         ensures lawful { OnOk result (IsPatch self.old at new.now) }
         // Text, marks, chunks and acts are as before.

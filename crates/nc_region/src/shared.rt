@@ -6,7 +6,7 @@ ghost use Rattle.nc_decode.specs.Bundles.{IsLawfulLimit};
 ghost use Rattle.nc_text.specs.Machine.{IsConfined};
 ghost use Rattle.nc_text.specs.Places.{limit_of};
 ghost use Rattle.nc_region.specs.Deletion.{IsDeleted, IsReclaimed, MayRefuseDelete, HasProgressed};
-ghost use Rattle.nc_region.specs.Patch.{IsModified, IsPatch, MayRefusePatch};
+ghost use Rattle.nc_region.specs.Patch.{IsPatched, IsPatch, MayRefusePatch};
 ghost use Rattle.nc_region.specs.Region.{IsRegion, IsCreated, IsRefused, MayRefuse};
 ghost use Rattle.nc_region.specs.Region as spec;
 ghost use Rattle.nc_region.specs.Reached.{IsReachedFrom};
@@ -145,12 +145,12 @@ impl<'g, A: Acts + Drop> SharedOf<'g, A> {
     pub fn modify(&self, rt: &impl Wait, at: u32, new: &[u8]) -> Result<(), ModifyFault>
         // The patch is a lawful one of the region found under the lock, and was made there.
         ensures modified { OnOk result ((old next : spec.Region) × IsReachedFrom self.now.first old
-            × IsRegion old.marked old.chunks × IsPatch old at new.now × IsModified old next at new.now) }
+            × IsRegion old.marked old.chunks × IsPatch old at new.now × IsPatched old next at new.now) }
         // The refusal is one that a region reached by calls may return.
         ensures refused { IfErr result (λ fault. (r : spec.Region) × IsReachedFrom self.now.first r
             × IsRegion r.marked r.chunks × MayRefusePatch r at new.now fault) }
     {
-        modify_at::<A, Brand>(&self.region, rt, at, new)
+        patch_at::<A, Brand>(&self.region, rt, at, new)
     }
 
     /// `Region::walk` under the lock: the trace through the text at that moment. The contract says that the text of some region
@@ -271,24 +271,24 @@ fn create_in<A: Acts + Drop, K: Rule>(
     ruled.value.create(vetted)
 }
 
-/// `modify`, for a rule that says from which region the one under the lock was reached.
-fn modify_at<A: Acts + Drop, K: Rule>(
+/// `SharedOf::modify`, for a rule that says from which region the one under the lock was reached.
+fn patch_at<A: Acts + Drop, K: Rule>(
     lock: &Lock<RegionOf<A>>,
     rt: &impl Wait,
     at: u32,
     new: &[u8],
 ) -> Result<(), ModifyFault>
     requires { K.first ≡ Some lock.now }
-    ensures modified { OnOk result ((old next : spec.Region) × IsReachedFrom lock.now old
-        × IsRegion old.marked old.chunks × IsPatch old at new.now × IsModified old next at new.now) }
+    ensures patched { OnOk result ((old next : spec.Region) × IsReachedFrom lock.now old
+        × IsRegion old.marked old.chunks × IsPatch old at new.now × IsPatched old next at new.now) }
     ensures refused { IfErr result (λ fault. (r : spec.Region) × IsReachedFrom lock.now r
         × IsRegion r.marked r.chunks × MayRefusePatch r at new.now fault) }
 {
-    modify_in(&mut lock.at::<K>().mutex.lock(rt), at, new)
+    patch_in(&mut lock.at::<K>().mutex.lock(rt), at, new)
 }
 
 /// Patches the region under the lock, and does nothing else.
-fn modify_in<A: Acts + Drop, K: Rule>(
+fn patch_in<A: Acts + Drop, K: Rule>(
     ruled: &mut Ruled<RegionOf<A>, K>,
     at: u32,
     new: &[u8],
@@ -296,7 +296,7 @@ fn modify_in<A: Acts + Drop, K: Rule>(
     ensures reached { (first : spec.Region) → K.first ≡ Some first → IsReachedFrom first ruled.old }
     ensures found { IsRegion ruled.old.marked ruled.old.chunks }
     ensures lawful { OnOk result (IsPatch ruled.old at new.now) }
-    ensures modified { OnOk result (IsModified ruled.old ruled.new at new.now) }
+    ensures patched { OnOk result (IsPatched ruled.old ruled.new at new.now) }
     ensures unchanged { OnErr result (ruled.new ≡ ruled.old) }
     ensures refused { IfErr result (MayRefusePatch ruled.old at new.now) }
 {

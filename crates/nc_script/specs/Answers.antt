@@ -58,7 +58,7 @@ pub record IsNoStart (start : ℕ) (old : Script) (reply : List ℕ) (new : Scri
   pub same : new ≡ old
 
 -- a lawful patch is made: the chunk has the new bytes
-pub record IsPatched (at : ℕ) (bytes : List ℕ) (old : Script) (reply : List ℕ) (new : Script) : Type 0 where
+pub record PatchesLive (at : ℕ) (bytes : List ℕ) (old : Script) (reply : List ℕ) (new : Script) : Type 0 where
   pub lawful : IsLawfulPatch old at bytes
   pub reply_is : reply ≡ with_line_end (codes "ok")
   pub new_is : new ≡ record old { chunks = map (patched_at at bytes) old.chunks }
@@ -114,7 +114,7 @@ pub record IsFreed (old : Script) (reply : List ℕ) (new : Script) : Type 0 whe
 abbrev pub Serves : Request → Script → List ℕ → Script → Type 0
 Serves (Create base bytes) old reply new =
     IsAdded base bytes old reply new ⊎ (IsFaulted base bytes old reply new ⊎ IsCrowdedOut base bytes old reply new)
-Serves (Modify at bytes) old reply new = IsPatched at bytes old reply new ⊎ IsNotPatched at bytes old reply new
+Serves (Modify at bytes) old reply new = PatchesLive at bytes old reply new ⊎ IsNotPatched at bytes old reply new
 Serves (Delete base) old reply new = RetiresLive base old reply new ⊎ IsNotDeleted base old reply new
 Serves (CheckIn seat) old reply new = IsCheckedIn seat old reply new ⊎ IsNoSeat seat old reply new
 Serves (Leave seat) old reply new = HasLeft seat old reply new ⊎ IsNoSeat seat old reply new

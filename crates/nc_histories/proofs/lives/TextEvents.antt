@@ -8,8 +8,8 @@ use Rattle.nc_region.specs.schedules.World.{World}
 use Rattle.nc_region.specs.schedules.Events.{Event, Puts, Serializes, Marks, Retires, after, world_after}
 use Rattle.nc_acts.specs.Acts.{puts_where, is_inside, is_start, is_marked_at, is_unmarked_at}
 use Rattle.nc_histories.specs.Interleaving.{writers, ThreadsMay}
-use Rattle.nc_histories.specs.Calls.{Details, no_details, create_events, modify_events, delete_events}
-use Rattle.nc_histories.proofs.Entries.{events_of, create_is, delete_is, patch_events, modify_is}
+use Rattle.nc_histories.specs.Calls.{Details, no_details, create_events, patch_events, delete_events}
+use Rattle.nc_histories.proofs.Entries.{events_of, create_is, delete_is, events_of_instructions, patch_is}
 use Rattle.nc_histories.proofs.Turning.{puts_keep, patch_keeps}
 
 -- ---- events that change only the text
@@ -82,12 +82,12 @@ pub create_second_text : (v : MarkedChunk) → AreOfText (create_second v)
 create_second_text v = all_puts (record no_details { marks = v.marks }) is_start v.base v.code
 
 -- the events of all instructions of a patch only change the text
-pub patch_text : (text : List ℕ) (at : ℕ) (news : List Piece) → AreOfText (patch_events text at news)
-patch_text = patch_keeps AreOfText (λ at byte more t. t) (λ more t. t) tt
+pub instructions_text : (text : List ℕ) (at : ℕ) (news : List Piece) → AreOfText (events_of_instructions text at news)
+instructions_text = patch_keeps AreOfText (λ at byte more t. t) (λ more t. t) tt
 
 -- the events of a patch only change the text
-pub modify_text : (text : List ℕ) (at : ℕ) (news : List Piece) → AreOfText (modify_events text at news)
-modify_text text at news = subst AreOfText (sym (modify_is text at news)) (patch_text text at news)
+pub patch_text : (text : List ℕ) (at : ℕ) (news : List Piece) → AreOfText (patch_events text at news)
+patch_text text at news = subst AreOfText (sym (patch_is text at news)) (instructions_text text at news)
 
 -- the events of a deletion before its stamp is drawn
 abbrev pub delete_front : List Mark → ℕ → ℕ → List Event

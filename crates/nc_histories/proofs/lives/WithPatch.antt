@@ -13,10 +13,10 @@ use Rattle.nc_list.specs.declared.chunk.Chunk.{Chunk}
 use Rattle.nc_region.specs.schedules.World.{first_world}
 use Rattle.nc_region.specs.schedules.Events.{world_after}
 use Rattle.nc_region.specs.Region.{Region, IsCreated, live_chunk}
-use Rattle.nc_region.specs.Patch.{IsPatch, log_of_modify}
+use Rattle.nc_region.specs.Patch.{IsPatch, log_of_patch}
 use Rattle.nc_region.proofs.Offered.{after_append}
-use Rattle.nc_region.proofs.Offered.{modified_region, modified_exists}
-use Rattle.nc_histories.specs.Calls.{modify_events}
+use Rattle.nc_region.proofs.Offered.{patched_region, patched_exists}
+use Rattle.nc_histories.specs.Calls.{patch_events}
 use Rattle.nc_histories.specs.Histories.{NoneYet, Patches, Turn, IsTurn}
 use Rattle.nc_histories.specs.Example.{first_region, start_of, PatchesAt}
 use Rattle.nc_histories.proofs.AllTurns.{text_at_end}
@@ -24,7 +24,7 @@ use Rattle.nc_histories.specs.Steps.{word_steps}
 use Rattle.nc_histories.proofs.WordSteps.{steps_append, begins_with_none}
 use Rattle.nc_histories.proofs.CallSteps.{text_steps}
 use Rattle.nc_histories.proofs.lives.Refilled.{span_over}
-use Rattle.nc_histories.proofs.lives.TextEvents.{own_of_text, may_of_text, modify_text}
+use Rattle.nc_histories.proofs.lives.TextEvents.{own_of_text, may_of_text, patch_text}
 use Rattle.nc_histories.proofs.lives.OneSeat.{Stage, stage_of_text, seat_in}
 use Rattle.nc_histories.proofs.lives.LastTurns.{with_live, Ended, Begun, ended}
 use Rattle.nc_histories.proofs.lives.FirstTurn.{creation_events, creation_steps, stage_created, fresh, same_created, creation_turn, creation_is_turn}
@@ -49,12 +49,12 @@ patch_lies v keeper created at bytes valid is lawful =
 
 -- the region after the patch
 abbrev patched_of : (created : Region) (at : ℕ) (bytes : List ℕ) → IsPatch created at bytes → Region
-patched_of created at bytes lawful = modified_region created at bytes lawful.1.2.0.run.news
+patched_of created at bytes lawful = patched_region created at bytes lawful.1.2.0.run.news
 
 -- the turn of the patch
 abbrev patch_turn : (created : Region) (at : ℕ) (bytes : List ℕ) → IsPatch created at bytes → Turn
 patch_turn created at bytes lawful = record {
-  events = modify_events created.marked.bytes at lawful.1.2.0.run.news;
+  events = patch_events created.marked.bytes at lawful.1.2.0.run.news;
   region = patched_of created at bytes lawful;
 }
 
@@ -62,7 +62,7 @@ patch_turn created at bytes lawful = record {
 patches_at : (created : Region) (at : ℕ) (bytes : List ℕ) (lawful : IsPatch created at bytes)
     → PatchesAt created at bytes (patch_turn created at bytes lawful)
 patches_at created at bytes lawful = record {
-  modified = modified_exists created at bytes lawful.1.2.0.run.news;
+  patched = patched_exists created at bytes lawful.1.2.0.run.news;
   news = lawful.1.2.0.run.news;
   bytes_are = lawful.1.2.0.run.bytes;
   own = refl;
@@ -71,12 +71,12 @@ patches_at created at bytes lawful = record {
 -- the world after the patch
 stage_patched : (v : MarkedChunk) (text : List ℕ) (at : ℕ) (news : List Piece)
     → Stage v.limit (first_keeper_numbers 1) (seat_in (start_of v))
-    (world_after (first_world v.limit 1) (creation_events v ++ modify_events text at news))
+    (world_after (first_world v.limit 1) (creation_events v ++ patch_events text at news))
 stage_patched v text at news =
     subst (Stage v.limit (first_keeper_numbers 1) (seat_in (start_of v)))
-    (sym (after_append (first_world v.limit 1) (creation_events v) (modify_events text at news)))
+    (sym (after_append (first_world v.limit 1) (creation_events v) (patch_events text at news)))
     (stage_of_text v.limit (first_keeper_numbers 1) (seat_in (start_of v)) (world_after (first_world v.limit 1) (creation_events v))
-    (modify_events text at news) (modify_text text at news) (stage_created v))
+    (patch_events text at news) (patch_text text at news) (stage_created v))
 
 -- the patch is a turn (`IsTurn`)
 patch_is_turn : (v : MarkedChunk) (keeper : KeeperState) (created : Region) (at : ℕ) (bytes : List ℕ)
@@ -87,11 +87,11 @@ patch_is_turn v keeper created at bytes is lawful =
     let p = patches_at created at bytes lawful in
     record {
       call = Patches at bytes lawful.1.2.0.run.news lawful lawful.1.2.0.run.bytes
-          (modified_exists created at bytes lawful.1.2.0.run.news) [] NoneYet
-          (own_of_text (modify_events created.marked.bytes at lawful.1.2.0.run.news)
-          (modify_text created.marked.bytes at lawful.1.2.0.run.news));
+          (patched_exists created at bytes lawful.1.2.0.run.news) [] NoneYet
+          (own_of_text (patch_events created.marked.bytes at lawful.1.2.0.run.news)
+          (patch_text created.marked.bytes at lawful.1.2.0.run.news));
       threads = may_of_text (world_after (first_world v.limit 1) (creation_events v))
-          (modify_events created.marked.bytes at lawful.1.2.0.run.news) (modify_text created.marked.bytes at lawful.1.2.0.run.news);
+          (patch_events created.marked.bytes at lawful.1.2.0.run.news) (patch_text created.marked.bytes at lawful.1.2.0.run.news);
       order = λ made later parts some none. begins_with_none (word_steps (creation_events v ++ made)) created.keeper.history (ap (λ (r : Region). r.keeper.history) is.others);
     }
 
@@ -113,7 +113,7 @@ patched_back v keeper created at bytes valid is lawful =
 -- where the patch leaves the world
 begun_patched : (v : MarkedChunk) (keeper : KeeperState) (created : Region) (at : ℕ) (bytes : List ℕ) → IsValid v
     → IsCreated (first_region v.limit (fresh keeper)) created v → (lawful : IsPatch created at bytes)
-    → Begun v (creation_events v ++ modify_events created.marked.bytes at lawful.1.2.0.run.news)
+    → Begun v (creation_events v ++ patch_events created.marked.bytes at lawful.1.2.0.run.news)
     (with_span created.marked.bytes (at - 65536) bytes)
 begun_patched v keeper created at bytes valid is lawful =
     let turns : List Turn = creation_turn v created ∷ patch_turn created at bytes lawful ∷ [] in
@@ -124,9 +124,9 @@ begun_patched v keeper created at bytes valid is lawful =
     record {
       stage = stage_patched v created.marked.bytes at lawful.1.2.0.run.news;
       text_is = ap (λ (m : MarkedText). m.bytes) stands.marked;
-      steps = steps_append (creation_events v) (modify_events created.marked.bytes at lawful.1.2.0.run.news)
-          ∙ (λ i. creation_steps v i ++ text_steps (modify_events created.marked.bytes at lawful.1.2.0.run.news)
-          (modify_text created.marked.bytes at lawful.1.2.0.run.news) i);
+      steps = steps_append (creation_events v) (patch_events created.marked.bytes at lawful.1.2.0.run.news)
+          ∙ (λ i. creation_steps v i ++ text_steps (patch_events created.marked.bytes at lawful.1.2.0.run.news)
+          (patch_text created.marked.bytes at lawful.1.2.0.run.news) i);
     }
 
 -- the region after the patch, by its parts
@@ -134,28 +134,28 @@ same_patched : (v : MarkedChunk) (keeper : KeeperState) (created : Region) (at :
     → IsCreated (first_region v.limit (fresh keeper)) created v → (lawful : IsPatch created at bytes)
     → patched_of created at bytes lawful ≡ with_live v keeper
     (record { bytes = with_span created.marked.bytes (at - 65536) bytes; marks = created.marked.marks }) created.made
-    (created.logged ++ log_of_modify created.marked.bytes at lawful.1.2.0.run.news)
+    (created.logged ++ log_of_patch created.marked.bytes at lawful.1.2.0.run.news)
 same_patched v keeper created at bytes is lawful =
     ap (λ (r : Region). let x : Region = record {
       marked = record { bytes = with_span created.marked.bytes (at - 65536) bytes; marks = created.marked.marks };
       made = created.made;
       chunks = r.chunks;
       keeper = r.keeper;
-      logged = created.logged ++ log_of_modify created.marked.bytes at lawful.1.2.0.run.news;
+      logged = created.logged ++ log_of_patch created.marked.bytes at lawful.1.2.0.run.news;
     } in x) (same_created v keeper created is)
 
 -- the last turns after the patch
 ended_patched : (v : MarkedChunk) (keeper : KeeperState) (created : Region) (at : ℕ) (bytes : List ℕ) → IsValid v
     → IsCreated (first_region v.limit (fresh keeper)) created v → (lawful : IsPatch created at bytes) → (path : List State)
     → Joined (with_span created.marked.bytes (at - 65536) bytes) (start_of v) path
-    → Ended v (creation_events v ++ modify_events created.marked.bytes at lawful.1.2.0.run.news) (patched_of created at bytes lawful) path
+    → Ended v (creation_events v ++ patch_events created.marked.bytes at lawful.1.2.0.run.news) (patched_of created at bytes lawful) path
 ended_patched v keeper created at bytes valid is lawful path joined =
     subst
-    (λ (r : Region). Ended v (creation_events v ++ modify_events created.marked.bytes at lawful.1.2.0.run.news) r path)
+    (λ (r : Region). Ended v (creation_events v ++ patch_events created.marked.bytes at lawful.1.2.0.run.news) r path)
     (sym (same_patched v keeper created at bytes is lawful))
     (ended v keeper (record { bytes = with_span created.marked.bytes (at - 65536) bytes; marks = created.marked.marks }) created.made
-    (created.logged ++ log_of_modify created.marked.bytes at lawful.1.2.0.run.news)
-    (creation_events v ++ modify_events created.marked.bytes at lawful.1.2.0.run.news)
+    (created.logged ++ log_of_patch created.marked.bytes at lawful.1.2.0.run.news)
+    (creation_events v ++ patch_events created.marked.bytes at lawful.1.2.0.run.news)
     (begun_patched v keeper created at bytes valid is lawful) (patched_back v keeper created at bytes valid is lawful)
     (marks_back v keeper created valid is) path joined)
 
@@ -167,7 +167,7 @@ life_patched : (v : MarkedChunk) (keeper : KeeperState) (created : Region) (at :
 life_patched v keeper created at bytes valid is lawful path joined =
     let e = ended_patched v keeper created at bytes valid is lawful path joined in
     life_of v keeper created (patch_turn created at bytes lawful ∷ [])
-    (creation_events v ++ modify_events created.marked.bytes at lawful.1.2.0.run.news) path valid is e
+    (creation_events v ++ patch_events created.marked.bytes at lawful.1.2.0.run.news) path valid is e
     (creation_is_turn v keeper created valid is, (patch_is_turn v keeper created at bytes is lawful, e.turns_are)) e.stays
 
 -- what is to be shown of each creation and patch, for a keeper

@@ -9,7 +9,7 @@ use Rattle.nc_acts.specs.declared.acts.Entry.{Entry}
 use Rattle.nc_acts.specs.declared.acts.Entry.TheVariants.{Did, Serialized}
 use Rattle.nc_acts.specs.Acts.{puts_where}
 use Rattle.nc_acts.specs.Log.{only_acts}
-use Rattle.nc_region.specs.Patch.{any_place, stands_there, log_of_instruction, log_of_modify}
+use Rattle.nc_region.specs.Patch.{any_place, stands_there, log_of_instruction, log_of_patch}
 use Rattle.nc_region.proofs.Offered.{Parted, slice_rest}
 use Rattle.nc_host_acts.specs.declared.act.NcAct.{NcAct}
 use Rattle.nc_host_acts.specs.Written.{AddsEntries}
@@ -65,12 +65,12 @@ rest_counted at bytes one two n m middle =
 pub patch_added : (text : List ℕ) (at : ℕ) (new : List ℕ) (news : List Piece) (i : Instr) (q : Parted new news i) (acts one two : List NcAct)
     (n m k : ℕ)
     → AddsEntries acts n one m (cond (stands_there text at (take i.len new)) [] (log_of_instruction at (take i.len new)))
-    → AddsEntries one m two k (log_of_modify text (at + i.len) q.rest) → AddsEntries acts n two k (log_of_modify text at news)
+    → AddsEntries one m two k (log_of_patch text (at + i.len) q.rest) → AddsEntries acts n two k (log_of_patch text at news)
 patch_added text at new news i q acts one two n m k first others =
     let here : AddsEntries acts n one m (cond (stands_there text at q.first.bytes) [] (log_of_instruction at q.first.bytes)) =
     subst (λ (z : List ℕ). AddsEntries acts n one m (cond (stands_there text at z) [] (log_of_instruction at z))) q.front first in
-    let more : AddsEntries one m two k (log_of_modify text (at + length q.first.bytes) q.rest) =
-    subst (λ (l : ℕ). AddsEntries one m two k (log_of_modify text (at + l) q.rest)) q.len others in
-    subst (λ (z : List Piece). AddsEntries acts n two k (log_of_modify text at z)) (sym q.is)
+    let more : AddsEntries one m two k (log_of_patch text (at + length q.first.bytes) q.rest) =
+    subst (λ (l : ℕ). AddsEntries one m two k (log_of_patch text (at + l) q.rest)) q.len others in
+    subst (λ (z : List Piece). AddsEntries acts n two k (log_of_patch text at z)) (sym q.is)
     (adds_both acts one two n m k (cond (stands_there text at q.first.bytes) [] (log_of_instruction at q.first.bytes))
-    (log_of_modify text (at + length q.first.bytes) q.rest) here more)
+    (log_of_patch text (at + length q.first.bytes) q.rest) here more)

@@ -6,7 +6,7 @@ use Rattle.nc_acts.specs.declared.acts.Act.TheVariants.{Put}
 use Rattle.nc_acts.specs.declared.acts.Entry.TheVariants.{Did, Serialized}
 use Rattle.nc_acts.specs.Acts.{puts_where}
 use Rattle.nc_acts.specs.Log.{acts_in}
-use Rattle.nc_region.specs.Patch.{stands_there, any_place, acts_of_instruction, acts_of_modify, log_of_instruction, log_of_modify}
+use Rattle.nc_region.specs.Patch.{stands_there, any_place, acts_of_instruction, acts_of_patch, log_of_instruction, log_of_patch}
 use Rattle.nc_acts.proofs.Offered.{acts_join, acts_before}
 
 -- the acts in the log of one instruction
@@ -24,10 +24,10 @@ chosen_acts true at bytes = refl
 chosen_acts false at bytes = instruction_acts at bytes
 
 -- the acts in the log of a patch
-pub modified_acts : (text : List ℕ) (at : ℕ) (news : List Piece) → acts_in (log_of_modify text at news) ≡ acts_of_modify text at news
-modified_acts text at [] = refl
-modified_acts text at (p ∷ rest) =
+pub patch_acts : (text : List ℕ) (at : ℕ) (news : List Piece) → acts_in (log_of_patch text at news) ≡ acts_of_patch text at news
+patch_acts text at [] = refl
+patch_acts text at (p ∷ rest) =
     let b = stands_there text at p.bytes in
-    acts_join (cond b [] (log_of_instruction at p.bytes)) (log_of_modify text (at + length p.bytes) rest)
-    ∙ (ap (λ (z : List Act). z ++ acts_in (log_of_modify text (at + length p.bytes) rest)) (chosen_acts b at p.bytes)
-    ∙ ap (λ (z : List Act). cond b [] (acts_of_instruction at p.bytes) ++ z) (modified_acts text (at + length p.bytes) rest))
+    acts_join (cond b [] (log_of_instruction at p.bytes)) (log_of_patch text (at + length p.bytes) rest)
+    ∙ (ap (λ (z : List Act). z ++ acts_in (log_of_patch text (at + length p.bytes) rest)) (chosen_acts b at p.bytes)
+    ∙ ap (λ (z : List Act). cond b [] (acts_of_instruction at p.bytes) ++ z) (patch_acts text (at + length p.bytes) rest))

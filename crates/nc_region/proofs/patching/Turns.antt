@@ -16,7 +16,7 @@ use Rattle.nc_text.proofs.Offered.{length-with_span}
 use Rattle.nc_list.specs.declared.chunk.Chunk.{Chunk}
 use Rattle.nc_acts.specs.declared.acts.Entry.{Entry}
 use Rattle.nc_region.specs.Patch.{AreBytesOf, lengths, SparesPairs, GoWell, stands_there}
-use Rattle.nc_region.specs.Patch.{log_of_instruction, log_of_modify}
+use Rattle.nc_region.specs.Patch.{log_of_instruction, log_of_patch}
 use Rattle.nc_region.specs.machinery.PatchSteps.{CanPatch}
 use Rattle.nc_acts.proofs.Offered.{place_of, Before, Within, Behind, span_within, span_before, span_behind}
 use Rattle.nc_region.proofs.patching.NewInstructions.{some_same}
@@ -227,10 +227,10 @@ same_stands a b at (x ∷ rest) h = ap (λ (z : ℕ). (z == x) && stands_there a
 
 -- the log of what is left is the same over a text that agrees from there on
 pub same_log : (a b : List ℕ) (at : ℕ) (ns : List Piece) → ((k : ℕ) → at ≤ k → byte_at a k ≡ byte_at b k)
-    → log_of_modify a at ns ≡ log_of_modify b at ns
+    → log_of_patch a at ns ≡ log_of_patch b at ns
 same_log a b at [] h = refl
 same_log a b at (n ∷ ns) h =
-    ap (λ (z : Bool). cond z [] (log_of_instruction at n.bytes) ++ log_of_modify a (at + length n.bytes) ns)
+    ap (λ (z : Bool). cond z [] (log_of_instruction at n.bytes) ++ log_of_patch a (at + length n.bytes) ns)
     (same_stands a b at n.bytes h)
     ∙ ap (λ (z : List Entry). cond (stands_there b at n.bytes) [] (log_of_instruction at n.bytes) ++ z)
     (same_log a b (at + length n.bytes) ns (λ k le. h k (omega (arith, le))))

@@ -17,7 +17,7 @@ use Rattle.nc_acts.specs.Log.{Logs}
 use Rattle.nc_region.specs.Region.{HoldsValid, IsInChunk}
 use Rattle.nc_region.specs.declared.fault.ModifyFault.{ModifyFault}
 use Rattle.nc_region.specs.declared.fault.ModifyFault.TheVariants.{BadSpan, NotLive, NotPermitted, Boundaries, PairTouched, BadTarget}
-use Rattle.nc_region.specs.Patch.{AreBytesOf, AreInstructions, IsRunOf, IsRun, LeavesPairs, KeepsTargets, log_of_modify}
+use Rattle.nc_region.specs.Patch.{AreBytesOf, AreInstructions, IsRunOf, IsRun, LeavesPairs, KeepsTargets, log_of_patch}
 
 -- The address lies in a chunk that holds valid code, and has this mark. The text is closed.
 pub record LiesInValid (marked : MarkedText) (c : Chunk) (at : ℕ) (mark : Mark) : Type 0 where
@@ -72,7 +72,7 @@ pub record HasPutPatch (old new : MarkedText) (logged logged_now : List Entry) (
   pub marks : new.marks ≡ old.marks
   pub whole : IsText new
   pub holds : HoldsValid new c
-  pub log : (news : List Piece) → AreBytesOf put news → Logs logged logged_now (log_of_modify old.bytes at news)
+  pub log : (news : List Piece) → AreBytesOf put news → Logs logged logged_now (log_of_patch old.bytes at news)
 
 -- When a patch of a live chunk is refused with each fault: the first of these conditions that doesn't hold. The new bytes
 -- are whole permitted instructions; they fit in the place of instructions of the chunk; they leave its pairs alone; their

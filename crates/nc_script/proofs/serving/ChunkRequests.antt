@@ -13,7 +13,7 @@ use Rattle.nc_list.specs.declared.chunk.ChunkState.TheVariants.{Live, Retired}
 use Rattle.nc_region.proofs.Offered.{each_map, each_contains, each_set, each_append, each_take, each_drop}
 use Rattle.nc_region.specs.Region.{Region, IsRegion, IsLive}
 use Rattle.nc_region.specs.Region as region
-use Rattle.nc_region.specs.Patch.{IsPatch, MayRefusePatch, IsModified}
+use Rattle.nc_region.specs.Patch.{IsPatch, MayRefusePatch, IsPatched}
 use Rattle.nc_region.specs.Deletion.{IsDeleted, MayRefuseDelete}
 use Rattle.nc_region.specs.declared.fault.ModifyFault.{ModifyFault}
 use Rattle.nc_region.specs.declared.fault.DeleteFault.{DeleteFault}
@@ -33,10 +33,10 @@ use Rattle.nc_script.proofs.chunks.RetiredChunks.{retired_chunks, has_live, live
 use Rattle.nc_script.proofs.serving.Serving.{same_but_chunks}
 
 -- a patch that was made
-pub modified_follows : (old new : Region) (at : ℕ) (bytes : List ℕ) → IsRegion old.marked old.chunks → IsModified old new at bytes
+pub patched_follows : (old new : Region) (at : ℕ) (bytes : List ℕ) → IsRegion old.marked old.chunks → IsPatched old new at bytes
     → IsPatch old at bytes
     → FollowsIn (Modify at bytes) old (with_line_end (codes "ok")) new
-modified_follows old new at bytes is m p =
+patched_follows old new at bytes is m p =
     let text = old.marked.bytes in
     let c = p.1.0 in
     let held = p.1.1 in
@@ -59,10 +59,10 @@ modified_follows old new at bytes is m p =
     }))
 
 -- a patch that was refused
-pub unmodified_follows : (old new : Region) (at : ℕ) (bytes : List ℕ) (fault : ModifyFault) → IsRegion old.marked old.chunks
+pub unpatched_follows : (old new : Region) (at : ℕ) (bytes : List ℕ) (fault : ModifyFault) → IsRegion old.marked old.chunks
     → MayRefusePatch old at bytes fault → new ≡ old
     → FollowsIn (Modify at bytes) old (with_line_end (refused_words (patch_words fault))) new
-unmodified_follows old new at bytes fault is due same =
+unpatched_follows old new at bytes fault is due same =
     subst (λ (r : Region). FollowsIn (Modify at bytes) old (with_line_end (refused_words (patch_words fault))) r) (sym same)
     (follows_same (Modify at bytes) old (with_line_end (refused_words (patch_words fault)))
     (λ seats freed. inr (record { fault = fault; due = refused_of old is seats freed at bytes fault due; reply_is = refl; same = refl })))

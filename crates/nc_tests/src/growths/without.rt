@@ -24,14 +24,14 @@ static PAIR: [u8; 5] = [0x83, 0xE0, 0xE0, 0xFF, 0xE0];
 /// Patches, which may be refused, and the deletion of the first chunk.
 #[rattlefmt::skip]
 static UNTIL_RETIRED: [Step<'static>; 11] = [
-    Step::Modify(0x10002, &[0xB8, 2, 0, 0, 0], Ok(())),
-    Step::Modify(0x10002, &[0xEB, 0xFE, 0x90, 0x90, 0x90], Err(ModifyFault::Boundaries)),
-    Step::Modify(0x10040, &[0x83, 0xE1, 0xE0, 0xFF, 0xE1], Err(ModifyFault::PairTouched)),
-    Step::Modify(0x10000, &[0xEB, 0x7E], Err(ModifyFault::BadTarget)),
-    Step::Modify(0x10000, &[0xEB, 0x1E], Ok(())),
-    Step::Modify(0x1001F, &[0x90, 0x90], Err(ModifyFault::BadSpan)),
-    Step::Modify(0x10060, &[0x90], Err(ModifyFault::NotLive)),
-    Step::Modify(0x10007, &[0xC3], Err(ModifyFault::NotPermitted)),
+    Step::Patch(0x10002, &[0xB8, 2, 0, 0, 0], Ok(())),
+    Step::Patch(0x10002, &[0xEB, 0xFE, 0x90, 0x90, 0x90], Err(ModifyFault::Boundaries)),
+    Step::Patch(0x10040, &[0x83, 0xE1, 0xE0, 0xFF, 0xE1], Err(ModifyFault::PairTouched)),
+    Step::Patch(0x10000, &[0xEB, 0x7E], Err(ModifyFault::BadTarget)),
+    Step::Patch(0x10000, &[0xEB, 0x1E], Ok(())),
+    Step::Patch(0x1001F, &[0x90, 0x90], Err(ModifyFault::BadSpan)),
+    Step::Patch(0x10060, &[0x90], Err(ModifyFault::NotLive)),
+    Step::Patch(0x10007, &[0xC3], Err(ModifyFault::NotPermitted)),
     Step::Delete(0x10060, Err(DeleteFault::NoChunk)),
     Step::Delete(0x10000, Ok(1)),
     Step::Reclaim(0),

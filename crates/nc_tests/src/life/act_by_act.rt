@@ -28,7 +28,7 @@ const JUMP: &[u8] = &[0xEB, 0xDE];
 static JUMPING: [Step<'static>; 4] = [
     Step::Create(0x10000, 1, PAIR, Ok(())),
     Step::Create(0x10020, 1, JUMP, Ok(())),
-    Step::Modify(0x10005, &[0x40], Ok(())),
+    Step::Patch(0x10005, &[0x40], Ok(())),
     Step::Delete(0x10000, Ok(1)),
 ];
 
@@ -37,8 +37,8 @@ static JUMPING: [Step<'static>; 4] = [
 static CALLING: [Step<'static>; 5] = [
     Step::Create(0x10000, 1, PAIR, Ok(())),
     Step::Create(0x10020, 1, JUMP, Ok(())),
-    Step::Modify(0x10005, &[0x40], Ok(())),
-    Step::Modify(0x10003, &[0xFF, 0xD0], Ok(())),
+    Step::Patch(0x10005, &[0x40], Ok(())),
+    Step::Patch(0x10003, &[0xFF, 0xD0], Ok(())),
     Step::Delete(0x10000, Ok(1)),
 ];
 

@@ -67,8 +67,8 @@ static THEN_OWES: [Entry; 9] = [
 
 /// After the creation: the patch, a patch and a deletion that are refused, the deletion, and a reclaim that frees nothing.
 static UNTIL_RETIRED: [Step<'static>; 5] = [
-    Step::Modify(BASE, PATCH, Ok(())),
-    Step::Modify(BASE, &[0xC3], Err(ModifyFault::NotPermitted)),
+    Step::Patch(BASE, PATCH, Ok(())),
+    Step::Patch(BASE, &[0xC3], Err(ModifyFault::NotPermitted)),
     Step::Delete(0x10000, Err(DeleteFault::NoChunk)),
     Step::Delete(BASE, Ok(1)),
     Step::Reclaim(0),

@@ -15,7 +15,7 @@ pub(crate) trait Calls {
     fn created(&mut self, vetted: Vetted) -> Result<(), (Vetted, CreateFault)>;
 
     /// The result of `modify`.
-    fn modified(&mut self, at: u32, new: &[u8]) -> Result<(), ModifyFault>;
+    fn patched(&mut self, at: u32, new: &[u8]) -> Result<(), ModifyFault>;
 
     /// The result of `delete`.
     fn deleted(&mut self, base: u32) -> Result<u64, DeleteFault>;
@@ -35,7 +35,7 @@ impl<A: Acts + Drop> Calls for RegionOf<A> {
         self.create(vetted)
     }
 
-    fn modified(&mut self, at: u32, new: &[u8]) -> Result<(), ModifyFault> {
+    fn patched(&mut self, at: u32, new: &[u8]) -> Result<(), ModifyFault> {
         self.modify(at, new)
     }
 
@@ -70,7 +70,7 @@ impl<R: Wait, A: Acts + Drop> Calls for Locked<'_, '_, R, A> {
         self.shared.create(self.rt, vetted)
     }
 
-    fn modified(&mut self, at: u32, new: &[u8]) -> Result<(), ModifyFault> {
+    fn patched(&mut self, at: u32, new: &[u8]) -> Result<(), ModifyFault> {
         self.shared.modify(self.rt, at, new)
     }
 

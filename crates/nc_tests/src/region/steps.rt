@@ -10,8 +10,8 @@ use std::alloc::Global;
 pub(crate) enum Step<'s> {
     /// Creates a chunk: its base, its number of bundles, and its first bytes. Nops follow.
     Create(u32, usize, &'s [u8], Result<(), CreateFault>),
-    /// Modifies: the address, and the new bytes.
-    Modify(u32, &'s [u8], Result<(), ModifyFault>),
+    /// Patches: the address, and the new bytes.
+    Patch(u32, &'s [u8], Result<(), ModifyFault>),
     /// Deletes the chunk with this base.
     Delete(u32, Result<u64, DeleteFault>),
     /// Walks: the start, the choices, and the places and the end of the trace.
@@ -51,7 +51,7 @@ fn answers<C: Calls>(alloc: Global, region: &mut C, limit: u32, step: &Step<'_>)
         Step::Create(base, bundles, front, due) => {
             creates(region, chunk(alloc, *base, limit, *bundles, front), *due)
         }
-        Step::Modify(at, new, due) => region.modified(*at, new) == *due,
+        Step::Patch(at, new, due) => region.patched(*at, new) == *due,
         Step::Delete(base, due) => region.deleted(*base) == *due,
         Step::Walk(start, choices, places, end) => walks(region, *start, choices, places, *end),
         Step::Reclaim(due) => region.reclaimed() == *due,

@@ -4,7 +4,7 @@ use Rattle.nc_histories.specs.Histories.{NoneYet}
 use Rattle.nc_histories.proofs.Entries.{stops_of, stops_then}
 use Rattle.nc_histories.proofs.Keeping.{begins, keeper}
 use Rattle.nc_histories.proofs.OneMoreCall.{goes_on, created, deleted}
-use Rattle.nc_histories.proofs.Modified.{modified}
+use Rattle.nc_histories.proofs.Patched.{patched}
 use Rattle.nc_histories.proofs.Reclaimed.{reclaimed}
 use Rattle.nc_histories.proofs.Refusals.{refused_same}
 use Rattle.nc_histories.proofs.law.law_of_calls.Goals as goal
@@ -33,9 +33,9 @@ pub returns-clause-reclaimed : goal.returns-clause-reclaimed
 returns-clause-reclaimed c = λ limit seats before events old new count h region is own threads found.
     (reclaimed limit seats before events old new count h region is own threads found).led
 
-pub returns-clause-modified : goal.returns-clause-modified
-returns-clause-modified c = λ limit seats before events old new at bytes news h region lawful b is own threads.
-    (modified limit seats before events old new at bytes news [] h region lawful b is NoneYet own threads).led
+pub returns-clause-patched : goal.returns-clause-patched
+returns-clause-patched c = λ limit seats before events old new at bytes news h region lawful b is own threads.
+    (patched limit seats before events old new at bytes news [] h region lawful b is NoneYet own threads).led
 
 pub returns-clause-keeper : goal.returns-clause-keeper
 returns-clause-keeper c = λ limit seats before events old new h marked chunks own threads found range.

@@ -1,5 +1,5 @@
 use Rattle.nc_host_law.proofs.Going.{makes_next, loads, patches, begins, again, restarts, anew, ends, calls, reclaims, asks, fails, runs}
-use Rattle.nc_host_law.proofs.Making.{create_hosts, modify_hosts, buffer_hosts}
+use Rattle.nc_host_law.proofs.Making.{create_hosts, patch_hosts, buffer_hosts}
 use Rattle.nc_host_law.proofs.steps.law_of_reaching.Goals as goal
 
 pub returns-clause-makes : goal.returns-clause-makes
@@ -21,7 +21,7 @@ pub returns-clause-buffers : goal.returns-clause-buffers
 returns-clause-buffers c = buffer_hosts
 
 pub returns-clause-changes : goal.returns-clause-changes
-returns-clause-changes c = λ v text at news. (create_hosts v, modify_hosts text at news)
+returns-clause-changes c = λ v text at news. (create_hosts v, patch_hosts text at news)
 
 pub returns-clause-restarts : goal.returns-clause-restarts
 returns-clause-restarts c = restarts

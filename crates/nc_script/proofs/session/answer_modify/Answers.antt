@@ -5,7 +5,7 @@ use Rattle.nc_output.specs.Verdicts.{with_line_end, refused_words}
 use Rattle.nc_script.specs.Replies.{patch_words}
 use Rattle.nc_script.specs.machinery.Session.{FollowsIn}
 use Rattle.nc_output.proofs.Offered.{added}
-use Rattle.nc_script.proofs.serving.ChunkRequests.{modified_follows, unmodified_follows}
+use Rattle.nc_script.proofs.serving.ChunkRequests.{patched_follows, unpatched_follows}
 use Rattle.nc_script.proofs.session.answer_modify.Goals as goal
 
 pub returns-in-Ok-clause-follows : goal.returns-in-Ok-clause-follows
@@ -14,7 +14,7 @@ returns-in-Ok-clause-follows g c =
     added c.extend_from_slice.result _ _ (with_line_end (codes "ok"))
     (λ reply. FollowsIn (Modify c.args.at c.args.bytes.now) old reply c.modify.new.self)
     c.extend_from_slice.ensures.items
-    (modified_follows old c.modify.new.self c.args.at c.args.bytes.now c.requires c.in-Ok.ensures.modified
+    (patched_follows old c.modify.new.self c.args.at c.args.bytes.now c.requires c.in-Ok.ensures.modified
     c.in-Ok.ensures.lawful)
 
 pub returns-in-Err-clause-follows : goal.returns-in-Err-clause-follows
@@ -23,7 +23,7 @@ returns-in-Err-clause-follows g c =
     (λ e. (
       with_line_end (refused_words (patch_words c.in-Err.fault)),
       e,
-      unmodified_follows c.args.region.now c.modify.new.self c.args.at c.args.bytes.now c.in-Err.fault c.requires
+      unpatched_follows c.args.region.now c.modify.new.self c.args.at c.args.bytes.now c.in-Err.fault c.requires
           c.in-Err.ensures.refused c.in-Err.ensures.unchanged,
     ))
     c.push_patch_fault.ensures

@@ -12,7 +12,7 @@ use Rattle.nc_text.specs.Ready.{AreReady}
 use Rattle.nc_list.specs.declared.chunk.Chunk.{Chunk}
 use Rattle.nc_acts.specs.declared.acts.Entry.{Entry}
 use Rattle.nc_acts.specs.Log.{Logs}
-use Rattle.nc_region.specs.Patch.{stands_there, log_of_instruction, log_of_modify}
+use Rattle.nc_region.specs.Patch.{stands_there, log_of_instruction, log_of_patch}
 use Rattle.nc_region.specs.machinery.PatchSteps.{CanPatch, IsReplacing}
 use Rattle.nc_acts.proofs.Offered.{span_behind}
 use Rattle.nc_acts.proofs.Offered.{same_code}
@@ -47,7 +47,7 @@ returns-then-is_empty-clause-patched g t c =
       holds = c.requires.patch.holds;
       log = λ news b.
           subst (λ (z : List Piece). Logs (g.A.Acts.logged c.args.acts.now) (g.A.Acts.logged c.args.acts.now)
-          (log_of_modify (g.A.Acts.marked c.args.acts.now).bytes c.args.at z)) (sym (none_of_none c.args.new.now news none b))
+          (log_of_patch (g.A.Acts.marked c.args.acts.now).bytes c.args.at z)) (sym (none_of_none c.args.new.now news none b))
           (logs_none (g.A.Acts.logged c.args.acts.now));
     }
 
@@ -146,14 +146,14 @@ returns-clause-patched g t c =
           same_behind marked c.args.chunk c.args.at c.args.new.now c.in-Ok.instr patch c.requires.whole is _
           c.put_where_new.ensures.bytes k (omega (arith, le, q.len)) in
           let two : Logs (g.A.Acts.logged c.put_where_new.new.acts) (g.A.Acts.logged c.put_patch.new.acts)
-          (log_of_modify (g.A.Acts.marked c.args.acts.now).bytes (c.args.at + length q.first.bytes) q.rest) =
+          (log_of_patch (g.A.Acts.marked c.args.acts.now).bytes (c.args.at + length q.first.bytes) q.rest) =
           subst (λ (z : List Entry). Logs (g.A.Acts.logged c.put_where_new.new.acts) (g.A.Acts.logged c.put_patch.new.acts) z)
           (same_log (g.A.Acts.marked c.put_where_new.new.acts).bytes (g.A.Acts.marked c.args.acts.now).bytes
           (c.args.at + length q.first.bytes) q.rest agree)
           (subst (λ (k : ℕ). Logs (g.A.Acts.logged c.put_where_new.new.acts) (g.A.Acts.logged c.put_patch.new.acts)
-          (log_of_modify (g.A.Acts.marked c.put_where_new.new.acts).bytes (c.args.at + k) q.rest)) len
+          (log_of_patch (g.A.Acts.marked c.put_where_new.new.acts).bytes (c.args.at + k) q.rest)) len
           (c.put_patch.ensures.patched.log q.rest q.behind)) in
           subst (λ (z : List Piece). Logs (g.A.Acts.logged c.args.acts.now) (g.A.Acts.logged c.put_patch.new.acts)
-          (log_of_modify (g.A.Acts.marked c.args.acts.now).bytes c.args.at z)) (sym q.is)
+          (log_of_patch (g.A.Acts.marked c.args.acts.now).bytes c.args.at z)) (sym q.is)
           (logs_more _ _ _ _ _ one two));
     }

@@ -3,7 +3,7 @@ use Rattle.nc_vet.specs.Chunk.{Piece}
 use Rattle.nc_text.specs.MarkedText.{MarkedText}
 use Rattle.nc_acts.specs.declared.acts.Entry.{Entry}
 use Rattle.nc_acts.specs.Log.{Logs}
-use Rattle.nc_region.specs.Patch.{stands_there, log_of_instruction, log_of_modify}
+use Rattle.nc_region.specs.Patch.{stands_there, log_of_instruction, log_of_patch}
 use Rattle.nc_region.specs.Region.{HoldsValid}
 use Rattle.nc_acts.proofs.Offered.{same_code}
 use Rattle.nc_region.proofs.patching.Exchanged.{changed, changed_holds, changes_replace}
@@ -43,8 +43,8 @@ returns-clause-patched g c =
           c.put_where_new.ensures.bytes c.put_where_new.ensures.marks))
           (changed_holds marked c.args.chunk c.args.at patch.run.before (w.os ++ patch.run.after) w.o (piece_of new i) w.change);
       log = λ news b.
-          (let one : log_of_modify text c.args.at news ≡ cond (stands_there text c.args.at new) [] (log_of_instruction c.args.at new) =
-          ap (λ (z : List Piece). log_of_modify text c.args.at z) (only_one new news i o b)
+          (let one : log_of_patch text c.args.at news ≡ cond (stands_there text c.args.at new) [] (log_of_instruction c.args.at new) =
+          ap (λ (z : List Piece). log_of_patch text c.args.at z) (only_one new news i o b)
           ∙ append-nil (cond (stands_there text c.args.at new) [] (log_of_instruction c.args.at new)) in
           subst (λ (z : List Entry). Logs (g.A.Acts.logged c.args.acts.now) (g.A.Acts.logged c.put_where_new.new.acts) z) (sym one)
           c.put_where_new.ensures.log);

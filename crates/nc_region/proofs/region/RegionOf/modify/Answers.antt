@@ -5,9 +5,9 @@ use Rattle.nc_region.specs.Region.{Region}
 use Rattle.nc_region.proofs.patching.Standing.{lies}
 use Rattle.nc_region.proofs.chunks.ReadyPlaces.{ready_part, ready_held}
 use Rattle.nc_region.proofs.patching.Patched.{region_patched, held_holds, patch_lawful, refused_in}
-use Rattle.nc_region.specs.Patch.{acts_of_modify, log_of_modify}
+use Rattle.nc_region.specs.Patch.{acts_of_patch, log_of_patch}
 use Rattle.nc_acts.proofs.Offered.{told_logged}
-use Rattle.nc_region.proofs.patching.Told.{modified_acts}
+use Rattle.nc_region.proofs.patching.Told.{patch_acts}
 use Rattle.nc_region.proofs.RegionParts.{region_of}
 use Rattle.nc_region.proofs.region.RegionOf.modify.Goals as goal
 
@@ -137,8 +137,8 @@ pub returns-clause-acts : goal.returns-clause-acts
 returns-clause-acts g c = λ news are.
     let text = (g.A.Acts.marked c.self.inside.acts).bytes in
     rw (← c.self.view_is)
-    (told_logged (g.A.Acts.logged c.self.inside.acts) (g.A.Acts.logged c.patch.new.acts) (log_of_modify text c.args.at news)
-    (acts_of_modify text c.args.at news) (modified_acts text c.args.at news) (c.in_default-patch.ensures.patched.log news are))
+    (told_logged (g.A.Acts.logged c.self.inside.acts) (g.A.Acts.logged c.patch.new.acts) (log_of_patch text c.args.at news)
+    (acts_of_patch text c.args.at news) (patch_acts text c.args.at news) (c.in_default-patch.ensures.patched.log news are))
 
 pub returns-clause-lawful : goal.returns-clause-lawful
 returns-clause-lawful g c =

@@ -1,12 +1,12 @@
 use Rattle.std.proofs.Common.{OnOk, IfErr, subst}
 use Rattle.nc_region.specs.Patch.{IsPatch, MayRefusePatch}
 use Rattle.nc_region.specs.Region as spec
-use Rattle.nc_region.proofs.Reaching.{after-modify}
-use Rattle.nc_region.proofs.shared.modify_in.Goals as goal
+use Rattle.nc_region.proofs.Reaching.{after-patch}
+use Rattle.nc_region.proofs.shared.patch_in.Goals as goal
 
 pub invariant_of-ruled : goal.invariant_of-ruled
 invariant_of-ruled g c =
-    after-modify g.K.Rule.first c.modify.result _ _ c.args.at c.args.new.now c.ruled.invariant c.modify.ensures.lawful
+    after-patch g.K.Rule.first c.modify.result _ _ c.args.at c.args.new.now c.ruled.invariant c.modify.ensures.lawful
     c.modify.ensures.modified c.modify.ensures.unchanged
 
 pub returns-clause-lawful : goal.returns-clause-lawful

@@ -1,5 +1,5 @@
 use Rattle.nc_histories.proofs.LoggedCalls.{patches, patches_nothing}
-use Rattle.nc_histories.proofs.calls.modify.Goals as goal
+use Rattle.nc_histories.proofs.calls.patch.Goals as goal
 
 pub returns-clause-call : goal.returns-clause-call
 returns-clause-call g c = λ seats.
@@ -10,8 +10,8 @@ pub returns-clause-refused : goal.returns-clause-refused
 returns-clause-refused g c =
     patches_nothing c.modify.result _ _ c.args.at c.args.new.now c.modify.ensures.unchanged c.modify.ensures.refused
 
-pub returns-clause-modified : goal.returns-clause-modified
-returns-clause-modified g c = c.modify.ensures.modified
+pub returns-clause-patched : goal.returns-clause-patched
+returns-clause-patched g c = c.modify.ensures.modified
 
 pub returns-clause-lawful : goal.returns-clause-lawful
 returns-clause-lawful g c = c.modify.ensures.lawful
