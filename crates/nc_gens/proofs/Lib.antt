@@ -4,9 +4,9 @@ pub mod HandingOver
 pub mod LeastNumber
 pub mod StepsKeep
 pub mod ChangedViews
-pub mod Histories
+pub mod Trails
 pub mod Rising
 pub mod Recording
-pub mod HandingHistory
+pub mod HandingTrail
 pub mod Loads
 pub mod Passing

@@ -10,10 +10,10 @@ use Rattle.std.proofs.lemmas.List.Elements.{Contains-append_right}
 use Rattle.std.proofs.lemmas.List.FromFn.{get_or-map-range_with_len, length-map-range_with_len}
 use Rattle.nc_gens.specs.declared.view.WordStep.{WordStep}
 use Rattle.nc_gens.specs.declared.view.WordStep.TheVariants.{TookGeneration, SawGeneration, StoredSince, StoredLeft, AddedOne, TookWord}
-use Rattle.nc_gens.specs.History.{AllNumbers, Adds, is_by_keeper, numbers_after, numbers_after_all, numbers_by, seat_word, IsRising}
+use Rattle.nc_gens.specs.Trail.{AllNumbers, Adds, is_by_keeper, numbers_after, numbers_after_all, numbers_by, seat_word, IsRising}
 use Rattle.nc_gens.specs.Seen.{KeeperState, IsLedTo, HasLooked, least_number}
 use Rattle.nc_gens.specs.Progress.{IsBeforeLook, HasFound}
-use Rattle.nc_gens.proofs.Histories.{first_numbers, after_both}
+use Rattle.nc_gens.proofs.Trails.{first_numbers, after_both}
 use Rattle.nc_gens.proofs.LeastNumber.{least_above}
 
 -- ---- the last load of a seat's word
@@ -75,9 +75,9 @@ as_many_bounds_all : (n : AllNumbers) (steps : List WordStep) → length (number
 as_many_bounds_all n [] = refl
 as_many_bounds_all n (step ∷ steps) = as_many_bounds_all (numbers_after n step) steps ∙ as_many_bounds n step
 
--- every history leads to a bound for each seat
-bounds_by : (seats : ℕ) (history : List WordStep) → length (numbers_by seats history).keeper.bounds ≡ seats
-bounds_by seats history = as_many_bounds_all (first_numbers seats) history ∙ length-replicate seats 0
+-- every trail leads to a bound for each seat
+bounds_by : (seats : ℕ) (trail : List WordStep) → length (numbers_by seats trail).keeper.bounds ≡ seats
+bounds_by seats trail = as_many_bounds_all (first_numbers seats) trail ∙ length-replicate seats 0
 
 -- a step that is no load of a seat's word leaves its bound
 same_bound_after : (n : AllNumbers) (k : ℕ) (step : WordStep) → step ≢ TookWord k
@@ -107,7 +107,7 @@ bound_loaded seats k before after inside none =
     ∙ (same_bound (numbers_after (numbers_by seats before) (TookWord k)) k after none
     ∙ get_or-set_same (numbers_by seats before).keeper.bounds k (seat_word seats before k) 0 (omega (arith, many)))
 
--- where a seat's word was loaded after the known part of a history, the bound is what the last load found
+-- where a seat's word was loaded after the known part of a trail, the bound is what the last load found
 pub found_after : (seats k : ℕ) (known rest : List WordStep) → k < seats → Contains rest (TookWord k)
     → HasFound seats known (known ++ rest) k (get_or (numbers_by seats (known ++ rest)).keeper.bounds k 0)
 found_after seats k known rest inside some =
@@ -123,9 +123,9 @@ found_after seats k known rest inside some =
     }
 
 -- what is found is at least the word where the known part ends
-pub found_above : (seats k number : ℕ) (known history : List WordStep) → IsRising seats history → HasFound seats known history k number
+pub found_above : (seats k number : ℕ) (known trail : List WordStep) → IsRising seats trail → HasFound seats known trail k number
     → seat_word seats known k ≤ number
-found_above seats k number known history rising f =
+found_above seats k number known trail rising f =
     let up = rising k known f.before (TookWord k ∷ f.after) (f.parts ∙ append_assoc known f.before (TookWord k ∷ f.after)) in
     let is = f.found in omega (arith, up, is)
 
@@ -158,38 +158,38 @@ each_loaded seats k rest others inside loads =
     (subst (λ (l : List WordStep). Contains l (TookWord k)) (sym loads)
     (Contains-append_right others (map TookWord (range_with_len 0 seats)) (TookWord k) (loads_each seats k inside)))
 
--- the bound of a seat, if the keeper has the numbers that its history leads to and loaded the word after the known part of it
+-- the bound of a seat, if the keeper has the numbers that its trail leads to and loaded the word after the known part of it
 bound_found : (new : KeeperState) (known rest : List WordStep) (k : ℕ) → IsLedTo new → k < length new.numbers.bounds
-    → new.history ≡ known ++ rest → Contains rest (TookWord k)
-    → HasFound (length new.numbers.bounds) known new.history k (get_or new.numbers.bounds k 0)
+    → new.trail ≡ known ++ rest → Contains rest (TookWord k)
+    → HasFound (length new.numbers.bounds) known new.trail k (get_or new.numbers.bounds k 0)
 bound_found new known rest k led inside parts some =
     let seats : ℕ = length new.numbers.bounds in
-    subst (λ (n : ℕ). HasFound seats known new.history k n) (sym (ap (λ n. get_or n.bounds k 0) led))
+    subst (λ (n : ℕ). HasFound seats known new.trail k n) (sym (ap (λ n. get_or n.bounds k 0) led))
     (subst (λ (h : List WordStep). HasFound seats known h k (get_or (numbers_by seats h).keeper.bounds k 0)) (sym parts)
     (found_after seats k known rest inside some))
 
--- the loads of a look come after the history that the keeper recalled
+-- the loads of a look come after the trail that the keeper recalled
 before_loads : (seats : ℕ) (old new : List WordStep) → Adds is_by_keeper old new (map TookWord (range_with_len 0 seats))
     → IsBeforeLook seats old new
 before_loads seats old new adds = record { rest = adds.later; parts = adds.all; others = []; loads = adds.own_are }
 
 -- the loads of a look find each seat's word
 pub looked_found : (old new : KeeperState) (k : ℕ)
-    → Adds is_by_keeper old.history new.history (map TookWord (range_with_len 0 (length new.numbers.bounds))) → IsLedTo new
+    → Adds is_by_keeper old.trail new.trail (map TookWord (range_with_len 0 (length new.numbers.bounds))) → IsLedTo new
     → k < length new.numbers.bounds
-    → HasFound (length new.numbers.bounds) old.history new.history k (get_or new.numbers.bounds k 0)
+    → HasFound (length new.numbers.bounds) old.trail new.trail k (get_or new.numbers.bounds k 0)
 looked_found old new k adds led inside =
-    let b = before_loads (length new.numbers.bounds) old.history new.history adds in
-    bound_found new old.history b.rest k led inside b.parts (each_loaded (length new.numbers.bounds) k b.rest b.others inside b.loads)
+    let b = before_loads (length new.numbers.bounds) old.trail new.trail adds in
+    bound_found new old.trail b.rest k led inside b.parts (each_loaded (length new.numbers.bounds) k b.rest b.others inside b.loads)
 
--- so a look comes after that history
-pub is_before : (old new : KeeperState) → HasLooked old new → IsBeforeLook (length new.numbers.bounds) old.history new.history
-is_before old new looked = before_loads (length new.numbers.bounds) old.history new.history looked.steps.adds
+-- so a look comes after that trail
+pub is_before : (old new : KeeperState) → HasLooked old new → IsBeforeLook (length new.numbers.bounds) old.trail new.trail
+is_before old new looked = before_loads (length new.numbers.bounds) old.trail new.trail looked.steps.adds
 
--- If each seat has checked in since a stamp, or has left, where the known part of a history ends, or had a bound of at least the
+-- If each seat has checked in since a stamp, or has left, where the known part of a trail ends, or had a bound of at least the
 -- stamp, and each seat's word was loaded after that part, then the least number is at least the stamp.
 pub past_from : (old new : KeeperState) (stamp : ℕ) (known rest : List WordStep) → HasLooked old new → stamp ≤ new.numbers.generation
-    → new.history ≡ known ++ rest → ((k : ℕ) → k < length new.numbers.bounds → Contains rest (TookWord k))
+    → new.trail ≡ known ++ rest → ((k : ℕ) → k < length new.numbers.bounds → Contains rest (TookWord k))
     → ((k : ℕ) → k < length new.numbers.bounds
     → (stamp ≤ seat_word (length new.numbers.bounds) known k) ⊎ (stamp ≤ get_or old.numbers.bounds k 0))
     → stamp ≤ least_number new.numbers
@@ -197,7 +197,7 @@ past_from old new stamp known rest looked drawn parts loaded passed =
     least_above stamp new.numbers.generation new.numbers.bounds drawn
     (λ k inside. ⊎_elim
     (λ (p : stamp ≤ seat_word (length new.numbers.bounds) known k). le_trans p
-    (found_above (length new.numbers.bounds) k (get_or new.numbers.bounds k 0) known new.history looked.rising
+    (found_above (length new.numbers.bounds) k (get_or new.numbers.bounds k 0) known new.trail looked.rising
     (bound_found new known rest k looked.led_to inside parts (loaded k inside))))
     (λ (p : stamp ≤ get_or old.numbers.bounds k 0). let same = looked.raised.0 in le_trans p (looked.raised.1 k (omega (arith, same))))
     (passed k inside))

@@ -8,9 +8,9 @@ use Rattle.nc_gens.specs.declared.view.PassNumbers.{PassNumbers}
 use Rattle.nc_gens.specs.declared.view.WordStep.{WordStep}
 use Rattle.nc_gens.specs.declared.view.WordStep.TheVariants.{TookGeneration, SawGeneration, StoredSince, StoredLeft, AddedOne, TookWord}
 use Rattle.nc_gens.specs.Rule.{left_word, last_generation, first_pass_numbers, generation_taken, generation_seen, since_stored, left_stored}
-use Rattle.nc_gens.specs.History.{AllNumbers, pass_in, with_pass, numbers_after, numbers_after_all, numbers_by, seat_word, IsRising}
+use Rattle.nc_gens.specs.Trail.{AllNumbers, pass_in, with_pass, numbers_after, numbers_after_all, numbers_by, seat_word, IsRising}
 use Rattle.nc_gens.specs.Progress.{HavePassed, HasCheckedInSince}
-use Rattle.nc_gens.proofs.Histories.{first_numbers, by_longer, after_both, as_many_by, as_many_after, this_pass}
+use Rattle.nc_gens.proofs.Trails.{first_numbers, by_longer, after_both, as_many_by, as_many_after, this_pass}
 
 -- what a change of one pass keeps of a pass, it keeps of the pass of a seat, whichever pass is changed
 pass_kept : (P : PassNumbers → Type 0) (n : AllNumbers) (seat k : ℕ) (f : PassNumbers → PassNumbers) → k < length n.passes

@@ -1,4 +1,4 @@
--- Each kind of step keeps the words ruled, whatever history the token recalls then.
+-- Each kind of step keeps the words ruled, whatever trail the token recalls then.
 use Rattle.std.proofs.Common.{◌≡◌, ◌≢◌, ℕ, ◌+◌, ◌%◌, ◌^◌, ◌<◌, ◌≤◌, true, false, List, length, get_or, set, sym, ap, ◌∙◌}
 use Rattle.std.proofs.Common.{subst, ⊎_elim, arith, le_trans, length-set, get_or-set_other, get_or-set_same}
 use mathlib.Core.Logic.{dite}
@@ -49,11 +49,11 @@ pass_fits old new owner at seat p long same rises f =
 -- A pass loads the generation and sees it. The rule stays if its word does, and its `since` doesn't fall and is at most the generation.
 pub sees : (s : Words) (r : Ruled s) (id : ℕ) (me : Known) (p : PassNumbers) (known : List WordStep) → get_elem? s.views id ≡ some me.0
     → me.0.is_pass ≡ true → p.word ≡ me.0.pass.word → me.0.pass.since ≤ p.since → p.since ≤ p.seen → p.seen ≡ get_or s.words 0 0
-    → Ruled (stepped s 0 (get_or s.words 0 0) id me.1 (record me.0 { pass = p; pass_history = known }) keeps)
+    → Ruled (stepped s 0 (get_or s.words 0 0) id me.1 (record me.0 { pass = p; pass_trail = known }) keeps)
 sees s r id me p known at is same rises saw seen =
     let f = r.each_view id me.0 at in
     let old = f.pass is in
-    loaded s r 0 id me (record me.0 { pass = p; pass_history = known }) at (λ h. h) (λ k h. h) record {
+    loaded s r 0 id me (record me.0 { pass = p; pass_trail = known }) at (λ h. h) (λ k h. h) record {
       pass = λ _. record {
         inside = old.inside;
         owns = old.owns;
@@ -69,11 +69,11 @@ sees s r id me p known at is same rises saw seen =
 pub stores : (s : Words) (r : Ruled s) (id i x : ℕ) (me : Known) (known : List WordStep) → get_elem? s.views id ≡ some me.0
     → me.0.is_pass ≡ true → me.0.is_keeper ≡ false → me.0.seat + 1 ≡ i
     → me.0.pass.word ≤ x → (x ≢ left_word → x ≤ me.0.pass.since) → me.0.pass.word ≢ left_word
-    → Ruled (stepped s i x id me.1 (record me.0 { pass = record me.0.pass { word = x }; pass_history = known }) keeps)
+    → Ruled (stepped s i x id me.1 (record me.0 { pass = record me.0.pass { word = x }; pass_trail = known }) keeps)
 stores s r id i x me known at is apart here above below unheld =
     let f = r.each_view id me.0 at in
     let p = f.pass is in
-    let w : View = record me.0 { pass = record me.0.pass { word = x }; pass_history = known } in
+    let w : View = record me.0 { pass = record me.0.pass { word = x }; pass_trail = known } in
     let ws : List ℕ = set s.words i x in
     let inside : i < length s.words = let h = p.inside in omega arith in
     let first : get_or ws 0 0 ≡ get_or s.words 0 0 = get_or-set_other s.words i 0 x 0 (λ e. omega arith) in
@@ -124,7 +124,7 @@ stores s r id i x me known at is apart here above below unheld =
 pub raises : (s : Words) (r : Ruled s) (id : ℕ) (me : Known) (known : List WordStep) → get_elem? s.views id ≡ some me.0
     → me.0.is_keeper ≡ true → me.0.keeper.generation < last_generation
     → Ruled (stepped s 0 ((get_or s.words 0 0 + 1) % 2 ^ 64) id me.1
-    (record me.0 { keeper = generation_raised me.0.keeper; keeper_history = known }) keeps)
+    (record me.0 { keeper = generation_raised me.0.keeper; keeper_trail = known }) keeps)
 raises s r id me known at is room =
     let n : ℕ = get_or s.words 0 0 in
     let f = r.each_view id me.0 at in
@@ -132,7 +132,7 @@ raises s r id me known at is room =
     let now : n ≡ me.0.keeper.generation = q.generation_is in
     let x : ℕ = (n + 1) % 2 ^ 64 in
     let up : x ≡ n + 1 = omega arith in
-    let w : View = record me.0 { keeper = generation_raised me.0.keeper; keeper_history = known } in
+    let w : View = record me.0 { keeper = generation_raised me.0.keeper; keeper_trail = known } in
     let ws : List ℕ = set s.words 0 x in
     let inside : 0 < length s.words = let h = q.wide in omega arith in
     let first : get_or ws 0 0 ≡ n + 1 = get_or-set_same s.words 0 x 0 inside ∙ up in
@@ -179,13 +179,13 @@ word_in_range s r i inside ne =
 pub looks : (s : Words) (r : Ruled s) (id i : ℕ) (me : Known) (known : List WordStep) → get_elem? s.views id ≡ some me.0
     → me.0.is_keeper ≡ true → i < length me.0.keeper.bounds
     → Ruled (stepped s (i + 1) (get_or s.words (i + 1) 0) id me.1
-    (record me.0 { keeper = word_taken i (get_or s.words (i + 1) 0) me.0.keeper; keeper_history = known }) keeps)
+    (record me.0 { keeper = word_taken i (get_or s.words (i + 1) 0) me.0.keeper; keeper_trail = known }) keeps)
 looks s r id i me known at is room =
     let n : ℕ = get_or s.words (i + 1) 0 in
     let f = r.each_view id me.0 at in
     let q = f.keeper is in
     let bs : List ℕ = set me.0.keeper.bounds i n in
-    let w : View = record me.0 { keeper = word_taken i n me.0.keeper; keeper_history = known } in
+    let w : View = record me.0 { keeper = word_taken i n me.0.keeper; keeper_trail = known } in
     let long : length bs ≡ length me.0.keeper.bounds = length-set me.0.keeper.bounds i n in
     loaded s r (i + 1) id me w at (λ h. h) (λ k h. h) record {
       pass = f.pass;

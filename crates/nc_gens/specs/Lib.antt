@@ -1,6 +1,6 @@
 pub mod machinery
 pub mod Rule
-pub mod History
+pub mod Trail
 pub mod Record
 pub mod Progress
 pub mod Seen

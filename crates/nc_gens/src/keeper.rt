@@ -3,7 +3,7 @@
 ghost use Rattle.std.specs.Prelude.{◌≡◌, ◌≢◌, ◌+◌, ◌^◌, ◌<◌, ◌≤◌, ◌↔◌, [], ◌∷◌, All, length, slice_index, IfOk, IsOk, OnOk, OnErr};
 ghost use Rattle.nc_gens.specs.declared.view.WordStep.{WordStep};
 ghost use Rattle.nc_gens.specs.Rule.{left_word, word_taken};
-ghost use Rattle.nc_gens.specs.History.{IsRising};
+ghost use Rattle.nc_gens.specs.Trail.{IsRising};
 ghost use Rattle.nc_gens.specs.Seen.{HasLooked, HasRaised, IsLedTo, KeeperSteps, least_number, least_or, staying};
 
 use crate::fault::GensFull;
@@ -68,12 +68,12 @@ impl Gens {
         requires inside { seat < length keeper.old.numbers.bounds }
         ensures taken { keeper.new ≡ record keeper.old {
           numbers = word_taken seat (slice_index keeper.new.numbers.bounds seat) keeper.old.numbers;
-          history = keeper.new.history;
+          trail = keeper.new.trail;
         } }
         ensures raised { slice_index keeper.old.numbers.bounds seat ≤ slice_index keeper.new.numbers.bounds seat }
         ensures stepped { KeeperSteps keeper.old keeper.new (WordStep.TookWord seat ∷ []) }
         ensures led_to { IsLedTo keeper.new }
-        ensures rising { IsRising (length keeper.new.numbers.bounds) keeper.new.history }
+        ensures rising { IsRising (length keeper.new.numbers.bounds) keeper.new.trail }
     {
         let found = self
             .words

@@ -5,8 +5,8 @@
 //! word for each seat. A thread that holds a [`Pass`] checks in while it is outside, without a lock. The writer holds the [`Keeper`], draws
 //! stamps by `bump`, and learns by `look` up to which generation every seat has checked in or left.
 //!
-//! The rule of the table says that there is a history of the atomic steps on its words (`WordStep`), which leads to the numbers that
-//! every token knows. Each pass and the keeper recall the part up to their own last step. The contract of each call but `leave` says
+//! The rule of the table says that there is a *trail*: the atomic steps on its words (`WordStep`) in their order, which lead to the numbers
+//! that every token knows. Each pass and the keeper recall the part up to their own last step. The contract of each call but `leave` says
 //! which steps it added, and its loads find what the steps before them have left.
 //!
 //! Native Client deletes dynamic code in this way (Ansel et al. 2011, "Language-independent sandboxing of just-in-time compilation and

@@ -3,7 +3,7 @@
 ghost use Rattle.std.specs.Prelude.{◌≡◌, [], ◌∷◌};
 ghost use Rattle.nc_gens.specs.declared.view.WordStep.{WordStep};
 ghost use Rattle.nc_gens.specs.Rule.{left_stored};
-ghost use Rattle.nc_gens.specs.History.{Adds, is_by_pass};
+ghost use Rattle.nc_gens.specs.Trail.{Adds, is_by_pass};
 ghost use Rattle.nc_gens.specs.Seen.{HasCheckedIn};
 
 use crate::steps::{StoreLeft, StoreSince, TakeGeneration};
@@ -45,7 +45,7 @@ impl Gens {
     fn store_left(&self, pass: Pass) -> Token
         requires { pass.table ≡ self.now }
         ensures stored { result.me.0.pass ≡ left_stored pass.numbers }
-        ensures history { Adds (is_by_pass pass.seat) pass.history result.me.0.pass_history (WordStep.StoredLeft pass.seat ∷ []) }
+        ensures trail { Adds (is_by_pass pass.seat) pass.trail result.me.0.pass_trail (WordStep.StoredLeft pass.seat ∷ []) }
     {
         let Pass {
             seat,

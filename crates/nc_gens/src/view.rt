@@ -52,11 +52,11 @@ pub(crate) struct View {
     pub seat: usize,
     pub pass: PassNumbers,
     /// The steps on the words up to the last one of the pass.
-    pub pass_history: [WordStep; 0],
+    pub pass_trail: [WordStep; 0],
     pub is_keeper: bool,
     pub keeper: KeeperNumbers,
     /// The steps on the words up to the last one of the keeper.
-    pub keeper_history: [WordStep; 0],
+    pub keeper_trail: [WordStep; 0],
     /// The keeper has given out the passes of the seats below this one.
     pub given: usize,
 }

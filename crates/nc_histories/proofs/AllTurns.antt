@@ -8,7 +8,7 @@ use Rattle.nc_text.specs.Machine.{IsConfined, IsSafe}
 use Rattle.nc_text.specs.Headline.{Stands}
 use Rattle.nc_text.specs.MarkedText.{MarkedText, unused_text}
 use Rattle.nc_text.proofs.Offered.{confined_if_closed, stands_if_safe}
-use Rattle.nc_gens.specs.History.{BeginsWith}
+use Rattle.nc_gens.specs.Trail.{BeginsWith}
 use Rattle.nc_gens.specs.Seen.{KeeperSteps, first_keeper}
 use Rattle.nc_region.specs.schedules.Spans.{RetiredSpan}
 use Rattle.nc_region.specs.schedules.World.{World, Seat, first_world, IsViewOf, AllStandSafe, NoneIsWithin}
@@ -98,7 +98,7 @@ call_leads limit seats before old turn s knows threads found (Keeps same own) = 
 -- each call of a history keeps what a history keeps (`Stays`)
 pub call_stays : (limit seats : ℕ) (before : List Event) (old : Region) (turn : Turn) → Stays limit seats before old
     → ThreadsMay (world_after (first_world limit seats) before) turn.events
-    → (¬ All IsNoLook (writers turn.events) → BeginsWith (word_steps (before ++ turn.events)) turn.region.keeper.history)
+    → (¬ All IsNoLook (writers turn.events) → BeginsWith (word_steps (before ++ turn.events)) turn.region.keeper.trail)
     → IsCall seats old turn.region (writers turn.events) → Stays limit seats (before ++ turn.events) turn.region
 call_stays limit seats before old turn s threads order call =
     let steps = call_steps seats old turn.region (writers turn.events) s.keeper.bounds call in

@@ -5,7 +5,7 @@ use Rattle.std.proofs.lemmas.List.{append-nil, length-append}
 use Rattle.nc_decode.specs.declared.instruction.Mark.{Mark}
 use Rattle.nc_gens.specs.declared.view.WordStep.{WordStep}
 use Rattle.nc_gens.specs.declared.view.WordStep.TheVariants.{AddedOne, TookWord}
-use Rattle.nc_gens.specs.History.{is_by_keeper}
+use Rattle.nc_gens.specs.Trail.{is_by_keeper}
 use Rattle.nc_gens.specs.Seen.{KeeperSteps, least_number}
 use Rattle.nc_gens.proofs.Offered.{raised_steps, no_steps}
 use Rattle.nc_vet.specs.Chunk.{MarkedChunk, Piece}

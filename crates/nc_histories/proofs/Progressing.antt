@@ -7,7 +7,7 @@ use Rattle.std.proofs.lemmas.List.Elements.{filter-append, All-nil, All-contains
 use Rattle.nc_gens.specs.declared.view.WordStep.{WordStep}
 use Rattle.nc_gens.specs.declared.view.WordStep.TheVariants.{TookWord}
 use Rattle.nc_gens.specs.declared.view.PassNumbers.{PassNumbers}
-use Rattle.nc_gens.specs.History.{BeginsWith, is_by_keeper, seat_word}
+use Rattle.nc_gens.specs.Trail.{BeginsWith, is_by_keeper, seat_word}
 use Rattle.nc_gens.specs.Seen.{least_number}
 use Rattle.nc_gens.proofs.Offered.{unfiltered, loads_each, IsNoTake}
 use Rattle.nc_region.specs.schedules.World.{first_world, first_seat}
@@ -95,24 +95,24 @@ same_rest : (xs ys zs : List WordStep) → xs ++ ys ≡ xs ++ zs → ys ≡ zs
 same_rest [] ys zs e = e
 same_rest (x ∷ xs) ys zs e = same_rest xs ys zs (let rest : xs ++ ys ≡ xs ++ zs = cc in rest)
 
--- a keeper that has all its steps of a list, of which its history is a front, has those after a part of it that is shorter
-rest_loaded : (history known later m : List WordStep) (k : ℕ) → filter is_by_keeper history ≡ filter is_by_keeper (known ++ later)
-    → history ≡ known ++ m → Contains (filter is_by_keeper later) (TookWord k) → Contains m (TookWord k)
-rest_loaded history known later m k own parts some =
+-- a keeper that has all its steps of a list, of which its trail is a front, has those after a part of it that is shorter
+rest_loaded : (trail known later m : List WordStep) (k : ℕ) → filter is_by_keeper trail ≡ filter is_by_keeper (known ++ later)
+    → trail ≡ known ++ m → Contains (filter is_by_keeper later) (TookWord k) → Contains m (TookWord k)
+rest_loaded trail known later m k own parts some =
     unfiltered is_by_keeper m (TookWord k)
     (subst (λ (l : List WordStep). Contains l (TookWord k))
     (same_rest (filter is_by_keeper known) (filter is_by_keeper later) (filter is_by_keeper m)
     (sym (filter-append is_by_keeper known later)
     ∙ (sym own ∙ (ap (filter is_by_keeper) parts ∙ filter-append is_by_keeper known m)))) some)
 
--- its history can't be a front of that part, if it takes a step after it
-no_shorter : (history known later m : List WordStep) (k : ℕ) → filter is_by_keeper history ≡ filter is_by_keeper (known ++ later)
-    → known ≡ history ++ m → ¬ Contains (filter is_by_keeper later) (TookWord k)
-no_shorter history known later m k own parts some =
+-- its trail can't be a front of that part, if it takes a step after it
+no_shorter : (trail known later m : List WordStep) (k : ℕ) → filter is_by_keeper trail ≡ filter is_by_keeper (known ++ later)
+    → known ≡ trail ++ m → ¬ Contains (filter is_by_keeper later) (TookWord k)
+no_shorter trail known later m k own parts some =
     let a = length-append (filter is_by_keeper known) (filter is_by_keeper later) in
-    let b = length-append (filter is_by_keeper history) (filter is_by_keeper m) in
+    let b = length-append (filter is_by_keeper trail) (filter is_by_keeper m) in
     let whole = ap length (own ∙ filter-append is_by_keeper known later) in
-    let front = ap length (ap (filter is_by_keeper) parts ∙ filter-append is_by_keeper history m) in
+    let front = ap length (ap (filter is_by_keeper) parts ∙ filter-append is_by_keeper trail m) in
     let some_long = some.1 in omega (arith, a, b, whole, front, some_long)
 
 -- the turn of a reclaim, over a keeper that has taken its steps among the events up to its end
@@ -120,8 +120,8 @@ freed_in_turn : (limit seats : ℕ) (before made later : List Event) (old : Regi
     → IsReclaimTurn seats old turn → length old.keeper.numbers.bounds ≡ seats → stamp ≤ turn.region.keeper.numbers.generation
     → turn.events ≡ made ++ later → All IsNoLook (writers made)
     → AllHavePassed (world_after (first_world limit seats) (before ++ made)) stamp
-    → filter is_by_keeper turn.region.keeper.history ≡ filter is_by_keeper (word_steps (before ++ turn.events))
-    → BeginsWith (word_steps (before ++ turn.events)) turn.region.keeper.history
+    → filter is_by_keeper turn.region.keeper.trail ≡ filter is_by_keeper (word_steps (before ++ turn.events))
+    → BeginsWith (word_steps (before ++ turn.events)) turn.region.keeper.trail
     → AreFreedUpTo stamp turn.region.chunks
 freed_in_turn limit seats before made later old turn stamp is many drawn parts none passed own begins =
     let now = turn.region.keeper in
@@ -130,20 +130,20 @@ freed_in_turn limit seats before made later old turn stamp is many drawn parts n
     let all : word_steps (before ++ turn.events) ≡ known ++ word_steps later =
     ap word_steps (ap (λ (l : List Event). before ++ l) parts ∙ sym (append_assoc before made later))
     ∙ steps_append (before ++ made) later in
-    let owns : filter is_by_keeper now.history ≡ filter is_by_keeper (known ++ word_steps later) = own ∙ ap (filter is_by_keeper) all in
+    let owns : filter is_by_keeper now.trail ≡ filter is_by_keeper (known ++ word_steps later) = own ∙ ap (filter is_by_keeper) all in
     let loads : (k : ℕ) → k < length now.numbers.bounds → Contains (filter is_by_keeper (word_steps later)) (TookWord k) =
     λ k inside. loaded_later seats old turn made later k is parts none (omega (arith, bounds, inside)) in
     ⊎_elim
-    (λ (t : (m : List WordStep) × (now.history ≡ known ++ m)).
+    (λ (t : (m : List WordStep) × (now.trail ≡ known ++ m)).
     freed_from old turn.region is.count stamp known t.0 is.reclaimed drawn t.1
-    (λ k inside. rest_loaded now.history known (word_steps later) t.0 k owns t.1 (loads k inside))
+    (λ k inside. rest_loaded now.trail known (word_steps later) t.0 k owns t.1 (loads k inside))
     (λ k inside. inl (subst (λ (z : ℕ). stamp ≤ seat_word z known k) (sym bounds)
     (word_passed limit seats stamp (before ++ made) k passed (omega (arith, bounds, inside))))))
-    (λ (t : (m : List WordStep) × (known ≡ now.history ++ m)).
-    freed_from old turn.region is.count stamp [] now.history is.reclaimed drawn refl
-    (λ k inside. absurd (no_shorter now.history known (word_steps later) t.0 k owns t.1 (loads k inside)))
-    (λ k inside. absurd (no_shorter now.history known (word_steps later) t.0 k owns t.1 (loads k inside))))
-    (two_fronts now.history begins.0 known (word_steps later) (sym begins.1 ∙ all))
+    (λ (t : (m : List WordStep) × (known ≡ now.trail ++ m)).
+    freed_from old turn.region is.count stamp [] now.trail is.reclaimed drawn refl
+    (λ k inside. absurd (no_shorter now.trail known (word_steps later) t.0 k owns t.1 (loads k inside)))
+    (λ k inside. absurd (no_shorter now.trail known (word_steps later) t.0 k owns t.1 (loads k inside))))
+    (two_fronts now.trail begins.0 known (word_steps later) (sym begins.1 ∙ all))
 
 -- without a look in its events, a reclaim is over no seat
 freed_without : (seats : ℕ) (old : Region) (turn : Turn) (stamp : ℕ) → IsReclaimTurn seats old turn
@@ -155,7 +155,7 @@ freed_without seats old turn stamp is many drawn none =
     λ k inside. no_load turn.events k none
     (subst (λ (l : List WordStep). Contains l (TookWord k)) (sym (turn_loads seats old turn is))
     (loads_each seats k (omega (arith, bounds, inside)))) in
-    freed_from old turn.region is.count stamp [] turn.region.keeper.history is.reclaimed drawn refl
+    freed_from old turn.region is.count stamp [] turn.region.keeper.trail is.reclaimed drawn refl
     (λ k inside. absurd (no_seat k inside)) (λ k inside. absurd (no_seat k inside))
 
 -- a reclaim in a history frees the chunks whose stamps every seat has passed before its look
@@ -169,7 +169,7 @@ frees_passed limit seats first made later r turns turn stamp h is drawn parts no
     let before : List Event = happened first turns in
     let old : Region = region_at_end r turns in
     let s : Stays limit seats before old = history_stays limit seats first r turns (without_last limit seats first r turns turn h cut.0) in
-    let order : ¬ All IsNoLook (writers turn.events) → BeginsWith (word_steps (before ++ turn.events)) turn.region.keeper.history =
+    let order : ¬ All IsNoLook (writers turn.events) → BeginsWith (word_steps (before ++ turn.events)) turn.region.keeper.trail =
     λ some. cut.1.order turn.events [] (sym (append-nil turn.events)) some (All-nil IsNoLook) in
     let now : Stays limit seats (before ++ turn.events) turn.region =
     call_stays limit seats before old turn s cut.1.threads order cut.1.call in

@@ -10,7 +10,7 @@ use Rattle.nc_gens.specs.declared.view.PassNumbers.{PassNumbers}
 use Rattle.nc_gens.specs.declared.view.WordStep.{WordStep}
 use Rattle.nc_gens.specs.declared.view.WordStep.TheVariants.{AddedOne, TookWord}
 use Rattle.nc_gens.specs.Rule.{first_pass_numbers, generation_taken, generation_seen, since_stored, left_stored, generation_raised, word_taken}
-use Rattle.nc_gens.specs.History.{AllNumbers, BeginsWith, is_by_keeper, numbers_after_all, numbers_by, pass_in}
+use Rattle.nc_gens.specs.Trail.{AllNumbers, BeginsWith, is_by_keeper, numbers_after_all, numbers_by, pass_in}
 use Rattle.nc_gens.specs.Seen.{KeeperState, KeeperSteps, IsLedTo, first_keeper}
 use Rattle.nc_gens.proofs.Offered.{as_many_by, after_both, IsNoTake, same_raises, keeper_untouched}
 use Rattle.nc_region.specs.schedules.World.{Seat, World, first_seat, first_world, seat_at}
@@ -113,22 +113,22 @@ nothing_added : (xs ys : List WordStep) → xs ≡ xs ++ ys → ys ≡ []
 nothing_added [] ys e = sym e
 nothing_added (x ∷ xs) ys e = nothing_added xs ys (let rest : xs ≡ xs ++ ys = cc in rest)
 
--- The numbers of a keeper are those of the world's, if they are the ones that its history leads to, the steps of the events begin with
--- this history, and it has all steps of a keeper among them.
+-- The numbers of a keeper are those of the world's, if they are the ones that its trail leads to, the steps of the events begin with
+-- this trail, and it has all steps of a keeper among them.
 pub found : (limit seats : ℕ) (events : List Event) (k : KeeperState) → IsLedTo k → length k.numbers.bounds ≡ seats
-    → filter is_by_keeper k.history ≡ filter is_by_keeper (word_steps events) → BeginsWith (word_steps events) k.history
+    → filter is_by_keeper k.trail ≡ filter is_by_keeper (word_steps events) → BeginsWith (word_steps events) k.trail
     → (world_after (first_world limit seats) events).keeper ≡ k.numbers
 found limit seats events k led many own begins =
-    let parted = filter-append is_by_keeper k.history begins.0 in
+    let parted = filter-append is_by_keeper k.trail begins.0 in
     let none : filter is_by_keeper begins.0 ≡ [] =
-    nothing_added (filter is_by_keeper k.history) (filter is_by_keeper begins.0) (own ∙ (ap (filter is_by_keeper) begins.1 ∙ parted)) in
+    nothing_added (filter is_by_keeper k.trail) (filter is_by_keeper begins.0) (own ∙ (ap (filter is_by_keeper) begins.1 ∙ parted)) in
     (matches_all (first_world limit seats) (numbers_by seats []) events (matches_first limit seats)).keeper
     ∙ (ap (λ (h : List WordStep). (numbers_by seats h).keeper) begins.1
-    ∙ (ap (λ (n : AllNumbers). n.keeper) (after_both (numbers_by seats []) k.history begins.0)
-    ∙ (keeper_untouched (numbers_by seats k.history) begins.0 none
-    ∙ (ap (λ (z : ℕ). (numbers_by z k.history).keeper) (sym many) ∙ sym led))))
+    ∙ (ap (λ (n : AllNumbers). n.keeper) (after_both (numbers_by seats []) k.trail begins.0)
+    ∙ (keeper_untouched (numbers_by seats k.trail) begins.0 none
+    ∙ (ap (λ (z : ℕ). (numbers_by z k.trail).keeper) (sym many) ∙ sym led))))
 
--- a history begins with one of no step
+-- a trail begins with one of no step
 pub begins_with_none : (all known : List WordStep) → known ≡ [] → BeginsWith all known
 begins_with_none all known none = (all, ap (λ (l : List WordStep). l ++ all) (sym none))
 
@@ -198,12 +198,12 @@ keeper_writes (Looks k ∷ events) = ap (λ (l : List WordStep). TookWord k ∷ 
 
 -- ---- what a keeper knows of the steps of events
 
--- The keeper has the numbers that its history leads to, bounds for this number of seats, and all steps of a keeper among these events.
+-- The keeper has the numbers that its trail leads to, bounds for this number of seats, and all steps of a keeper among these events.
 -- The world's keeper has the same numbers.
 pub record KnowsSteps (limit seats : ℕ) (events : List Event) (k : KeeperState) : Type 0 where
   pub led_to : IsLedTo k
   pub bounds : length k.numbers.bounds ≡ seats
-  pub own : filter is_by_keeper k.history ≡ filter is_by_keeper (word_steps events)
+  pub own : filter is_by_keeper k.trail ≡ filter is_by_keeper (word_steps events)
   pub same : (world_after (first_world limit seats) events).keeper ≡ k.numbers
 
 -- all steps of a keeper's events are the keeper's
@@ -227,10 +227,10 @@ all_keepers (Looks k ∷ events) own = ap (λ (l : List WordStep). TookWord k �
 -- the keeper's own steps, once it has taken those among further events
 own_then : (limit seats : ℕ) (before events : List Event) (old new : KeeperState) → KnowsSteps limit seats before old
     → KeeperSteps old new (filter is_by_keeper (word_steps (writers events)))
-    → filter is_by_keeper new.history ≡ filter is_by_keeper (word_steps (before ++ events))
+    → filter is_by_keeper new.trail ≡ filter is_by_keeper (word_steps (before ++ events))
 own_then limit seats before events old new knows steps =
     ap (filter is_by_keeper) steps.adds.all
-    ∙ (filter-append is_by_keeper old.history steps.adds.later
+    ∙ (filter-append is_by_keeper old.trail steps.adds.later
     ∙ ((λ i. knows.own i ++ (steps.adds.own_are ∙ sym (keeper_writes events)) i)
     ∙ sym (ap (filter is_by_keeper) (steps_append before events) ∙ filter-append is_by_keeper (word_steps before) (word_steps events))))
 
@@ -242,22 +242,22 @@ same_unseen limit seats before events old new knows steps none =
     let start = numbers_by seats [] in
     let all = matches_all (first_world limit seats) (numbers_by seats []) (before ++ events) (matches_first limit seats) in
     let first = matches_all (first_world limit seats) (numbers_by seats []) before (matches_first limit seats) in
-    let was : (numbers_by seats (word_steps before)).keeper ≡ (numbers_by seats old.history).keeper =
-    sym first.keeper ∙ (knows.same ∙ (knows.led_to ∙ ap (λ (z : ℕ). (numbers_by z old.history).keeper) knows.bounds)) in
+    let was : (numbers_by seats (word_steps before)).keeper ≡ (numbers_by seats old.trail).keeper =
+    sym first.keeper ∙ (knows.same ∙ (knows.led_to ∙ ap (λ (z : ℕ). (numbers_by z old.trail).keeper) knows.bounds)) in
     let own : filter is_by_keeper (word_steps events) ≡ filter is_by_keeper steps.adds.later =
     keeper_writes events ∙ sym steps.adds.own_are in
     all.keeper
     ∙ (ap (λ (h : List WordStep). (numbers_by seats h).keeper) (steps_append before events)
     ∙ (ap (λ (n : AllNumbers). n.keeper) (after_both (numbers_by seats []) (word_steps before) (word_steps events))
-    ∙ (same_raises (numbers_by seats (word_steps before)) (numbers_by seats old.history) (word_steps events) steps.adds.later was own
+    ∙ (same_raises (numbers_by seats (word_steps before)) (numbers_by seats old.trail) (word_steps events) steps.adds.later was own
     (subst (All IsNoTake) own (takes_none events none))
-    ∙ (ap (λ (n : AllNumbers). n.keeper) (sym (after_both (numbers_by seats []) old.history steps.adds.later))
+    ∙ (ap (λ (n : AllNumbers). n.keeper) (sym (after_both (numbers_by seats []) old.trail steps.adds.later))
     ∙ ((λ i. (numbers_by (sym (steps.seats ∙ knows.bounds) i) (sym steps.adds.all i)).keeper) ∙ sym (steps.led_to knows.led_to))))))
 
 -- what a keeper knows after further events, if it has taken its steps among these and they are in order where it looked
 pub knows_more : (limit seats : ℕ) (before events : List Event) (old new : KeeperState) → KnowsSteps limit seats before old
     → KeeperSteps old new (filter is_by_keeper (word_steps (writers events)))
-    → (¬ All IsNoLook (writers events) → BeginsWith (word_steps (before ++ events)) new.history)
+    → (¬ All IsNoLook (writers events) → BeginsWith (word_steps (before ++ events)) new.trail)
     → KnowsSteps limit seats (before ++ events) new
 knows_more limit seats before events old new knows steps order =
     let led = steps.led_to knows.led_to in

@@ -7,7 +7,7 @@ use Rattle.nc_text.specs.Places.{limit_of}
 use Rattle.nc_text.specs.Headline.{Stands}
 use Rattle.nc_text.specs.MarkedText.{unused_text}
 use Rattle.nc_gens.specs.Rule.{last_generation}
-use Rattle.nc_gens.specs.History.{BeginsWith}
+use Rattle.nc_gens.specs.Trail.{BeginsWith}
 use Rattle.nc_gens.specs.Seen.{KeeperSteps, first_keeper, least_number}
 use Rattle.nc_region.specs.schedules.World.{World, Seat, first_world, IsViewOf}
 use Rattle.nc_region.specs.schedules.Events.{Event, Retires, world_after}
@@ -74,13 +74,13 @@ pub record Turn : Type 0 where
   pub region : Region
 
 -- After the events `before`, the writer's events of the turn are those of one call, and threads do only what they may. It is assumed
--- that when the call makes its last look, the steps on the table's words so far begin with the history that the keeper has at its end.
+-- that when the call makes its last look, the steps on the table's words so far begin with the trail that the keeper has at its end.
 -- So no stamp is drawn after a look of the same call.
 pub record IsTurn (limit seats : ℕ) (before : List Event) (old : Region) (turn : Turn) : Type 0 where
   pub call : IsCall seats old turn.region (writers turn.events)
   pub threads : ThreadsMay (world_after (first_world limit seats) before) turn.events
   pub order : (made later : List Event) → turn.events ≡ made ++ later → ¬ All IsNoLook (writers made) → All IsNoLook (writers later)
-      → BeginsWith (word_steps (before ++ made)) turn.region.keeper.history
+      → BeginsWith (word_steps (before ++ made)) turn.region.keeper.trail
 
 -- the turns are calls one after the other, from a region that the events `before` have led to
 abbrev pub AreTurns : ℕ → ℕ → List Event → Region → List Turn → Type 0
@@ -95,7 +95,7 @@ pub record IsHistory (limit seats : ℕ) (first : List Event) (r : Region) (turn
   pub keepers : All IsKeepers (writers first)
   pub threads : ThreadsMay (first_world limit seats) first
   pub keeper : KeeperSteps (first_keeper r.keeper.table seats) r.keeper (word_steps (writers first))
-  pub order : ¬ All IsNoLook (writers first) → BeginsWith (word_steps first) r.keeper.history
+  pub order : ¬ All IsNoLook (writers first) → BeginsWith (word_steps first) r.keeper.trail
   pub in_range : r.keeper.numbers.generation ≤ last_generation
   pub marked : r.marked ≡ unused_text limit
   pub chunks : r.chunks ≡ []

@@ -2,7 +2,7 @@
 use Rattle.std.specs.Prelude.{◌≡◌, ◌≢◌, ℕ, ◌+◌, ◌*◌, ◌^◌, ◌<◌, ◌≤◌, List, [], ◌∷◌, ◌++◌, Option, Some, None, Contains, IfSome, IsSome, All, length, map, slice_index}
 use Rattle.nc_decode.specs.Bundles.{IsLawfulLimit}
 use Rattle.nc_gens.specs.declared.view.WordStep.{WordStep}
-use Rattle.nc_gens.specs.History.{seat_word}
+use Rattle.nc_gens.specs.Trail.{seat_word}
 use Rattle.nc_gens.specs.Progress.{IsBeforeLook}
 use Rattle.nc_gens.specs.Seen.{AreSeats, PassState, Raised, first_keeper, new_passes}
 use Rattle.nc_text.specs.MarkedText.{unused_text}
@@ -142,7 +142,7 @@ abbrev pub meetings : List PassState → List Event
 meetings [] = []
 meetings (p ∷ rest) = Looks p.seat ∷ Looks p.seat ∷ meetings rest
 
--- where this history ends, each seat but those of these passes has checked in since the stamp or has left (as in `HavePassed` of
+-- where this trail ends, each seat but those of these passes has checked in since the stamp or has left (as in `HavePassed` of
 -- nc_gens)
 abbrev pub HaveOthersPassed : List PassState → ℕ → ℕ → List WordStep → Type 0
 HaveOthersPassed passes seats stamp known =
@@ -152,7 +152,7 @@ HaveOthersPassed passes seats stamp known =
 -- since the stamp or had left, then no chunk with a stamp of at most that one is in the list. No other seat delays that.
 abbrev pub HasFreedPassed : RegionHandleState → Region → Type 0
 HasFreedPassed old new = (stamp : ℕ) (known : List WordStep) → stamp ≤ old.region.keeper.numbers.generation
-    → IsBeforeLook (length new.keeper.numbers.bounds) known new.keeper.history
+    → IsBeforeLook (length new.keeper.numbers.bounds) known new.keeper.trail
     → HaveOthersPassed old.passes (length new.keeper.numbers.bounds) stamp known → AreFreedUpTo stamp new.chunks
 
 -- No deletion was under way. The keeper met the passes not given out, by which its bounds may have risen. If there were

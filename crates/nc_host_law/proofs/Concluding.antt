@@ -9,7 +9,7 @@ use Rattle.nc_text.specs.Machine.{IsConfined}
 use Rattle.nc_text.specs.MarkedText.{MarkedText, with_span}
 use Rattle.nc_text.proofs.Offered.{confined_if_closed}
 use Rattle.nc_gens.specs.declared.view.WordStep.{WordStep}
-use Rattle.nc_gens.specs.History.{BeginsWith, is_by_keeper}
+use Rattle.nc_gens.specs.Trail.{BeginsWith, is_by_keeper}
 use Rattle.nc_gens.specs.Seen.{KeeperState, KeeperSteps, least_number}
 use Rattle.nc_list.specs.declared.chunk.Chunk.{Chunk}
 use Rattle.nc_region.specs.schedules.Spans.{RetiredSpan}
@@ -176,9 +176,9 @@ knows_then limit seats host l called pages call none =
     knows_as_much called.keeper.numbers (world_after (first_world limit seats) (l.before ++ (l.since ++ host.pending))).keeper
     (knows_more limit seats l.before (l.since ++ host.pending) l.from.keeper called.keeper l.stays.keeper
     (subst (λ (z : List Event). KeeperSteps l.from.keeper called.keeper (filter is_by_keeper (word_steps z))) (sym own) steps)
-    (λ some. subst (λ (h : List WordStep). BeginsWith h called.keeper.history) more
-    (begins_longer host.steps (word_steps host.pending) called.keeper.history
-    (subst (λ (k : KeeperState). BeginsWith host.steps k.history) (ap (λ (r : Region). r.keeper) pages)
+    (λ some. subst (λ (h : List WordStep). BeginsWith h called.keeper.trail) more
+    (begins_longer host.steps (word_steps host.pending) called.keeper.trail
+    (subst (λ (k : KeeperState). BeginsWith host.steps k.trail) (ap (λ (r : Region). r.keeper) pages)
     (l.order (λ all. some (subst (All IsNoLook) (sym own) (All-append IsNoLook (writers l.since) host.pending all none))) none))))).same
 
 -- in every state of a host the events so far are allowed and leave instructions whole

@@ -7,7 +7,7 @@ use Rattle.std.proofs.lemmas.List.Elements.{All-nil, All-append, All-head, All-t
 use Rattle.nc_text.specs.MarkedText.{MarkedText, unused_text}
 use Rattle.nc_gens.specs.Rule.{first_keeper_numbers}
 use Rattle.nc_gens.specs.declared.view.WordStep.{WordStep}
-use Rattle.nc_gens.specs.History.{BeginsWith}
+use Rattle.nc_gens.specs.Trail.{BeginsWith}
 use Rattle.nc_gens.specs.Seen.{KeeperState}
 use Rattle.nc_list.specs.declared.chunk.Chunk.{Chunk}
 use Rattle.nc_region.specs.schedules.World.{World, first_world}
@@ -62,7 +62,7 @@ pub record Led (limit seats : ℕ) (host : Host) : Type 0 where
   pub threads : ThreadsMay (world_after (first_world limit seats) before) since
   pub plain : All IsWriters host.pending
   pub steps : host.steps ≡ word_steps (before ++ since)
-  pub order : ¬ All IsNoLook (writers since) → All IsNoLook host.pending → BeginsWith host.steps host.handle.region.keeper.history
+  pub order : ¬ All IsNoLook (writers since) → All IsNoLook host.pending → BeginsWith host.steps host.handle.region.keeper.trail
   pub phase : Phase seats from (writers since) host.handle.begun host.handle.region host.called host.pending
 
 -- the world after one more event is that after all events
@@ -87,7 +87,7 @@ steps_after before since steps event is =
     ∙ (ap (λ (l : List WordStep). word_steps (before ++ since) ++ l) (sym (append-nil (word_step event)))
     ∙ (sym (steps_append (before ++ since) (event ∷ [])) ∙ ap word_steps (append_assoc before since (event ∷ []))))
 
--- steps that begin with a history do so with more of them
+-- steps that begin with a trail do so with more of them
 pub begins_longer : (all more known : List WordStep) → BeginsWith all known → BeginsWith (all ++ more) known
 begins_longer all more known b =
     (b.0 ++ more, ap (λ (l : List WordStep). l ++ more) b.1 ∙ append_assoc known b.0 more)
@@ -144,7 +144,7 @@ led_runs limit seats old event l is may =
           ((λ no. subst (λ (w : World). ThreadMay w event) (led_there limit seats l.before l.since old.world l.world) may), tt);
       plain = l.plain;
       steps = steps_after l.before l.since old.steps event l.steps;
-      order = λ some none. begins_longer old.steps (word_step event) old.handle.region.keeper.history
+      order = λ some none. begins_longer old.steps (word_step event) old.handle.region.keeper.trail
           (l.order (subst (λ (own : List Event). ¬ All IsNoLook own) (writers_thread l.since event is) some) none);
       phase = subst (λ (own : List Event). Phase seats l.from own old.handle.begun old.handle.region old.called old.pending)
           (sym (writers_thread l.since event is)) l.phase;
@@ -152,12 +152,12 @@ led_runs limit seats old event l is may =
 
 -- the steps are in order once the next event is made, if they are where it is the last look
 order_made : (old : Host) (event : Event) (since rest : List Event) → old.pending ≡ event ∷ rest
-    → (¬ All IsNoLook since → All IsNoLook old.pending → BeginsWith old.steps old.handle.region.keeper.history)
+    → (¬ All IsNoLook since → All IsNoLook old.pending → BeginsWith old.steps old.handle.region.keeper.trail)
     → IsInOrder old (record (host_after old event) { pending = rest })
-    → ¬ All IsNoLook (since ++ event ∷ []) → All IsNoLook rest → BeginsWith (old.steps ++ word_step event) old.handle.region.keeper.history
+    → ¬ All IsNoLook (since ++ event ∷ []) → All IsNoLook rest → BeginsWith (old.steps ++ word_step event) old.handle.region.keeper.trail
 order_made old event since rest is was last some none =
     elim (looks_or_not (event ∷ [])) [
-      | inl no_look ↦ begins_longer old.steps (word_step event) old.handle.region.keeper.history
+      | inl no_look ↦ begins_longer old.steps (word_step event) old.handle.region.keeper.trail
           (was (λ all. some (All-append IsNoLook since (event ∷ []) all no_look))
           (subst (All IsNoLook) (sym is) (All-append IsNoLook (event ∷ []) rest no_look none)))
       | inr look ↦ last (λ all. look (all_front IsNoLook (event ∷ []) rest (subst (All IsNoLook) is all))) none
@@ -238,8 +238,8 @@ finished limit seats host l none idle =
         ap (λ (z : List Event). writers l.since ++ z) none ∙ append-nil (writers l.since) in
         pages_stay limit seats (l.before ++ l.since) called host.handle.region
         (call_stays limit seats l.before l.from (record { events = l.since; region = called }) l.stays l.threads
-        (λ some. subst (λ (h : List WordStep). BeginsWith h called.keeper.history) l.steps
-        (subst (λ (k : KeeperState). BeginsWith host.steps k.history) (ap (λ (r : Region). r.keeper) pages)
+        (λ some. subst (λ (h : List WordStep). BeginsWith h called.keeper.trail) l.steps
+        (subst (λ (k : KeeperState). BeginsWith host.steps k.trail) (ap (λ (r : Region). r.keeper) pages)
         (l.order some (subst (All IsNoLook) (sym none) (All-nil IsNoLook)))))
         (subst (IsCall seats l.from called) own call)) pages
     go (Deleting c is at live room ends a) = absurd (let bad : None ≡ Some c = sym idle ∙ is in cc)
@@ -368,9 +368,9 @@ led_asks : (limit seats : ℕ) (old : Host) (handle : RegionHandleState) → Led
     → handle.region ≡ record old.handle.region { made = handle.region.made } → Led limit seats (record old { handle = handle })
 led_asks limit seats old handle l begun region = go l.phase
   where
-    order : ¬ All IsNoLook (writers l.since) → All IsNoLook old.pending → BeginsWith old.steps handle.region.keeper.history
+    order : ¬ All IsNoLook (writers l.since) → All IsNoLook old.pending → BeginsWith old.steps handle.region.keeper.trail
     order some none =
-        subst (λ (k : KeeperState). BeginsWith old.steps k.history) (sym (ap (λ (r : Region). r.keeper) region)) (l.order some none)
+        subst (λ (k : KeeperState). BeginsWith old.steps k.trail) (sym (ap (λ (r : Region). r.keeper) region)) (l.order some none)
 
     go : Phase seats l.from (writers l.since) old.handle.begun old.handle.region old.called old.pending
         → Led limit seats (record old { handle = handle })

@@ -4,7 +4,7 @@ use Rattle.std.specs.Prelude.{All}
 use Rattle.std.proofs.lemmas.List.{append-nil, append_assoc}
 use Rattle.std.proofs.lemmas.List.Elements.{All-append, filter-append}
 use Rattle.nc_gens.specs.declared.view.WordStep.{WordStep}
-use Rattle.nc_gens.specs.History.{BeginsWith}
+use Rattle.nc_gens.specs.Trail.{BeginsWith}
 use Rattle.nc_region.specs.schedules.World.{World, first_world}
 use Rattle.nc_region.specs.schedules.Events.{Event, ThreadMay, after, world_after}
 use Rattle.nc_region.proofs.Offered.{after_append}
@@ -71,7 +71,7 @@ goes_once : (bundles seats : ℕ) (host : Host) (turn : Turn) (before made later
     → (is_writers event ≡ false → ThreadMay (world_after host.world made) event)
     → host.steps ≡ word_steps before → turn.events ≡ (made ++ event ∷ []) ++ later
     → ((first rest : List Event) → turn.events ≡ first ++ rest → ¬ All IsNoLook (writers first) → All IsNoLook (writers rest)
-    → BeginsWith (word_steps (before ++ first)) turn.region.keeper.history)
+    → BeginsWith (word_steps (before ++ first)) turn.region.keeper.trail)
     → (b : Bool) → is_writers event ≡ b → GoesOn bundles seats host (in_turn host turn (made ++ event ∷ []) later)
 goes_once bundles seats host turn before made later event gone may steps parts order false is =
     let old : Host = in_turn host turn made (event ∷ later) in
@@ -89,7 +89,7 @@ goes_once bundles seats host turn before made later event gone may steps parts o
     ∙ (ap (λ (l : List WordStep). l ++ word_steps (made ++ event ∷ [])) (sym steps) ∙ sym (ap (λ (h : Host). h.steps) same)) in
     subst (GoesOn bundles seats host) same
     (Further gone step (Then (reached_by bundles seats host old gone) step
-    (λ some none. subst (λ (l : List WordStep). BeginsWith l turn.region.keeper.history) here
+    (λ some none. subst (λ (l : List WordStep). BeginsWith l turn.region.keeper.trail) here
     (order (made ++ event ∷ []) later parts (look_here made later event is some none) none))))
 
 -- a host makes the next events of a turn, one by one, and the writer's among the others are then pending
@@ -97,7 +97,7 @@ goes_on : (bundles seats : ℕ) (host : Host) (turn : Turn) (before made events 
     → GoesOn bundles seats host (in_turn host turn made (events ++ later)) → ThreadsMay (world_after host.world made) (events ++ later)
     → host.steps ≡ word_steps before → turn.events ≡ made ++ (events ++ later)
     → ((first rest : List Event) → turn.events ≡ first ++ rest → ¬ All IsNoLook (writers first) → All IsNoLook (writers rest)
-    → BeginsWith (word_steps (before ++ first)) turn.region.keeper.history)
+    → BeginsWith (word_steps (before ++ first)) turn.region.keeper.trail)
     → GoesOn bundles seats host (in_turn host turn (made ++ events) later)
 goes_on bundles seats host turn before made [] later gone threads steps parts order =
     subst (λ (z : List Event). GoesOn bundles seats host (in_turn host turn z later)) (sym (append-nil made)) gone

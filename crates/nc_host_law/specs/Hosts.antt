@@ -1,7 +1,7 @@
 -- A host in C, step by step: its memory, its calls by a handle of a region, and the threads that run that memory.
 use Rattle.std.specs.Prelude.{◌≡◌, ℕ, ◌+◌, ◌*◌, ⊤, false, List, [], ◌∷◌, ◌++◌, All}
 use Rattle.nc_gens.specs.declared.view.WordStep.{WordStep}
-use Rattle.nc_gens.specs.History.{BeginsWith}
+use Rattle.nc_gens.specs.Trail.{BeginsWith}
 use Rattle.nc_region.specs.schedules.World.{World, first_world}
 use Rattle.nc_region.specs.schedules.Events.{Event, Puts, Serializes, Marks, ThreadMay, after}
 use Rattle.nc_histories.specs.Interleaving.{is_writers, IsNoLook}
@@ -46,10 +46,10 @@ pub data IsHostStep (seats : ℕ) (old new : Host) : Type 0 where
   Asks : new.handle.begun ≡ old.handle.begun → new.handle.region ≡ record old.handle.region { made = new.handle.region.made }
       → new ≡ record old { handle = new.handle } → IsHostStep seats old new
 
--- A step that makes the last look that was pending is in order if the steps on the table's words so far begin with the history that the
+-- A step that makes the last look that was pending is in order if the steps on the table's words so far begin with the trail that the
 -- keeper has once the call has ended. Every other step is in order.
 abbrev pub IsInOrder : Host → Host → Type 0
-IsInOrder old new = ¬ All IsNoLook old.pending → All IsNoLook new.pending → BeginsWith new.steps new.handle.region.keeper.history
+IsInOrder old new = ¬ All IsNoLook old.pending → All IsNoLook new.pending → BeginsWith new.steps new.handle.region.keeper.trail
 
 -- A state that a host can reach from a new region of a handle: nothing is pending, and its memory is a region's without any
 -- chunk; then steps, each of which is in order.

@@ -15,7 +15,7 @@ ghost use Rattle.nc_host_law.specs.Hosts.{Host, host_after, IsHosts, IsReached};
 /// From each state that a host can reach, these lead to another one:
 ///
 /// - the first pending event, unless it is the last look at a seat's word, before which threads have to have taken the steps that the
-///   keeper's history has;
+///   keeper's trail has;
 /// - if nothing is pending, each accepted call, after which its events are pending: a creation, a patch, each call of a deletion, and both
 ///   halves of a reclaim, in the first of which the keeper meets the seats that nobody was given;
 /// - until the next call that changes the region, beginning the last one's events again (`again`), if each is one that the host makes: all

@@ -11,7 +11,7 @@ use Rattle.nc_text.specs.Ready.{GetsReady}
 use Rattle.nc_text.proofs.Offered.{get_or-with_span_in, get_or-with_span_below, get_or-with_span_above}
 use Rattle.nc_gens.specs.declared.view.WordStep.{WordStep}
 use Rattle.nc_gens.specs.declared.view.WordStep.TheVariants.{AddedOne}
-use Rattle.nc_gens.specs.History.{Adds, is_by_keeper}
+use Rattle.nc_gens.specs.Trail.{Adds, is_by_keeper}
 use Rattle.nc_gens.proofs.Offered.{one_last}
 use Rattle.nc_gens.specs.Rule.{generation_raised}
 use Rattle.nc_gens.specs.Seen.{KeeperState, HasLooked, least_number}
@@ -42,13 +42,13 @@ deleted_region old k c =
     record old {
       marked = record old.marked { bytes = with_span old.marked.bytes (c.base - 65536) (replicate c.length 244) };
       chunks = set old.chunks k (record c { state = Retired (old.keeper.numbers.generation + 1) });
-      keeper = record old.keeper { numbers = generation_raised old.keeper.numbers; history = old.keeper.history ++ AddedOne ∷ [] };
+      keeper = record old.keeper { numbers = generation_raised old.keeper.numbers; trail = old.keeper.trail ++ AddedOne ∷ [] };
       logged = old.logged ++ log_of_delete old.marked.marks c.base c.length;
     }
 
 -- the one step that a stamp adds
-pub raised_adds : (history : List WordStep) → Adds is_by_keeper history (history ++ AddedOne ∷ []) (AddedOne ∷ [])
-raised_adds history = record {
+pub raised_adds : (trail : List WordStep) → Adds is_by_keeper trail (trail ++ AddedOne ∷ []) (AddedOne ∷ [])
+raised_adds trail = record {
   later = AddedOne ∷ [];
   all = refl;
   own_are = refl;
@@ -61,7 +61,7 @@ abbrev pub deleted_at : (old : Region) (k : ℕ) (c : Chunk) → slice_get old.c
     → IsDeleted old (deleted_region old k c) c.base (old.keeper.numbers.generation + 1)
 deleted_at old k c listed live room =
     deleted_is old (deleted_region old k c) k c.base (old.keeper.numbers.generation + 1) c listed live refl room refl refl refl refl
-    refl (record { others = refl; adds = raised_adds old.keeper.history }) refl
+    refl (record { others = refl; adds = raised_adds old.keeper.trail }) refl
 
 -- a live chunk can be deleted unless the generation is the last one
 pub deleted_exists : (old : Region) (base : ℕ) → HasLive old.chunks base → old.keeper.numbers.generation < 4611686018427387904

@@ -80,5 +80,5 @@ AreFreedUpTo stamp chunks = (c : Chunk) (drawn : ℕ) → Contains chunks c → 
 -- checked in since the stamp or had left, then no chunk with a stamp of at most that one is in the list.
 abbrev pub HasProgressed : Region → Type 0
 HasProgressed r = (stamp : ℕ) (known : List WordStep) → stamp ≤ r.keeper.numbers.generation
-    → IsBeforeLook (length r.keeper.numbers.bounds) known r.keeper.history
+    → IsBeforeLook (length r.keeper.numbers.bounds) known r.keeper.trail
     → HavePassed (length r.keeper.numbers.bounds) stamp known → AreFreedUpTo stamp r.chunks

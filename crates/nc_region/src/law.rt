@@ -32,13 +32,13 @@ pub fn law_of_logs()
 {}
 
 /// A reclaim frees each chunk for which, at some moment before its look, each seat had checked in since the stamp or had left. The
-/// moment is a part of the history that the keeper recalls (`IsBeforeLook` of `nc_gens`). The history that the keeper recalled when
+/// moment is a part of the trail that the keeper recalls (`IsBeforeLook` of `nc_gens`). The trail that the keeper recalled when
 /// the call began is such a part. The function does nothing when called.
 ///
 /// Not promised: that any seat ever checks in or leaves.
 pub fn law_of_progress()
     ensures before { (old new : Region) (count : ℕ) → IsReclaimed old new count
-        → IsBeforeLook (length new.keeper.numbers.bounds) old.keeper.history new.keeper.history }
+        → IsBeforeLook (length new.keeper.numbers.bounds) old.keeper.trail new.keeper.trail }
     ensures freed { (old new : Region) (count : ℕ) → IsReclaimed old new count → HasProgressed new }
 {}
 

@@ -10,10 +10,10 @@ giving_view seats i = record {
   is_pass = false;
   seat = 0;
   pass = first_pass_numbers;
-  pass_history = [];
+  pass_trail = [];
   is_keeper = true;
   keeper = first_keeper_numbers seats;
-  keeper_history = [];
+  keeper_trail = [];
   given = i;
 }
 
@@ -31,7 +31,7 @@ new_pass_view v = record v {
   is_pass = true;
   seat = v.given;
   pass = first_pass_numbers;
-  pass_history = [];
+  pass_trail = [];
   is_keeper = false;
 }
 
@@ -45,7 +45,7 @@ without_keeper v = record v { is_keeper = false }
 
 -- the view with the pass of the other view
 abbrev pub with_pass_of : View → View → View
-with_pass_of v other = record v { is_pass = other.is_pass; seat = other.seat; pass = other.pass; pass_history = other.pass_history }
+with_pass_of v other = record v { is_pass = other.is_pass; seat = other.seat; pass = other.pass; pass_trail = other.pass_trail }
 
 -- the view with neither pass nor keeper
 abbrev pub spent_view : View

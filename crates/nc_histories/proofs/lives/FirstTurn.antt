@@ -140,7 +140,7 @@ may_enter v valid =
 
 -- a keeper with the first numbers
 abbrev pub fresh : KeeperState → KeeperState
-fresh keeper = record keeper { numbers = first_keeper_numbers 1; history = [] }
+fresh keeper = record keeper { numbers = first_keeper_numbers 1; trail = [] }
 
 -- a chunk inserted in the empty list
 insert_none : (k : ℕ) (c : Chunk) → insert [] k c ≡ c ∷ []
@@ -156,7 +156,7 @@ same_created v keeper created is =
       marked = created.marked;
       made = created.made;
       chunks = z;
-      keeper = record keeper { numbers = first_keeper_numbers 1; history = [] };
+      keeper = record keeper { numbers = first_keeper_numbers 1; trail = [] };
       logged = created.logged;
     } in r) (is.chunks.2 ∙ insert_none is.chunks.0 (live_chunk v))
 
@@ -175,7 +175,7 @@ pub creation_is_turn : (v : MarkedChunk) (keeper : KeeperState) (created : Regio
 creation_is_turn v keeper created valid is = record {
   call = Creates v valid (same_limit v valid) is [] NoneYet (own_created v);
   threads = may_enter v valid;
-  order = λ made later parts some none. begins_with_none (word_steps made) created.keeper.history (ap (λ (r : Region). r.keeper.history) is.others);
+  order = λ made later parts some none. begins_with_none (word_steps made) created.keeper.trail (ap (λ (r : Region). r.keeper.trail) is.others);
 }
 
 -- the turn of the creation stands around the thread's entering

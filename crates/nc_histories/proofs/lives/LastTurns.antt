@@ -13,7 +13,7 @@ use Rattle.nc_gens.specs.declared.view.KeeperNumbers.{KeeperNumbers}
 use Rattle.nc_gens.specs.declared.view.WordStep.{WordStep}
 use Rattle.nc_gens.specs.declared.view.WordStep.TheVariants.{AddedOne, TookGeneration, StoredSince, TookWord}
 use Rattle.nc_gens.specs.Rule.{first_keeper_numbers, generation_raised}
-use Rattle.nc_gens.specs.History.{BeginsWith, is_by_keeper, IsRising, numbers_by, seat_word}
+use Rattle.nc_gens.specs.Trail.{BeginsWith, is_by_keeper, IsRising, numbers_by, seat_word}
 use Rattle.nc_gens.proofs.Offered.{one_last, found_after, each_loaded, lowers_none, rising_none, rising_more}
 use Rattle.nc_gens.specs.Seen.{KeeperState, HasLooked}
 use Rattle.nc_list.specs.declared.chunk.ChunkState.TheVariants.{Retired}
@@ -42,7 +42,7 @@ with_live v keeper marked made logged =
       marked = marked;
       made = made;
       chunks = live_chunk v ∷ [];
-      keeper = record keeper { numbers = first_keeper_numbers 1; history = [] };
+      keeper = record keeper { numbers = first_keeper_numbers 1; trail = [] };
       logged = logged;
     }
 
@@ -199,8 +199,8 @@ abbrev pub third_numbers : KeeperNumbers
 third_numbers = record { generation = 1; bounds = 1 ∷ []; looks = 1 ∷ [] }
 
 -- the steps on the words up to the look
-abbrev pub last_history : List WordStep
-last_history = AddedOne ∷ TookGeneration 0 ∷ StoredSince 0 ∷ TookWord 0 ∷ []
+abbrev pub last_trail : List WordStep
+last_trail = AddedOne ∷ TookGeneration 0 ∷ StoredSince 0 ∷ TookWord 0 ∷ []
 
 -- the events of the reclaim's turn
 abbrev pub last_events : MarkedChunk → List Event
@@ -209,7 +209,7 @@ last_events v = Exits 0 ∷ Takes 0 ∷ Stores 0 ∷ Looks 0 ∷ Frees (span_of 
 -- the region after the reclaim
 abbrev reclaimed_of : MarkedChunk → KeeperState → MarkedText → List Bool → List Entry → Region
 reclaimed_of v keeper marked made logged =
-    reclaimed_region (deleted_of v keeper marked made logged) (record keeper { numbers = third_numbers; history = last_history })
+    reclaimed_region (deleted_of v keeper marked made logged) (record keeper { numbers = third_numbers; trail = last_trail })
 
 -- the one seat was looked at once more
 one_more : (i : ℕ) → i < 1 → slice_index third_numbers.looks i ≡ slice_index second_numbers.looks i + 1
@@ -221,10 +221,10 @@ not_lower : (i : ℕ) → i < 1 → slice_index second_numbers.bounds i ≤ slic
 not_lower zero lt = omega arith
 not_lower (suc i) lt = absurd (omega (arith, lt))
 
--- no step of the history lowers the one seat's word
-rises : IsRising 1 last_history
+-- no step of the trail lowers the one seat's word
+rises : IsRising 1 last_trail
 rises =
-    rising_more 1 (AddedOne ∷ TookGeneration 0 ∷ StoredSince 0 ∷ []) (TookWord 0) (λ k. le_refl (seat_word 1 last_history k))
+    rising_more 1 (AddedOne ∷ TookGeneration 0 ∷ StoredSince 0 ∷ []) (TookWord 0) (λ k. le_refl (seat_word 1 last_trail k))
     (rising_more 1 (AddedOne ∷ TookGeneration 0 ∷ []) (StoredSince 0)
     (lowers_none (numbers_by 1 (AddedOne ∷ TookGeneration 0 ∷ [])) 0 _ (omega arith) (omega arith))
     (rising_more 1 (AddedOne ∷ []) (TookGeneration 0) (lowers_none (numbers_by 1 (AddedOne ∷ [])) 0 _ (omega arith) (omega arith))
@@ -232,8 +232,8 @@ rises =
 
 -- the keeper has looked at the one seat
 has_looked : (keeper : KeeperState)
-    → HasLooked (record keeper { numbers = second_numbers; history = AddedOne ∷ [] })
-    (record keeper { numbers = third_numbers; history = last_history })
+    → HasLooked (record keeper { numbers = second_numbers; trail = AddedOne ∷ [] })
+    (record keeper { numbers = third_numbers; trail = last_trail })
 has_looked keeper = record {
   table = refl;
   generation = refl;
@@ -260,7 +260,7 @@ has_looked keeper = record {
 abbrev reclaims_of : (v : MarkedChunk) (keeper : KeeperState) (marked : MarkedText) (made : List Bool) (logged : List Entry)
     → IsReclaimed (deleted_of v keeper marked made logged) (reclaimed_of v keeper marked made logged) 1
 reclaims_of v keeper marked made logged =
-    reclaimed_exists (deleted_of v keeper marked made logged) (record keeper { numbers = third_numbers; history = last_history })
+    reclaimed_exists (deleted_of v keeper marked made logged) (record keeper { numbers = third_numbers; trail = last_trail })
     (has_looked keeper)
 
 -- the turn of the reclaim
@@ -291,9 +291,9 @@ last_steps v (suc (suc (suc (suc zero)))) some = refl
 last_steps v (suc (suc (suc (suc (suc zero))))) some = refl
 last_steps v (suc (suc (suc (suc (suc (suc n)))))) some = refl
 
--- once the last turn's look is made, the steps so far are those of the history
+-- once the last turn's look is made, the steps so far are those of the trail
 looked_last : (v : MarkedChunk) (before made later : List Event) → word_steps before ≡ AddedOne ∷ [] → last_events v ≡ made ++ later
-    → ¬ All IsNoLook (writers made) → BeginsWith (word_steps (before ++ made)) last_history
+    → ¬ All IsNoLook (writers made) → BeginsWith (word_steps (before ++ made)) last_trail
 looked_last v before made later steps parts some =
     let front : take (length made) (last_events v) ≡ made = ap (take (length made)) parts ∙ take_at made later (length made) refl in
     let own : word_steps made ≡ TookGeneration 0 ∷ StoredSince 0 ∷ TookWord 0 ∷ [] =

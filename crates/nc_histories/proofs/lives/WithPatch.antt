@@ -92,7 +92,7 @@ patch_is_turn v keeper created at bytes is lawful =
           (patch_text created.marked.bytes at lawful.1.2.0.run.news));
       threads = may_of_text (world_after (first_world v.limit 1) (creation_events v))
           (patch_events created.marked.bytes at lawful.1.2.0.run.news) (patch_text created.marked.bytes at lawful.1.2.0.run.news);
-      order = λ made later parts some none. begins_with_none (word_steps (creation_events v ++ made)) created.keeper.history (ap (λ (r : Region). r.keeper.history) is.others);
+      order = λ made later parts some none. begins_with_none (word_steps (creation_events v ++ made)) created.keeper.trail (ap (λ (r : Region). r.keeper.trail) is.others);
     }
 
 -- the bytes of the patched chunk, set to stops, are those of the unused text

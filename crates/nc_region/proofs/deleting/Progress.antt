@@ -5,7 +5,7 @@ use Rattle.std.proofs.lemmas.Bool.{not-true, leb-false}
 use Rattle.std.proofs.lemmas.List.Elements.{filter_passes, All-contains}
 use Rattle.nc_gens.specs.declared.view.WordStep.{WordStep}
 use Rattle.nc_gens.specs.declared.view.WordStep.TheVariants.{TookWord}
-use Rattle.nc_gens.specs.History.{seat_word}
+use Rattle.nc_gens.specs.Trail.{seat_word}
 use Rattle.nc_gens.specs.Seen.{least_number}
 use Rattle.nc_gens.specs.Progress.{IsBeforeLook}
 use Rattle.nc_gens.proofs.Offered.{each_loaded, is_before, past_from}
@@ -24,10 +24,10 @@ stays_above least stamp chunks le c drawn there is =
     leb-false drawn least (not-true (nat_le drawn least) (sym (ap (λ (s : ChunkState). not (is_due least s)) is) ∙ stays)) in
     omega arith
 
--- If each seat has checked in since a stamp, or has left, where the known part of a history ends, or the keeper knew that before the
+-- If each seat has checked in since a stamp, or has left, where the known part of a trail ends, or the keeper knew that before the
 -- reclaim, and each seat's word was loaded after that part, the chunks with a stamp of at most that one are freed.
 pub freed_from : (old new : Region) (count stamp : ℕ) (known rest : List WordStep) → IsReclaimed old new count
-    → stamp ≤ new.keeper.numbers.generation → new.keeper.history ≡ known ++ rest
+    → stamp ≤ new.keeper.numbers.generation → new.keeper.trail ≡ known ++ rest
     → ((k : ℕ) → k < length new.keeper.numbers.bounds → Contains rest (TookWord k))
     → ((k : ℕ) → k < length new.keeper.numbers.bounds
     → (stamp ≤ seat_word (length new.keeper.numbers.bounds) known k) ⊎ (stamp ≤ get_or old.keeper.numbers.bounds k 0))
@@ -39,7 +39,7 @@ freed_from old new count stamp known rest is drawn parts loaded passed =
 
 -- the same for a part that ends before the look
 pub freed_past : (old new : Region) (count stamp : ℕ) (known : List WordStep) → IsReclaimed old new count
-    → stamp ≤ new.keeper.numbers.generation → IsBeforeLook (length new.keeper.numbers.bounds) known new.keeper.history
+    → stamp ≤ new.keeper.numbers.generation → IsBeforeLook (length new.keeper.numbers.bounds) known new.keeper.trail
     → ((k : ℕ) → k < length new.keeper.numbers.bounds
     → (stamp ≤ seat_word (length new.keeper.numbers.bounds) known k) ⊎ (stamp ≤ get_or old.keeper.numbers.bounds k 0))
     → AreFreedUpTo stamp new.chunks
@@ -52,7 +52,7 @@ pub progressed : (old new : Region) (count : ℕ) → IsReclaimed old new count 
 progressed old new count is stamp known drawn b passed =
     freed_past old new count stamp known is drawn b (λ k inside. inl (passed k inside))
 
--- the history that the keeper recalled ends before the look
+-- the trail that the keeper recalled ends before the look
 pub before_reclaim : (old new : Region) (count : ℕ) → IsReclaimed old new count
-    → IsBeforeLook (length new.keeper.numbers.bounds) old.keeper.history new.keeper.history
+    → IsBeforeLook (length new.keeper.numbers.bounds) old.keeper.trail new.keeper.trail
 before_reclaim old new count is = is_before old.keeper new.keeper is.looked

@@ -2,7 +2,7 @@ use Rattle.std.proofs.Common.{rules, arith, ◌≡◌, All, length, sym, ap, ◌
 use Rattle.std.proofs.lemmas.Result.{IfOk-from_err}
 use lib.ListN.{length-replicate}
 use Rattle.nc_gens.proofs.FirstTable.{length-new_passes, tables-new_passes}
-use Rattle.nc_gens.proofs.HandingHistory.{gives_pass_recorded}
+use Rattle.nc_gens.proofs.HandingTrail.{gives_pass_recorded}
 use Rattle.nc_gens.proofs.opening.give_passes.Goals as goal
 
 pub split_seat-token-requires : goal.split_seat-token-requires

@@ -1,5 +1,5 @@
 use Rattle.std.proofs.Common.{rules}
-use Rattle.nc_gens.proofs.HandingHistory.{starts_recorded}
+use Rattle.nc_gens.proofs.HandingTrail.{starts_recorded}
 use Rattle.nc_gens.proofs.opening.lay_words.Goals as goal
 
 pub of_words-requires : goal.of_words-requires

@@ -1,7 +1,7 @@
 use Rattle.std.proofs.Common.{inl, length, subst}
 use Rattle.nc_gens.proofs.Loads.{each_loaded, is_before, past_from}
 use Rattle.nc_gens.proofs.Passing.{have_passed}
-use Rattle.nc_gens.specs.History.{IsRising}
+use Rattle.nc_gens.specs.Trail.{IsRising}
 use Rattle.nc_gens.proofs.progress.law_of_progress.Goals as goal
 
 pub returns-clause-before : goal.returns-clause-before

@@ -1,8 +1,8 @@
 use Rattle.std.proofs.Common.{rules, arith, ◌≡◌, ℕ, ◌+◌, ◌-◌, List, [], ◌∷◌, sym, ap, subst, ◌∙◌}
 use Rattle.nc_gens.specs.declared.view.WordStep.{WordStep}
 use Rattle.nc_gens.specs.declared.view.WordStep.TheVariants.{TookGeneration, StoredSince}
-use Rattle.nc_gens.specs.History.{Adds, is_by_pass, numbers_by, pass_in}
-use Rattle.nc_gens.proofs.Histories.{adds_both}
+use Rattle.nc_gens.specs.Trail.{Adds, is_by_pass, numbers_by, pass_in}
+use Rattle.nc_gens.proofs.Trails.{adds_both}
 use Rattle.nc_gens.proofs.Recording.{takes_generation, stores_since}
 use Rattle.nc_gens.proofs.table.Gens.check_in.Goals as goal
 
@@ -34,27 +34,27 @@ returns c =
     let seat : between.seat ≡ before.seat = ap (λ m. m.0.seat) took.after in
     let seats : between.seats ≡ before.seats = ap (λ m. m.0.seats) took.after in
     let here : before.seat ≡ c.args.pass.now.seat = search rules in
-    let known : before.pass_history ≡ c.args.pass.now.history = ap (λ p. p.history) c.pass.view_is in
+    let known : before.pass_trail ≡ c.args.pass.now.trail = ap (λ p. p.trail) c.pass.view_is in
     let many : before.seats ≡ c.args.pass.now.table.words - 1 = search rules in
-    let second : Adds (is_by_pass before.seat) between.pass_history after.pass_history (StoredSince before.seat ∷ []) =
-    subst (λ (z : ℕ). Adds (is_by_pass z) between.pass_history after.pass_history (StoredSince z ∷ [])) seat stored.stepped.adds in
-    let both : Adds (is_by_pass before.seat) before.pass_history after.pass_history (TookGeneration before.seat ∷ StoredSince before.seat ∷ []) =
-    adds_both (is_by_pass before.seat) before.pass_history between.pass_history after.pass_history (TookGeneration before.seat ∷ [])
+    let second : Adds (is_by_pass before.seat) between.pass_trail after.pass_trail (StoredSince before.seat ∷ []) =
+    subst (λ (z : ℕ). Adds (is_by_pass z) between.pass_trail after.pass_trail (StoredSince z ∷ [])) seat stored.stepped.adds in
+    let both : Adds (is_by_pass before.seat) before.pass_trail after.pass_trail (TookGeneration before.seat ∷ StoredSince before.seat ∷ []) =
+    adds_both (is_by_pass before.seat) before.pass_trail between.pass_trail after.pass_trail (TookGeneration before.seat ∷ [])
     (StoredSince before.seat ∷ []) took.stepped.adds second in
-    let leads : after.pass ≡ pass_in (numbers_by before.seats after.pass_history) before.seat =
-    stored.stepped.numbers ∙ (λ i. pass_in (numbers_by (seats i) after.pass_history) (seat i)) in
+    let leads : after.pass ≡ pass_in (numbers_by before.seats after.pass_trail) before.seat =
+    stored.stepped.numbers ∙ (λ i. pass_in (numbers_by (seats i) after.pass_trail) (seat i)) in
     record {
       checked_in = record {
         same = search rules;
-        steps = search rules;
+        numbers = search rules;
         loads = search rules;
         published = search rules;
         rises = search rules;
         catches_up = search rules;
-        steps_of_pass = record {
-          adds = subst (λ (t : ℕ × List WordStep). Adds (is_by_pass t.0) t.1 after.pass_history (TookGeneration t.0 ∷ StoredSince t.0 ∷ []))
+        steps = record {
+          adds = subst (λ (t : ℕ × List WordStep). Adds (is_by_pass t.0) t.1 after.pass_trail (TookGeneration t.0 ∷ StoredSince t.0 ∷ []))
               (λ i. (here i, known i)) both;
-          led_to = leads ∙ (λ i. pass_in (numbers_by (many i) after.pass_history) (here i));
+          led_to = leads ∙ (λ i. pass_in (numbers_by (many i) after.pass_trail) (here i));
         };
       };
     }

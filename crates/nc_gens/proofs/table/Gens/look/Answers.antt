@@ -2,9 +2,9 @@ use Rattle.std.proofs.Common.{rules, arith, ◌≡◌, ℕ, [], ◌∷◌, lengt
 use Rattle.std.specs.List.{range_with_len}
 use Rattle.std.proofs.lemmas.List.FromFn.{map-range_with_len_more}
 use Rattle.nc_gens.specs.declared.view.WordStep.TheVariants.{TookWord}
-use Rattle.nc_gens.specs.History.{Adds, is_by_keeper, numbers_by}
+use Rattle.nc_gens.specs.Trail.{Adds, is_by_keeper, numbers_by}
 use Rattle.nc_gens.specs.Seen.{IsLedTo}
-use Rattle.nc_gens.proofs.Histories.{adds_none, adds_both}
+use Rattle.nc_gens.proofs.Trails.{adds_none, adds_both}
 use Rattle.nc_gens.proofs.Loads.{looked_found}
 use Rattle.std.proofs.lemmas.Grind.{common_steps}
 use Rattle.nc_gens.proofs.table.Gens.look.Goals as goal
@@ -12,15 +12,15 @@ use Rattle.nc_gens.proofs.table.Gens.look.Goals as goal
 pub loop-seat-init : goal.loop-seat-init
 loop-seat-init c =
     let is = c.keeper.invariant in
-    let led : c.keeper.inside.token.me.0.keeper ≡ (numbers_by (length c.keeper.inside.token.me.0.keeper.bounds) c.keeper.inside.token.me.0.keeper_history).keeper =
-    is.led_to ∙ ap (λ (z : ℕ). (numbers_by z c.keeper.inside.token.me.0.keeper_history).keeper) (is.seats_are ∙ sym (ap length is.bounds_are)) in (
+    let led : c.keeper.inside.token.me.0.keeper ≡ (numbers_by (length c.keeper.inside.token.me.0.keeper.bounds) c.keeper.inside.token.me.0.keeper_trail).keeper =
+    is.led_to ∙ ap (λ (z : ℕ). (numbers_by z c.keeper.inside.token.me.0.keeper_trail).keeper) (is.seats_are ∙ sym (ap length is.bounds_are)) in (
       refl,
       refl,
       (refl, λ i inside. le_refl _),
       refl,
       λ k low inside. absurd (omega arith),
       λ k low. refl,
-      adds_none is_by_keeper c.args.keeper.now.history,
+      adds_none is_by_keeper c.args.keeper.now.trail,
       subst IsLedTo c.keeper.view_is led,
       λ some. absurd (omega arith),
     )
@@ -35,8 +35,8 @@ loop-seat-preserved c =
       search rules,
       search rules,
       search rules,
-      subst (Adds is_by_keeper c.args.keeper.now.history c.look_at.new.keeper.history) (sym (map-range_with_len_more TookWord 0 c.loop-seat.seat c.loop-seat.seat (omega arith)))
-          (adds_both is_by_keeper c.args.keeper.now.history c.loop-seat.keeper.history c.look_at.new.keeper.history
+      subst (Adds is_by_keeper c.args.keeper.now.trail c.look_at.new.keeper.trail) (sym (map-range_with_len_more TookWord 0 c.loop-seat.seat c.loop-seat.seat (omega arith)))
+          (adds_both is_by_keeper c.args.keeper.now.trail c.loop-seat.keeper.trail c.look_at.new.keeper.trail
           (map TookWord (range_with_len 0 c.loop-seat.seat)) (TookWord c.loop-seat.seat ∷ []) i.6 one.stepped.adds),
       one.led_to,
       λ _. one.rising,
@@ -52,9 +52,9 @@ returns-clause-looked c =
     let e = i.2.0 in
     let f = ap (λ k. length k.numbers.bounds) c.keeper.view_is in
     let g = ap length c.keeper.invariant.bounds_are in omega arith in
-    let adds : Adds is_by_keeper c.args.keeper.now.history c.loop-seat.keeper.history
+    let adds : Adds is_by_keeper c.args.keeper.now.trail c.loop-seat.keeper.trail
     (map TookWord (range_with_len 0 (length c.loop-seat.keeper.numbers.bounds))) =
-    subst (λ (z : ℕ). Adds is_by_keeper c.args.keeper.now.history c.loop-seat.keeper.history (map TookWord (range_with_len 0 z))) end i.6 in
+    subst (λ (z : ℕ). Adds is_by_keeper c.args.keeper.now.trail c.loop-seat.keeper.trail (map TookWord (range_with_len 0 z))) end i.6 in
     record {
       table = i.0;
       generation = i.1;

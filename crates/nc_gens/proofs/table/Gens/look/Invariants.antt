@@ -1,7 +1,7 @@
 use Rattle.std.proofs.Common.{◌≡◌, ℕ, ◌+◌, ◌<◌, ◌≤◌, length, map, slice_index}
 use Rattle.std.specs.List.{range_with_len}
 use Rattle.nc_gens.specs.declared.view.WordStep.TheVariants.{TookWord}
-use Rattle.nc_gens.specs.History.{Adds, is_by_keeper, IsRising}
+use Rattle.nc_gens.specs.Trail.{Adds, is_by_keeper, IsRising}
 use Rattle.nc_gens.specs.Seen.{IsLedTo, Raised}
 use Rattle.nc_gens.proofs.table.Gens.look.Given as goal
 
@@ -14,6 +14,6 @@ invariant-loop-seat l =
     × ((k : ℕ) → k < l.seat → k < length l.fn.keeper.numbers.looks
     → slice_index l.keeper.numbers.looks k ≡ slice_index l.fn.keeper.numbers.looks k + 1)
     × ((k : ℕ) → l.seat ≤ k → slice_index l.keeper.numbers.looks k ≡ slice_index l.fn.keeper.numbers.looks k)
-    × Adds is_by_keeper l.fn.keeper.history l.keeper.history (map TookWord (range_with_len 0 l.seat))
+    × Adds is_by_keeper l.fn.keeper.trail l.keeper.trail (map TookWord (range_with_len 0 l.seat))
     × IsLedTo l.keeper
-    × (0 < l.seat → IsRising (length l.keeper.numbers.bounds) l.keeper.history)
+    × (0 < l.seat → IsRising (length l.keeper.numbers.bounds) l.keeper.trail)

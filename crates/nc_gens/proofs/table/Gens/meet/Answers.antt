@@ -1,7 +1,7 @@
 use Rattle.std.proofs.Common.{rules, arith, ◌≡◌, true, false, length, ap, ◌∙◌, sym, length-set}
 use Rattle.std.proofs.lemmas.Grind.{common_steps}
 use Rattle.nc_gens.proofs.Recording.{sees_generation, takes_word}
-use Rattle.nc_gens.proofs.HandingHistory.{passes_out_recorded, passes_in_recorded}
+use Rattle.nc_gens.proofs.HandingTrail.{passes_out_recorded, passes_in_recorded}
 use Rattle.nc_gens.proofs.table.Gens.meet.Goals as goal
 
 pub split_seat-lent-requires : goal.split_seat-lent-requires

@@ -1,4 +1,4 @@
--- Histories that grow by a step, and the numbers that they lead to.
+-- Trails that grow by a step, and the numbers that they lead to.
 use Rattle.std.proofs.Common.{◌≡◌, ℕ, zero, suc, ◌<◌, ◌==◌, Bool, true, false, cond, List, [], ◌∷◌, ◌++◌, filter, All, length, replicate, get_or, ◌⊎◌, inl, inr, sym, refl, ap, ◌∙◌}
 use Rattle.std.proofs.Common.{subst, arith, append_assoc, length-set, get_or-set_other, get_or-set_same}
 use Rattle.std.specs.Prelude.{⊤}
@@ -9,7 +9,7 @@ use Rattle.nc_gens.specs.declared.view.KeeperNumbers.{KeeperNumbers}
 use Rattle.nc_gens.specs.declared.view.WordStep.{WordStep}
 use Rattle.nc_gens.specs.declared.view.WordStep.TheVariants.{TookGeneration, SawGeneration, StoredSince, StoredLeft, AddedOne, TookWord}
 use Rattle.nc_gens.specs.Rule.{first_pass_numbers, generation_raised}
-use Rattle.nc_gens.specs.History.{is_by_pass, is_by_keeper, Adds, NoneSince, AllNumbers, pass_in, with_pass, numbers_after, numbers_after_all, numbers_by}
+use Rattle.nc_gens.specs.Trail.{is_by_pass, is_by_keeper, Adds, NoneSince, AllNumbers, pass_in, with_pass, numbers_after, numbers_after_all, numbers_by}
 use Rattle.nc_gens.specs.Seen.{KeeperState, HasRaised, KeeperSteps}
 
 -- the numbers of a new table
@@ -22,10 +22,10 @@ pub after_both : (n : AllNumbers) (one two : List WordStep)
 after_both n [] two = refl
 after_both n (step ∷ one) two = after_both (numbers_after n step) one two
 
--- the numbers that a history leads to, once a step is added
-pub by_longer : (seats : ℕ) (history : List WordStep) (step : WordStep)
-    → numbers_by seats (history ++ step ∷ []) ≡ numbers_after (numbers_by seats history) step
-by_longer seats history step = after_both (first_numbers seats) history (step ∷ [])
+-- the numbers that a trail leads to, once a step is added
+pub by_longer : (seats : ℕ) (trail : List WordStep) (step : WordStep)
+    → numbers_by seats (trail ++ step ∷ []) ≡ numbers_after (numbers_by seats trail) step
+by_longer seats trail step = after_both (first_numbers seats) trail (step ∷ [])
 
 -- a step adds no pass and takes none away
 pub as_many_after : (n : AllNumbers) (step : WordStep) → length (numbers_after n step).passes ≡ length n.passes
@@ -40,9 +40,9 @@ as_many_after_all : (n : AllNumbers) (steps : List WordStep) → length (numbers
 as_many_after_all n [] = refl
 as_many_after_all n (step ∷ steps) = as_many_after_all (numbers_after n step) steps ∙ as_many_after n step
 
--- every history leads to numbers for each seat
-pub as_many_by : (seats : ℕ) (history : List WordStep) → length (numbers_by seats history).passes ≡ seats
-as_many_by seats history = as_many_after_all (first_numbers seats) history ∙ length-copies seats
+-- every trail leads to numbers for each seat
+pub as_many_by : (seats : ℕ) (trail : List WordStep) → length (numbers_by seats trail).passes ≡ seats
+as_many_by seats trail = as_many_after_all (first_numbers seats) trail ∙ length-copies seats
   where
     length-copies : (k : ℕ) → length (replicate k first_pass_numbers) ≡ k
     length-copies zero = refl
@@ -100,9 +100,9 @@ untouched n k (step ∷ steps) none =
     untouched (numbers_after n step) k steps both.1 ∙ other_pass n k step both.0
 
 -- the pass of a seat that has taken no step is as it was at first
-pub as_at_first : (seats k : ℕ) (history : List WordStep) → filter (is_by_pass k) history ≡ []
-    → pass_in (numbers_by seats history) k ≡ first_pass_numbers
-as_at_first seats k history none = untouched (first_numbers seats) k history none ∙ all_first seats k
+pub as_at_first : (seats k : ℕ) (trail : List WordStep) → filter (is_by_pass k) trail ≡ []
+    → pass_in (numbers_by seats trail) k ≡ first_pass_numbers
+as_at_first seats k trail none = untouched (first_numbers seats) k trail none ∙ all_first seats k
 
 -- a step that doesn't pass the test is one of the others
 filter-other : (mine : WordStep → Bool) (step : WordStep) → mine step ≡ false → filter mine (step ∷ []) ≡ []
@@ -137,10 +137,10 @@ last_of (x ∷ xs) =
     ]
 
 -- nothing is added
-pub adds_none : (mine : WordStep → Bool) (history : List WordStep) → Adds mine history history []
-adds_none mine history = record {
+pub adds_none : (mine : WordStep → Bool) (trail : List WordStep) → Adds mine trail trail []
+adds_none mine trail = record {
   later = [];
-  all = sym (append_none history);
+  all = sym (append_none trail);
   own_are = refl;
   ends = λ others last e. absurd (no_last others last e);
 }
@@ -172,32 +172,32 @@ adds_both mine one two three own more a b = record {
 }
 
 -- nothing came since
-pub none_since : (mine : WordStep → Bool) (history : List WordStep) → NoneSince mine history history
-none_since mine history = record { later = []; all = sym (append_none history); none = refl }
+pub none_since : (mine : WordStep → Bool) (trail : List WordStep) → NoneSince mine trail trail
+none_since mine trail = record { later = []; all = sym (append_none trail); none = refl }
 
 -- a step of others came
-pub since_other : (mine : WordStep → Bool) (known history : List WordStep) (step : WordStep) → mine step ≡ false
-    → NoneSince mine known history → NoneSince mine known (history ++ step ∷ [])
-since_other mine known history step e s = record {
+pub since_other : (mine : WordStep → Bool) (known trail : List WordStep) (step : WordStep) → mine step ≡ false
+    → NoneSince mine known trail → NoneSince mine known (trail ++ step ∷ [])
+since_other mine known trail step e s = record {
   later = s.later ++ step ∷ [];
   all = ap (λ (l : List WordStep). l ++ step ∷ []) s.all ∙ append_assoc known s.later (step ∷ []);
   none = filter-append mine s.later (step ∷ []) ∙ (λ i. s.none i ++ filter-other mine step e i);
 }
 
 -- a step of one's own is added, after those of others
-pub adds_mine : (mine : WordStep → Bool) (known history : List WordStep) (step : WordStep) → mine step ≡ true
-    → NoneSince mine known history → Adds mine known (history ++ step ∷ []) (step ∷ [])
-adds_mine mine known history step e s = record {
+pub adds_mine : (mine : WordStep → Bool) (known trail : List WordStep) (step : WordStep) → mine step ≡ true
+    → NoneSince mine known trail → Adds mine known (trail ++ step ∷ []) (step ∷ [])
+adds_mine mine known trail step e s = record {
   later = s.later ++ step ∷ [];
   all = ap (λ (l : List WordStep). l ++ step ∷ []) s.all ∙ append_assoc known s.later (step ∷ []);
   own_are = filter-append mine s.later (step ∷ []) ∙ (λ i. s.none i ++ filter-mine mine step e i);
   ends = λ others last same. ap mine (sym (one_last s.later others step last same)) ∙ e;
 }
 
--- a longer history has no step of a seat if the history and the step have none
-pub still_none : (k : ℕ) (history : List WordStep) (step : WordStep) → filter (is_by_pass k) history ≡ [] → is_by_pass k step ≡ false
-    → filter (is_by_pass k) (history ++ step ∷ []) ≡ []
-still_none k history step none e = filter-append (is_by_pass k) history (step ∷ [])
+-- a longer trail has no step of a seat if the trail and the step have none
+pub still_none : (k : ℕ) (trail : List WordStep) (step : WordStep) → filter (is_by_pass k) trail ≡ [] → is_by_pass k step ≡ false
+    → filter (is_by_pass k) (trail ++ step ∷ []) ≡ []
+still_none k trail step none e = filter-append (is_by_pass k) trail (step ∷ [])
     ∙ (ap (λ (l : List WordStep). l ++ filter (is_by_pass k) (step ∷ [])) none ∙ filter-other (is_by_pass k) step e)
 
 -- the step isn't a load by the keeper
@@ -242,22 +242,22 @@ raised_steps old new raised =
       seats = same;
       led_to = λ led. ap (λ (k : KeeperState). k.numbers) raised.others
           ∙ (ap generation_raised led
-          ∙ (sym (same_raises (numbers_by (length old.numbers.bounds) old.history) (numbers_by (length old.numbers.bounds) old.history)
+          ∙ (sym (same_raises (numbers_by (length old.numbers.bounds) old.trail) (numbers_by (length old.numbers.bounds) old.trail)
           raised.adds.later (AddedOne ∷ []) refl raised.adds.own_are (All-cons IsNoTake AddedOne [] tt (All-nil IsNoTake)))
-          ∙ (ap (λ (n : AllNumbers). n.keeper) (sym (after_both (first_numbers (length old.numbers.bounds)) old.history raised.adds.later))
+          ∙ (ap (λ (n : AllNumbers). n.keeper) (sym (after_both (first_numbers (length old.numbers.bounds)) old.trail raised.adds.later))
           ∙ (λ i. (numbers_by (sym same i) (sym raised.adds.all i)).keeper))));
     }
 
 -- an equal keeper has taken no step
 pub no_steps : (old new : KeeperState) → new ≡ old → KeeperSteps old new []
 no_steps old new same = subst (λ (k : KeeperState). KeeperSteps old k []) (sym same)
-    record { adds = adds_none is_by_keeper old.history; seats = refl; led_to = λ led. led }
+    record { adds = adds_none is_by_keeper old.trail; seats = refl; led_to = λ led. led }
 
 -- a keeper that has taken steps and then others has taken both
 pub steps_both : (old mid new : KeeperState) (own more : List WordStep) → KeeperSteps old mid own → KeeperSteps mid new more
     → KeeperSteps old new (own ++ more)
 steps_both old mid new own more a b = record {
-  adds = adds_both is_by_keeper old.history mid.history new.history own more a.adds b.adds;
+  adds = adds_both is_by_keeper old.trail mid.trail new.trail own more a.adds b.adds;
   seats = b.seats ∙ a.seats;
   led_to = λ led. b.led_to (a.led_to led);
 }

@@ -1,17 +1,17 @@
--- The rule of a new table, and when a pass goes from one view to another: the history stays, and so does what each view recalls.
+-- The rule of a new table, and when a pass goes from one view to another: the trail stays, and so does what each view recalls.
 use Rattle.std.proofs.Common.{◌≡◌, ℕ, ◌+◌, ◌<◌, ◌≤◌, true, false, List, [], length, replicate, set, sym, refl, ap, ◌∙◌}
 use Rattle.std.proofs.Common.{arith, le_refl}
 use lib.ListN.{length-replicate}
 use Rattle.atomic_table.specs.Table.{opening, Splits, Joins}
 use Rattle.atomic_table.proofs.Lists.{set_else}
 use Rattle.nc_gens.specs.declared.view.View.{View}
-use Rattle.nc_gens.specs.History.{is_by_keeper}
+use Rattle.nc_gens.specs.Trail.{is_by_keeper}
 use Rattle.nc_gens.specs.Record.{Recalls, Recorded}
 use Rattle.nc_gens.specs.machinery.Views.{first_view, given_one_more, new_pass_view, without_pass, without_keeper, with_pass_of, spent_view}
 use Rattle.nc_gens.proofs.ChangedViews.{views_stay, split_views_stay}
 use Rattle.nc_gens.proofs.FirstTable.{starts, alone}
 use Rattle.nc_gens.proofs.HandingOver.{gives_pass, passes_out, passes_in}
-use Rattle.nc_gens.proofs.Histories.{as_at_first, none_since}
+use Rattle.nc_gens.proofs.Trails.{as_at_first, none_since}
 use Rattle.nc_gens.proofs.Rising.{rising_none}
 
 -- the rule holds of a new table, in which no step was taken
@@ -20,7 +20,7 @@ starts_recorded seats words e = record {
   ruled = starts seats words e;
   seats = seats;
   wide = ap length e ∙ length-replicate (seats + 1) 0;
-  history = [];
+  trail = [];
   rising = rising_none seats;
   each_view = alone (λ _. Recalls seats []) (first_view seats) record {
     pass = λ h. let no : false ≡ true = h in cc;
@@ -36,9 +36,9 @@ gives_pass_recorded id v bare is room s r at =
       ruled = gives_pass id v bare is room s r.ruled at;
       seats = r.seats;
       wide = r.wide;
-      history = r.history;
+      trail = r.trail;
       rising = r.rising;
-      each_view = split_views_stay (λ _. Recalls r.seats r.history) s.views id (given_one_more v) (new_pass_view v)
+      each_view = split_views_stay (λ _. Recalls r.seats r.trail) s.views id (given_one_more v) (new_pass_view v)
           record {
             pass = λ h. let no : false ≡ true = sym bare ∙ h in cc;
             keeper = λ _. record {
@@ -51,8 +51,8 @@ gives_pass_recorded id v bare is room s r at =
           record {
             pass = λ _. record {
               seats_are = k.seats_are;
-              numbers = sym (as_at_first r.seats v.given r.history (k.not_given v.given (le_refl v.given)));
-              known = record { later = r.history; all = refl; none = k.not_given v.given (le_refl v.given) };
+              numbers = sym (as_at_first r.seats v.given r.trail (k.not_given v.given (le_refl v.given)));
+              known = record { later = r.trail; all = refl; none = k.not_given v.given (le_refl v.given) };
             };
             keeper = λ h. let no : false ≡ true = h in cc;
           }
@@ -67,9 +67,9 @@ passes_out_recorded id v is all_given s r at =
       ruled = passes_out id v is all_given s r.ruled at;
       seats = r.seats;
       wide = r.wide;
-      history = r.history;
+      trail = r.trail;
       rising = r.rising;
-      each_view = split_views_stay (λ _. Recalls r.seats r.history) s.views id (without_pass v) (without_keeper v)
+      each_view = split_views_stay (λ _. Recalls r.seats r.trail) s.views id (without_pass v) (without_keeper v)
           record {
             pass = λ h. let no : false ≡ true = h in cc;
             keeper = λ h. let k = c.keeper h in
@@ -92,11 +92,11 @@ passes_in_recorded id v other w bare keeps is apart s r at ne there =
       ruled = passes_in id v other w bare is apart s r.ruled at ne there;
       seats = r.seats;
       wide = r.wide;
-      history = r.history;
+      trail = r.trail;
       rising = r.rising;
-      each_view = views_stay (λ _. Recalls r.seats r.history) (set s.views id both) other spent_view
+      each_view = views_stay (λ _. Recalls r.seats r.trail) (set s.views id both) other spent_view
           record { pass = λ h. let no : false ≡ true = h in cc; keeper = λ h. let no : false ≡ true = h in cc }
-          (λ j x _ here. views_stay (λ _. Recalls r.seats r.history) s.views id both
+          (λ j x _ here. views_stay (λ _. Recalls r.seats r.trail) s.views id both
           record {
             pass = λ _. record { seats_are = k.seats_are; numbers = p.numbers; known = p.known };
             keeper = λ _. record { seats_are = k.seats_are; numbers = k.numbers; known = k.known; not_given = k.not_given };

@@ -1,4 +1,4 @@
--- The history of a table: the atomic steps on its words, in their order, and the numbers that they lead to.
+-- The trail of a table: the atomic steps on its words, in their order, and the numbers that they lead to.
 use Rattle.std.specs.Prelude.{◌≡◌, ℕ, ◌≤◌, ◌++◌, ◌==◌, Bool, true, false, List, [], ◌∷◌, filter, replicate, slice_index_or, slice_set}
 use Rattle.nc_gens.specs.declared.view.PassNumbers.{PassNumbers}
 use Rattle.nc_gens.specs.declared.view.KeeperNumbers.{KeeperNumbers}
@@ -25,20 +25,20 @@ is_by_keeper (StoredLeft seat) = false
 is_by_keeper AddedOne = true
 is_by_keeper (TookWord seat) = true
 
--- One history continues another. Of the steps that it adds, these pass the test. It adds none at all, or one of these is the last.
+-- One trail continues another. Of the steps that it adds, these pass the test. It adds none at all, or one of these is the last.
 pub record Adds (mine : WordStep → Bool) (old new own : List WordStep) : Type 0 where
   pub later : List WordStep
   pub all : new ≡ old ++ later
   pub own_are : filter mine later ≡ own
   pub ends : (others : List WordStep) (last : WordStep) → later ≡ others ++ last ∷ [] → mine last ≡ true
 
--- one history continues another, and none of the steps that it adds passes the test
-pub record NoneSince (mine : WordStep → Bool) (known history : List WordStep) : Type 0 where
+-- one trail continues another, and none of the steps that it adds passes the test
+pub record NoneSince (mine : WordStep → Bool) (known trail : List WordStep) : Type 0 where
   pub later : List WordStep
-  pub all : history ≡ known ++ later
+  pub all : trail ≡ known ++ later
   pub none : filter mine later ≡ []
 
--- the one history begins with the other
+-- the one trail begins with the other
 abbrev pub BeginsWith : List WordStep → List WordStep → Type 0
 BeginsWith all known = (later : List WordStep) × (all ≡ known ++ later)
 
@@ -69,15 +69,15 @@ abbrev pub numbers_after_all : AllNumbers → List WordStep → AllNumbers
 numbers_after_all n [] = n
 numbers_after_all n (step ∷ steps) = numbers_after_all (numbers_after n step) steps
 
--- the numbers that a history leads to, from those of a new table with this number of seats
+-- the numbers that a trail leads to, from those of a new table with this number of seats
 abbrev pub numbers_by : ℕ → List WordStep → AllNumbers
-numbers_by seats history = numbers_after_all record { keeper = first_keeper_numbers seats; passes = replicate seats first_pass_numbers } history
+numbers_by seats trail = numbers_after_all record { keeper = first_keeper_numbers seats; passes = replicate seats first_pass_numbers } trail
 
--- the word of a seat where a history ends: the number that its last check-in has stored, or "left"
+-- the word of a seat where a trail ends: the number that its last check-in has stored, or "left"
 abbrev pub seat_word : ℕ → List WordStep → ℕ → ℕ
-seat_word seats history k = (pass_in (numbers_by seats history) k).word
+seat_word seats trail k = (pass_in (numbers_by seats trail) k).word
 
--- no step of the history has lowered a seat's word
+-- no step of the trail has lowered a seat's word
 abbrev pub IsRising : ℕ → List WordStep → Type 0
-IsRising seats history = (k : ℕ) (first more later : List WordStep) → history ≡ first ++ (more ++ later)
+IsRising seats trail = (k : ℕ) (first more later : List WordStep) → trail ≡ first ++ (more ++ later)
     → seat_word seats first k ≤ seat_word seats (first ++ more) k
