@@ -1,8 +1,8 @@
 -- The entries that a note stands for.
 use Rattle.std.specs.Prelude.{List, [], ◌∷◌}
 use Rattle.nc_acts.specs.declared.acts.Entry.{Entry}
-use Rattle.nc_acts.specs.declared.history.Note.{Note}
-use Rattle.nc_acts.specs.declared.history.Note.TheVariants.{One, Creation, Stops}
+use Rattle.nc_acts.specs.declared.log.Note.{Note}
+use Rattle.nc_acts.specs.declared.log.Note.TheVariants.{One, Creation, Stops}
 use Rattle.nc_acts.specs.Log.{log_of_create, log_of_stops}
 
 -- the entries of a note: itself, or those of a creation, or of the stops over a span

@@ -52,7 +52,7 @@ pub enum Entry {
 ///
 /// The contracts are those of `nc_text::Text` and `nc_gens::Gens`; an act on the text leaves the keeper unchanged, and vice
 /// versa. Every value logs its puts, spans marked and unmarked, bumps, looks and serializations. Each is appended to `logged`, which
-/// only clauses read. An implementer hands its acts on to one that logs, or notes them in a [`History`](crate::History), which
+/// only clauses read. An implementer hands its acts on to one that logs, or notes them in a [`Log`](crate::Log), which
 /// has no bytes. The acts that a value has told are those of its log, without the serializations.
 pub trait Acts {
     /// Bytes and marks.

@@ -1,7 +1,7 @@
 //! The acts by which a region changes its text and uses its generations.
 //!
 //! A region (`nc_region`) is built on an [`Acts`]: it changes the text one [`Act`] at a time, and serializes between some of them. Each
-//! act and each serialization is an [`Entry`] of a log. Only clauses read the log, which is a [`History`] of no bytes.
+//! act and each serialization is an [`Entry`] of a log. Only clauses read the log, which is a [`Log`] of no bytes.
 //!
 //! [`PlainOf`] makes the acts in a text of its own (`nc_text`), beside the keeper of a table of generations (`nc_gens`). [`Plain`] is
 //! one with a borrowed table. A [`Recorder`] hands each act on to another `Acts`, and appends it to a list.
@@ -11,11 +11,11 @@
 #![tactic(auto)]
 
 mod acts;
-mod history;
+mod log;
 mod plain;
 mod recorder;
 
 pub use acts::{Act, Acts, Entry};
-pub use history::{History, Note};
+pub use log::{Log, Note};
 pub use plain::{GensRef, Plain, PlainOf};
 pub use recorder::Recorder;

@@ -4,7 +4,7 @@ ghost use Rattle.std.specs.Prelude.{◌≡◌, []};
 ghost use Rattle.std.specs.Arc.{arc_value};
 
 use crate::acts::{Act, Acts, Entry};
-use crate::history::{History, Note};
+use crate::log::{Log, Note};
 use nc_decode::{Bundle, Mark};
 use nc_gens::{Gens, GensFull, Keeper, Pass};
 use nc_text::{Text, TextFault};
@@ -40,13 +40,13 @@ impl GensRef for Arc<Gens, Global> {
     }
 }
 
-/// A text beside a reference to a table of generations and the table's keeper. It logs its acts in a history, which has no bytes.
+/// A text beside a reference to a table of generations and the table's keeper. The log of its acts has no bytes.
 #[derive(Drop)]
 pub struct PlainOf<G: GensRef + Drop> {
     text: Text,
     gens: G,
     keeper: Keeper,
-    history: History,
+    log: Log,
 }
 
 /// A text beside a borrowed table of generations and its keeper.
@@ -58,7 +58,7 @@ impl<G: GensRef + Drop> Model for PlainOf<G> {
 
     ghost Value = { PlainState };
 
-    ghost view = { λ p. record { marked = p.text.marked; made = p.text.made; keeper = p.keeper; entries = p.history.entries } };
+    ghost view = { λ p. record { marked = p.text.marked; made = p.text.made; keeper = p.keeper; entries = p.log.entries } };
 
     ghost invariant = { λ p. p.keeper.table ≡ G.table p.gens };
 }
@@ -82,7 +82,7 @@ impl<G: GensRef + Drop> PlainOf<G> {
             text,
             gens,
             keeper,
-            history: History::new(),
+            log: Log::new(),
         }
     }
 
@@ -114,39 +114,38 @@ impl<G: GensRef + Drop> Acts for PlainOf<G> {
 
     fn put(&mut self, at: u32, byte: u8) {
         self.text.put(at, byte);
-        self.history
-            .note(&Note::One(Entry::Did(Act::Put(at, byte))));
+        self.log.note(&Note::One(Entry::Did(Act::Put(at, byte))));
     }
 
     fn stop_span(&mut self, at: u32, len: u32) {
         // Called for its postconditions.
         let _facts = self.text.limit();
         self.text.stop_span(at, len);
-        self.history.note(&Note::Stops(at, len, &self.text));
+        self.log.note(&Note::Stops(at, len, &self.text));
     }
 
     fn serialize(&mut self) {
         // Called for its postconditions.
         let _facts = self.text.limit();
-        self.history.note(&Note::One(Entry::Serialized));
+        self.log.note(&Note::One(Entry::Serialized));
     }
 
     fn mark_span(&mut self, at: u32, marks: &[Mark]) {
         self.text.mark_span(at, marks);
-        self.history.note(&Note::One(Entry::Did(Act::MarkSpan(at, marks.len() as u32))));
+        self.log.note(&Note::One(Entry::Did(Act::MarkSpan(at, marks.len() as u32))));
     }
 
     fn put_bundles(&mut self, at: u32, code: &[u8], bundles: &[Bundle]) -> bool {
         // Called for its postconditions.
         let _facts = self.text.limit();
         self.text.put_bundles(at, code, bundles);
-        self.history.note(&Note::Creation(at, code));
+        self.log.note(&Note::Creation(at, code));
         true
     }
 
     fn unmark_span(&mut self, at: u32, len: u32) {
         self.text.unmark_span(at, len);
-        self.history
+        self.log
             .note(&Note::One(Entry::Did(Act::UnmarkSpan(at, len))));
     }
 
@@ -169,13 +168,13 @@ impl<G: GensRef + Drop> Acts for PlainOf<G> {
     fn bump(&mut self) -> Result<u64, GensFull> {
         let answer = self.gens.gens().bump(&mut self.keeper);
         if answer.is_ok() {
-            self.history.note(&Note::One(Entry::Did(Act::Bump)));
+            self.log.note(&Note::One(Entry::Did(Act::Bump)));
         }
         answer
     }
 
     fn look(&mut self) -> u64 {
-        self.history.note(&Note::One(Entry::Did(Act::Look)));
+        self.log.note(&Note::One(Entry::Did(Act::Look)));
         self.gens.gens().look(&mut self.keeper)
     }
 

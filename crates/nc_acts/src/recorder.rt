@@ -15,7 +15,7 @@ ghost use Rattle.nc_gens.specs.Seen.{HasRaised, HasLooked, HasMet, least_number}
 ghost use Rattle.nc_acts.specs.Log.{Logs};
 
 use crate::acts::{Act, Acts, Entry};
-use crate::history::{History, Note};
+use crate::log::{Log, Note};
 use nc_decode::{Bundle, Mark};
 use nc_gens::{GensFull, Pass};
 use nc_text::TextFault;
@@ -31,15 +31,15 @@ pub struct Recorder<A: Acts + Drop> {
     acts: A,
     entries: Vec<Entry>,
     full: bool,
-    history: History,
-    ghost kept: { full ≡ false → entries.items ≡ history.entries },
+    log: Log,
+    ghost kept: { full ≡ false → entries.items ≡ log.entries },
 }
 
 impl<A: Acts + Drop> Recorder<A> {
     /// A recorder with room for this number of entries, each an act or a serialization. It is refused if there is no memory for the room.
     pub fn new(alloc: Global, acts: A, room: usize) -> Result<Recorder<A>, AllocError>
         ensures acts { IfOk result (λ r. r.acts ≡ acts) }
-        ensures logged { IfOk result (λ r. (r.history.entries ≡ []) × (r.entries.items ≡ []) × (r.full ≡ false)) }
+        ensures logged { IfOk result (λ r. (r.log.entries ≡ []) × (r.entries.items ≡ []) × (r.full ≡ false)) }
         ensures room { IfOk result (λ r. vec_len r.entries + room ≤ vec_capacity r.entries) }
     {
         let mut entries = Vec::new(alloc);
@@ -48,7 +48,7 @@ impl<A: Acts + Drop> Recorder<A> {
             acts,
             entries,
             full: false,
-            history: History::new(),
+            log: Log::new(),
         })
     }
 
@@ -62,12 +62,12 @@ impl<A: Acts + Drop> Recorder<A> {
 
     fn record(&mut self, entry: Entry)
         ensures acts { self.new.acts ≡ self.old.acts }
-        ensures logged { Logs self.old.history.entries self.new.history.entries (entry ∷ []) }
+        ensures logged { Logs self.old.log.entries self.new.log.entries (entry ∷ []) }
         // The recorder goes on exactly if it did before and there was room.
         ensures goes_on { (self.new.full ≡ false) ↔ ((self.old.full ≡ false)
             × (vec_len self.old.entries < vec_capacity self.old.entries)) }
     {
-        self.history.note(&Note::One(entry));
+        self.log.note(&Note::One(entry));
         if self.full || self.entries.len() == self.entries.capacity() {
             self.full = true;
             return;
@@ -85,7 +85,7 @@ impl<A: Acts + Drop> Acts for Recorder<A> {
 
     ghost keeper = { λ r. A.keeper r.acts };
 
-    ghost logged = { λ r. r.history.entries };
+    ghost logged = { λ r. r.log.entries };
 
     fn ready(&mut self, at: u32, len: u32) -> Result<(), TextFault>
         requires inside { SpanInRegion (A.marked self.old.acts).bytes at len }
@@ -95,7 +95,7 @@ impl<A: Acts + Drop> Acts for Recorder<A> {
         ensures marked { A.marked self.new.acts ≡ A.marked self.old.acts }
         ensures whole { IsText (A.marked self.new.acts) }
         ensures keeper { A.keeper self.new.acts ≡ A.keeper self.old.acts }
-        ensures logged { self.new.history.entries ≡ self.old.history.entries }
+        ensures logged { self.new.log.entries ≡ self.old.log.entries }
         ensures none_handed_on { A.logged self.new.acts ≡ A.logged self.old.acts }
         ensures stays { (self.new.full ≡ self.old.full) × (self.new.entries ≡ self.old.entries) }
     {
@@ -114,7 +114,7 @@ impl<A: Acts + Drop> Acts for Recorder<A> {
         ensures made { A.made self.new.acts ≡ A.made self.old.acts }
         ensures whole { IsText (A.marked self.new.acts) }
         ensures keeper { A.keeper self.new.acts ≡ A.keeper self.old.acts }
-        ensures logged { Logs self.old.history.entries self.new.history.entries (Entry.Did (Act.Put at byte) ∷ []) }
+        ensures logged { Logs self.old.log.entries self.new.log.entries (Entry.Did (Act.Put at byte) ∷ []) }
         ensures handed_on { Logs (A.logged self.old.acts) (A.logged self.new.acts) (Entry.Did (Act.Put at byte) ∷ []) }
         ensures goes_on { (self.new.full ≡ false) ↔ ((self.old.full ≡ false)
             × (vec_len self.old.entries < vec_capacity self.old.entries)) }
@@ -124,7 +124,7 @@ impl<A: Acts + Drop> Acts for Recorder<A> {
     }
 
     fn serialize(&mut self)
-        ensures logged { Logs self.old.history.entries self.new.history.entries (Entry.Serialized ∷ []) }
+        ensures logged { Logs self.old.log.entries self.new.log.entries (Entry.Serialized ∷ []) }
         ensures goes_on { (self.new.full ≡ false) ↔ ((self.old.full ≡ false)
             × (vec_len self.old.entries < vec_capacity self.old.entries)) }
         ensures marked { A.marked self.new.acts ≡ A.marked self.old.acts }
@@ -147,7 +147,7 @@ impl<A: Acts + Drop> Acts for Recorder<A> {
         ensures made { A.made self.new.acts ≡ A.made self.old.acts }
         ensures whole { IsText (A.marked self.new.acts) }
         ensures keeper { A.keeper self.new.acts ≡ A.keeper self.old.acts }
-        ensures logged { Logs self.old.history.entries self.new.history.entries (Entry.Did (Act.MarkSpan at (length marks.now)) ∷ []) }
+        ensures logged { Logs self.old.log.entries self.new.log.entries (Entry.Did (Act.MarkSpan at (length marks.now)) ∷ []) }
         ensures handed_on { Logs (A.logged self.old.acts) (A.logged self.new.acts) (Entry.Did (Act.MarkSpan at (length marks.now)) ∷ []) }
         ensures goes_on { (self.new.full ≡ false) ↔ ((self.old.full ≡ false)
             × (vec_len self.old.entries < vec_capacity self.old.entries)) }
@@ -164,7 +164,7 @@ impl<A: Acts + Drop> Acts for Recorder<A> {
         ensures made { A.made self.new.acts ≡ A.made self.old.acts }
         ensures whole { IsText (A.marked self.new.acts) }
         ensures keeper { A.keeper self.new.acts ≡ A.keeper self.old.acts }
-        ensures logged { Logs self.old.history.entries self.new.history.entries (Entry.Did (Act.UnmarkSpan at len) ∷ []) }
+        ensures logged { Logs self.old.log.entries self.new.log.entries (Entry.Did (Act.UnmarkSpan at len) ∷ []) }
         ensures handed_on { Logs (A.logged self.old.acts) (A.logged self.new.acts) (Entry.Did (Act.UnmarkSpan at len) ∷ []) }
         ensures goes_on { (self.new.full ≡ false) ↔ ((self.old.full ≡ false)
             × (vec_len self.old.entries < vec_capacity self.old.entries)) }
@@ -193,7 +193,7 @@ impl<A: Acts + Drop> Acts for Recorder<A> {
         ensures room { IsOk result ↔ ((A.keeper self.old.acts).numbers.generation < 2 ^ 62) }
         ensures stamp { IfOk result (λ n. n ≡ (A.keeper self.old.acts).numbers.generation + 1) }
         ensures raised { OnOk result (HasRaised (A.keeper self.old.acts) (A.keeper self.new.acts)) }
-        ensures logged { OnOk result (Logs self.old.history.entries self.new.history.entries (Entry.Did Act.Bump ∷ [])) }
+        ensures logged { OnOk result (Logs self.old.log.entries self.new.log.entries (Entry.Did Act.Bump ∷ [])) }
         ensures handed_on { OnOk result (Logs (A.logged self.old.acts) (A.logged self.new.acts) (Entry.Did Act.Bump ∷ [])) }
         ensures goes_on { OnOk result ((self.new.full ≡ false) ↔ ((self.old.full ≡ false)
             × (vec_len self.old.entries < vec_capacity self.old.entries))) }
@@ -202,7 +202,7 @@ impl<A: Acts + Drop> Acts for Recorder<A> {
         ensures full { OnErr result (((A.keeper self.old.acts).numbers.generation ≡ 2 ^ 62)
             × (A.keeper self.new.acts ≡ A.keeper self.old.acts)) }
         ensures unlogged { OnErr result ((self.new.full ≡ self.old.full)
-            × (self.new.entries.items ≡ self.old.entries.items) × (self.new.history.entries ≡ self.old.history.entries)) }
+            × (self.new.entries.items ≡ self.old.entries.items) × (self.new.log.entries ≡ self.old.log.entries)) }
         ensures none_handed_on { OnErr result (A.logged self.new.acts ≡ A.logged self.old.acts) }
     {
         let answer = self.acts.bump();
@@ -217,7 +217,7 @@ impl<A: Acts + Drop> Acts for Recorder<A> {
         ensures least { result ≡ least_number (A.keeper self.new.acts).numbers }
         ensures marked { A.marked self.new.acts ≡ A.marked self.old.acts }
         ensures made { A.made self.new.acts ≡ A.made self.old.acts }
-        ensures logged { Logs self.old.history.entries self.new.history.entries (Entry.Did Act.Look ∷ []) }
+        ensures logged { Logs self.old.log.entries self.new.log.entries (Entry.Did Act.Look ∷ []) }
         ensures handed_on { Logs (A.logged self.old.acts) (A.logged self.new.acts) (Entry.Did Act.Look ∷ []) }
         ensures goes_on { (self.new.full ≡ false) ↔ ((self.old.full ≡ false)
             × (vec_len self.old.entries < vec_capacity self.old.entries)) }
@@ -232,7 +232,7 @@ impl<A: Acts + Drop> Acts for Recorder<A> {
         ensures met { HasMet pass.old (A.keeper self.old.acts) pass.new (A.keeper self.new.acts) }
         ensures marked { A.marked self.new.acts ≡ A.marked self.old.acts }
         ensures made { A.made self.new.acts ≡ A.made self.old.acts }
-        ensures logged { self.new.history.entries ≡ self.old.history.entries }
+        ensures logged { self.new.log.entries ≡ self.old.log.entries }
         ensures none_handed_on { A.logged self.new.acts ≡ A.logged self.old.acts }
         ensures stays { (self.new.full ≡ self.old.full) × (self.new.entries ≡ self.old.entries) }
     {

@@ -10,7 +10,7 @@
 //! What an implementation of `Acts` has to know:
 //!
 //! - `logged` is a ghost list of all acts and serializations. Over a `Plain` it is that of the `Plain`, as here. Without a `Plain`, keep a
-//!   `History` as a private field, and note each act and each serialization in it. `Note::Creation` notes a `put_bundles`. `Note::Stops`
+//!   `Log` as a private field, and note each act and each serialization in it. `Note::Creation` notes a `put_bundles`. `Note::Stops`
 //!   notes a `stop_span`, by the marks of a `Text`; without one, note each entry by itself.
 //! - `serialize` is called where a barrier belongs, `ready` before the first put into a span, `bump` after the last stop of a deletion.
 //! - `marked_places`, which patches call for each instruction, asks for each mark of the bundle unless you forward it.

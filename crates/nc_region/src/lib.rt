@@ -59,7 +59,7 @@ mod walk;
 
 pub use fault::{CreateFault, DeleteFault, ModifyFault, RegionFault, WalkFault};
 pub use law::{law_of_chunks, law_of_logs, law_of_progress, law_of_schedules};
-pub use nc_acts::{Act, Acts, Entry, GensRef, History, Note, Plain, PlainOf, Recorder};
+pub use nc_acts::{Act, Acts, Entry, GensRef, Log, Note, Plain, PlainOf, Recorder};
 /// In a region a chunk's span is whole bundles. The code of a live chunk is in the text. The bytes of a retired one are stops. Its
 /// span waits for threads that may still be between its bundle starts. Its stamp is the generation with which it was retired.
 pub use nc_list::{Chunk, ChunkState};

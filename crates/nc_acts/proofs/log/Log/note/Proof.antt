@@ -16,13 +16,13 @@ use denote.Ref.{MutRef, ShrRef, mut_vals, mut_Tells, shr_vals, shr_Tells}
 use denote.Signature.{plain, named_lft}
 use denote.Steps.{nothing, opens, closes}
 use denote.Triple.Walked.{says, Stays, walk_of, stay_ref, stay_dropped, Goes-ref, Goes-dropped, ends_at}
-use Rattle.nc_acts.specs.declared.history.History.{History}
+use Rattle.nc_acts.specs.declared.log.Log.{Log}
 use Rattle.nc_acts.specs.Noted.{noted}
-use Rattle.nc_acts.specs.contracts.history.History as T
-use Rattle.nc_acts.specs.contracts.history.Note as N
-use Rattle.nc_acts.specs.contracts.history.History.note as f
-use Rattle.nc_acts.proofs.history.History.note.Statement.{statement}
-use Rattle.nc_acts.proofs.history.History.note.Code as code
+use Rattle.nc_acts.specs.contracts.log.Log as T
+use Rattle.nc_acts.specs.contracts.log.Note as N
+use Rattle.nc_acts.specs.contracts.log.Log.note as f
+use Rattle.nc_acts.proofs.log.Log.note.Statement.{statement}
+use Rattle.nc_acts.proofs.log.Log.note.Code as code
 
 abbrev stayed : Stays f.ended.signature.params f.ended.kept
 stayed = (stay_ref (0 ∷ []) tt (plain (λ _. T.the_row)), (stay_dropped _ yes, tt))
@@ -37,7 +37,7 @@ note_spec 𝓤 𝓛 𝓜 𝓡 wired =
     f.Key.name code.function (code.unfolded 𝓤 𝓛.H 𝓜 𝓡 wired)
     (λ κs. (mut_vals, (shr_vals, tt))) (λ κs. (mut_Tells (named 0) κs.0 T.the_row, (shr_Tells (named 1) κs.1.0 (N.the_row (named_lft 3 2 tt κs)), tt))) (λ κs qs bounds a _ are.
     let b = a.0.ref_ptr.0 in let o = a.0.ref_ptr.1 in let h = a.0.now in let vs = mut_vals a.0 in let us = shr_vals a.1.0 in
-    let h' : History = record { entries = h.entries ++ noted a.1.0.now } in
+    let h' : Log = record { entries = h.entries ++ noted a.1.0.now } in
     let rest_alive = ‵ (flft κs.1.0 qs.1.0) ⊛ (‵ (flft κs.1.1.0 qs.1.1.0) ⊛ ‵ ftrue) in
     let rest_owned = owns (ShrRef (named 1) κs.1.0 (N.the_row (named_lft 3 2 tt κs)) ∷ []) a.1 (us, tt) in
     let y : W.Ghost = ((κs, qs, bounds, a, (vs, (us, tt))), tt) in

@@ -1,6 +1,6 @@
--- A history owns nothing, so threads may share it.
+-- A log owns nothing, so threads may share it.
 use denote.Param.Send.{IsSync, owning_send, part_keyless}
-use Rattle.nc_acts.specs.contracts.history.History.{the_row, the_type}
+use Rattle.nc_acts.specs.contracts.log.Log.{the_row, the_type}
 
 pub sync : IsSync the_row
 sync = record { shared = λ d b o κ q. part_keyless the_row (owning_send the_type tt (λ d. tt) (λ k x w. tt)) q d b o }

@@ -10,16 +10,16 @@ use denote.Shadow.{pure_i}
 use denote.Steps.{nothing}
 use denote.Triple.Entry.{on_entry}
 use denote.Triple.Walked.{says, ends_at}
-use Rattle.nc_acts.specs.declared.history.History.{History}
-use Rattle.nc_acts.specs.contracts.history.History as T
-use Rattle.nc_acts.specs.contracts.history.History.new as f
-use Rattle.nc_acts.proofs.history.History.new.Statement.{statement}
-use Rattle.nc_acts.proofs.history.History.new.Code as code
+use Rattle.nc_acts.specs.declared.log.Log.{Log}
+use Rattle.nc_acts.specs.contracts.log.Log as T
+use Rattle.nc_acts.specs.contracts.log.Log.new as f
+use Rattle.nc_acts.proofs.log.Log.new.Statement.{statement}
+use Rattle.nc_acts.proofs.log.Log.new.Code as code
 
 abbrev none : Val
 none = vstruct vnil
 
-abbrev empty : History
+abbrev empty : Log
 empty = record { entries = [] }
 
 pub new_spec : {M : Type 1} → statement M

@@ -10,22 +10,22 @@ use std::marker::Model;
 
 /// The entries of a log. A value has no bytes, and its methods do nothing when they run.
 ///
-/// By itself a history says nothing about a text, since its holder notes what it likes. An `Acts` has one as a private field, and
+/// By itself a log says nothing about a text, since its holder notes what it likes. An `Acts` has one as a private field, and
 /// the contract of each of its methods says both what the method does and what it notes.
 #[derive(Drop)]
-pub struct History {
+pub struct Log {
     pub ghost entries: { List Entry },
 }
 
-impl Model for History {
+impl Model for Log {
     ghost also_owns = { λ _. ftrue };
 }
 
-// A history owns nothing.
-unsafe impl Send for History {}
+// A log owns nothing.
+unsafe impl Send for Log {}
 
-// A history owns nothing.
-unsafe impl Sync for History {}
+// A log owns nothing.
+unsafe impl Sync for Log {}
 
 /// Entries that are noted at once.
 #[derive(Clone, Copy, Drop)]
@@ -38,14 +38,14 @@ pub enum Note<'a> {
     Stops(u32, u32, &'a Text),
 }
 
-impl History {
+impl Log {
     ghost use Rattle.nc_acts.specs.Noted.{noted};
 
-    /// A history without an entry.
-    pub fn new() -> History
+    /// A log without an entry.
+    pub fn new() -> Log
         ensures { result.entries ≡ [] }
     {
-        History {}
+        Log {}
     }
 
     /// Appends these entries.
