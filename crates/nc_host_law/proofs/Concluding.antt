@@ -143,16 +143,17 @@ call_goes limit seats before since pending from region stays some threads own fo
     (goes_on limit seats before (since ++ pending) from region stays.led is (own ∙ same) threads)
 
 -- a deletion, once its stamp is drawn
-deletion_led : (limit seats : ℕ) (before since called pending : List Event) (from : Region) (c : Chunk)
+deletion_led : (limit seats : ℕ) (before since announced pending : List Event) (from : Region) (c : Chunk)
     (live : IsLiveAt from.chunks c.base c) → Stays limit seats before from → ThreadsMay (world_after (first_world limit seats) before) since
     → All IsWriters pending → from.keeper.numbers.generation < 4611686018427387904
-    → called ++ Retires c.base c.length ∷ [] ≡ delete_events from.marked.marks c.base c.length → Attempting called (writers since) pending
+    → announced ++ Retires c.base c.length ∷ [] ≡ delete_events from.marked.marks c.base c.length
+    → Attempting announced (writers since) pending
     → Grows limit seats before (since ++ (pending ++ Retires c.base c.length ∷ [])) (deleted_region from live.0.0 c)
-deletion_led limit seats before since called pending from c live stays threads plain room ends a =
+deletion_led limit seats before since announced pending from c live stays threads plain room ends a =
     let all : All IsWriters (pending ++ Retires c.base c.length ∷ []) =
     All-append IsWriters pending (Retires c.base c.length ∷ []) plain (one_writers (Retires c.base c.length) refl) in
     deleted limit seats before (since ++ (pending ++ Retires c.base c.length ∷ [])) from (deleted_region from live.0.0 c) c.base
-    (from.keeper.numbers.generation + 1) called a.made stays.led stays.region (deleted_there from c live room) ends a.tried
+    (from.keeper.numbers.generation + 1) announced a.made stays.led stays.region (deleted_there from c live room) ends a.tried
     (writers_own since (pending ++ Retires c.base c.length ∷ []) all
     ∙ (ap (λ (z : List Event). z ++ (pending ++ Retires c.base c.length ∷ [])) a.own_is
     ∙ (append_assoc a.made a.last (pending ++ Retires c.base c.length ∷ [])
@@ -185,7 +186,7 @@ knows_then limit seats host l called pages call none =
 goes : (limit seats : ℕ) (host : Host) (l : Led limit seats host) → Goes (first_world limit seats) (l.before ++ l.since) host.pending
 goes limit seats host l = go l.phase
   where
-    go : Phase seats l.from (writers l.since) host.handle.begun host.handle.region host.called host.pending
+    go : Phase seats l.from (writers l.since) host.handle.begun host.handle.region host.announced host.pending
         → Goes (first_world limit seats) (l.before ++ l.since) host.pending
     go (Calling called idle pages call again) =
         call_goes limit seats l.before l.since host.pending l.from called l.stays l.threads
@@ -195,7 +196,7 @@ goes limit seats host l = go l.phase
         (knows_then limit seats host l called pages call)
         call
     go (Deleting c is at live room ends a) =
-        let g = deletion_led limit seats l.before l.since host.called host.pending l.from c live l.stays l.threads l.plain room ends a in
+        let g = deletion_led limit seats l.before l.since host.announced host.pending l.from c live l.stays l.threads l.plain room ends a in
         let parts : l.before ++ (l.since ++ (host.pending ++ Retires c.base c.length ∷ [])) ≡
         ((l.before ++ l.since) ++ host.pending) ++ Retires c.base c.length ∷ [] =
         sym (append_assoc l.before l.since (host.pending ++ Retires c.base c.length ∷ []))
@@ -320,13 +321,13 @@ stopped_there : (limit seats : ℕ) (host : Host) (c : Chunk) → Led limit seat
     → host.world.marked ≡ stops_in host.handle.region.marked c
 stopped_there limit seats host c l none begun = go l.phase
   where
-    go : Phase seats l.from (writers l.since) host.handle.begun host.handle.region host.called host.pending
+    go : Phase seats l.from (writers l.since) host.handle.begun host.handle.region host.announced host.pending
         → host.world.marked ≡ stops_in host.handle.region.marked c
     go (Calling called idle pages call again) = absurd (let bad : None ≡ Some c = sym idle ∙ begun in cc)
     go (Deleting d is at live room ends a) =
         let here : Some d ≡ Some c = sym is ∙ begun in
         let same : d ≡ c = cc in
-        let h = (deletion_led limit seats l.before l.since host.called host.pending l.from d live l.stays l.threads l.plain room ends
+        let h = (deletion_led limit seats l.before l.since host.announced host.pending l.from d live l.stays l.threads l.plain room ends
         a).led in
         let stamped : world_after (first_world limit seats) (l.before ++ (l.since ++ (host.pending ++ Retires d.base d.length ∷ [])))
         ≡ world_after host.world (Retires d.base d.length ∷ []) =
@@ -362,7 +363,7 @@ call_region seats old new own region (Keeps is same) =
 region_there : (limit seats : ℕ) (host : Host) → Led limit seats host → IsRegion host.handle.region.marked host.handle.region.chunks
 region_there limit seats host l = go l.phase
   where
-    go : Phase seats l.from (writers l.since) host.handle.begun host.handle.region host.called host.pending
+    go : Phase seats l.from (writers l.since) host.handle.begun host.handle.region host.announced host.pending
         → IsRegion host.handle.region.marked host.handle.region.chunks
     go (Calling called idle pages call again) =
         same_region called host.handle.region (ap (λ (r : Region). r.marked) pages) (ap (λ (r : Region). r.chunks) pages)

@@ -13,9 +13,9 @@ use Rattle.nc_histories.specs.Calls.{create_events, patch_events, delete_events}
 use Rattle.nc_histories.specs.Histories.{NoneYet, Creates, Patches}
 use Rattle.nc_host_handles.specs.RegionHandle.{RegionHandleState, HasLoaded, HasPatched, HasBegunDeletion, HasEndedDeletion, HasReclaimed, meetings}
 use Rattle.nc_host_handles.specs.Pending.{IsHandleCall, ChangesPages, Changes, Begins, Ends}
-use Rattle.nc_host_law.specs.Hosts.{Host, host_after, Runs, Makes, Restarts, Calls, Asks, IsHosts, IsInOrder, IsReached, Then}
-use Rattle.nc_host_law.proofs.Making.{rest_hosts, hosts_look_not}
-use Rattle.nc_host_law.proofs.Reaching.{pending_hosts, deletion_called, led}
+use Rattle.nc_host_law.specs.Hosts.{Host, host_after, Runs, Makes, Restarts, Calls, Asks, IsMadeByHost, IsInOrder, IsReached, Then}
+use Rattle.nc_host_law.proofs.Making.{rest_by_host, by_host_look_not}
+use Rattle.nc_host_law.proofs.Reaching.{pending_by_host, deletion_announced, led}
 
 -- a step is in order where no look is pending
 none_looks : (old new : Host) → All IsNoLook old.pending → IsInOrder old new
@@ -38,15 +38,15 @@ makes_next bundles seats host event later reached is either =
 
 -- a call leads to a host that is reached
 pub calls : (bundles seats : ℕ) (host : Host) (new : RegionHandleState) (own : List Event) → IsReached bundles seats host → host.pending ≡ []
-    → IsHandleCall seats host.handle new own → IsReached bundles seats (record host { handle = new; pending = own; called = own })
+    → IsHandleCall seats host.handle new own → IsReached bundles seats (record host { handle = new; pending = own; announced = own })
 calls bundles seats host new own reached none call =
-    Then reached (Calls none call refl) (none_looks host (record host { handle = new; pending = own; called = own })
+    Then reached (Calls none call refl) (none_looks host (record host { handle = new; pending = own; announced = own })
     (subst (All IsNoLook) (sym none) (All-nil IsNoLook)))
 
 -- a creation leads to a host that is reached
 pub loads : (bundles seats : ℕ) (host : Host) (new : RegionHandleState) (v : MarkedChunk) → IsReached bundles seats host → host.pending ≡ []
     → IsValid v → HasLoaded v host.handle new
-    → IsReached bundles seats (record host { handle = new; pending = create_events v; called = create_events v })
+    → IsReached bundles seats (record host { handle = new; pending = create_events v; announced = create_events v })
 loads bundles seats host new v reached none valid loaded =
     calls bundles seats host new (create_events v) reached none
     (Changes loaded.0 (ap (λ (h : RegionHandleState). h.begun) loaded.4 ∙ loaded.0) (Creates v valid loaded.1 loaded.3 [] NoneYet refl))
@@ -57,7 +57,7 @@ pub patches : (bundles seats : ℕ) (host : Host) (new : RegionHandleState) (at 
     → IsReached bundles seats (record host {
       handle = new;
       pending = patch_events host.handle.region.marked.bytes at news;
-      called = patch_events host.handle.region.marked.bytes at news;
+      announced = patch_events host.handle.region.marked.bytes at news;
     })
 patches bundles seats host new at bytes news reached none b patched =
     calls bundles seats host new (patch_events host.handle.region.marked.bytes at news) reached none
@@ -68,15 +68,15 @@ patches bundles seats host new at bytes news reached none b patched =
 pub begins : (bundles seats : ℕ) (host : Host) (new : RegionHandleState) (c : Chunk) (stops : List Event) → IsReached bundles seats host
     → host.pending ≡ [] → HasBegunDeletion host.handle new c.base c
     → stops ++ Retires c.base c.length ∷ [] ≡ delete_events host.handle.region.marked.marks c.base c.length
-    → IsReached bundles seats (record host { handle = new; pending = stops; called = stops })
+    → IsReached bundles seats (record host { handle = new; pending = stops; announced = stops })
 begins bundles seats host new c stops reached none begun own = calls bundles seats host new stops reached none (Begins c begun own)
 
 -- the events of the last call can be made again
-pub again : (bundles seats : ℕ) (host : Host) → IsReached bundles seats host → All IsHosts host.called
-    → IsReached bundles seats (record host { pending = host.called })
-again bundles seats host reached hosts =
-    Then reached (Restarts hosts refl) (none_looks host (record host { pending = host.called })
-    (hosts_look_not host.pending (pending_hosts (65536 + 32 * bundles) seats host (led bundles seats host reached) hosts)))
+pub again : (bundles seats : ℕ) (host : Host) → IsReached bundles seats host → All IsMadeByHost host.announced
+    → IsReached bundles seats (record host { pending = host.announced })
+again bundles seats host reached by_host =
+    Then reached (Restarts by_host refl) (none_looks host (record host { pending = host.announced })
+    (by_host_look_not host.pending (pending_by_host (65536 + 32 * bundles) seats host (led bundles seats host reached) by_host)))
 
 -- the events of a deletion that has begun can be made anew
 pub restarts : (bundles seats : ℕ) (host : Host) (c : Chunk) (stops : List Event) → IsReached bundles seats host
@@ -84,10 +84,10 @@ pub restarts : (bundles seats : ℕ) (host : Host) (c : Chunk) (stops : List Eve
     → stops ++ Retires c.base c.length ∷ [] ≡ delete_events host.handle.region.marked.marks c.base c.length
     → IsReached bundles seats (record host { pending = stops })
 restarts bundles seats host c stops reached begun own =
-    let ends = deletion_called (65536 + 32 * bundles) seats host c (led bundles seats host reached) begun in
-    let same : host.called ≡ stops = append_cancel_right host.called stops (Retires c.base c.length ∷ []) (ends ∙ sym own) in
+    let ends = deletion_announced (65536 + 32 * bundles) seats host c (led bundles seats host reached) begun in
+    let same : host.announced ≡ stops = append_cancel_right host.announced stops (Retires c.base c.length ∷ []) (ends ∙ sym own) in
     subst (λ (z : List Event). IsReached bundles seats (record host { pending = z })) same
-    (again bundles seats host reached (rest_hosts host.handle.region.marked.marks c.base c.length [] host.called ends))
+    (again bundles seats host reached (rest_by_host host.handle.region.marked.marks c.base c.length [] host.announced ends))
 
 -- what a call left to be made when the deletion began can be made anew, whatever seats were given since
 pub anew : (bundles seats : ℕ) (host : Host) (old new : RegionHandleState) (c : Chunk) (stops : List Event) → IsReached bundles seats host
@@ -111,7 +111,7 @@ pub ends : (bundles seats : ℕ) (host : Host) (new : RegionHandleState) (stamp 
     → IsReached bundles seats (record host {
       handle = new;
       pending = Retires is.chunk.base is.chunk.length ∷ [];
-      called = Retires is.chunk.base is.chunk.length ∷ [];
+      announced = Retires is.chunk.base is.chunk.length ∷ [];
     })
 ends bundles seats host new stamp is reached none =
     calls bundles seats host new (Retires is.chunk.base is.chunk.length ∷ []) reached none (Ends stamp is refl)
@@ -140,7 +140,7 @@ pub reclaims : (bundles seats : ℕ) (host : Host) (new : RegionHandleState) (co
     → IsReached bundles seats (record host {
       handle = record host.handle { region = is.met };
       pending = meetings host.handle.passes;
-      called = meetings host.handle.passes;
+      announced = meetings host.handle.passes;
     })
 reclaims bundles seats host new count is reached none =
     calls bundles seats host (record host.handle { region = is.met }) (meetings host.handle.passes) reached none

@@ -78,21 +78,21 @@ goes_through bundles first v creation at is life =
       world = world_after start creation.events;
       steps = word_steps creation.events;
       pending = [];
-      called = writers creation.events;
+      announced = writers creation.events;
     } in
     let deleted : Host = record {
       handle = record first { region = deletion.region };
       world = world_after (world_after start creation.events) deletion.events;
       steps = word_steps creation.events ++ word_steps deletion.events;
       pending = [];
-      called = writers deletion.events;
+      announced = writers deletion.events;
     } in
     let last : Host = record {
       handle = record first { region = reclaim.region };
       world = world_after (world_after (world_after start creation.events) deletion.events) (Exits 0 ∷ Takes 0 ∷ Stores 0 ∷ Looks 0 ∷ []);
       steps = (word_steps creation.events ++ word_steps deletion.events) ++ word_steps (Exits 0 ∷ Takes 0 ∷ Stores 0 ∷ Looks 0 ∷ []);
       pending = Frees (span_of v) ∷ [];
-      called = writers reclaim.events;
+      announced = writers reclaim.events;
     } in
     let creates : GoesOn bundles 1 (new_host bundles 1 first) created =
     turns bundles 1 (new_host bundles 1 first) [] creation.events [] creation (First is refl refl refl refl) refl is.begun refl refl one

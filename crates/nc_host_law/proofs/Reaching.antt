@@ -23,34 +23,34 @@ use Rattle.nc_histories.proofs.Offered.{begins_unused}
 use Rattle.nc_acts.specs.Log.{log_of_delete}
 use Rattle.nc_host_handles.specs.RegionHandle.{RegionHandleState, IsLiveAt, IsFirst, HasEndedDeletion}
 use Rattle.nc_host_handles.specs.Pending.{IsHandleCall, Changes, Begins, Ends}
-use Rattle.nc_host_law.specs.Hosts.{Host, host_after, IsHostStep, Runs, Makes, Restarts, Calls, Asks, IsHosts, IsInOrder, IsReached, First, Then}
+use Rattle.nc_host_law.specs.Hosts.{Host, host_after, IsHostStep, Runs, Makes, Restarts, Calls, Asks, IsMadeByHost, IsInOrder, IsReached, First, Then}
 use Rattle.nc_histories.proofs.Offered.{Stays, same_region, goes_on, call_stays}
 use Rattle.nc_histories.proofs.Offered.{whole_serialized, KnowsSteps, knows_first, looks_or_not, steps_append}
-use Rattle.nc_host_law.proofs.Making.{rest_hosts, hosts_look_not}
+use Rattle.nc_host_law.proofs.Making.{rest_by_host, by_host_look_not}
 use Rattle.nc_host_law.proofs.Again.{call_again}
 use Rattle.nc_host_law.proofs.Interleaving.{IsWriters, all_front, one_writers, writers_thread, writers_own, threads_append, threads_none}
 use Rattle.nc_host_law.proofs.Looked.{all_back}
 use Rattle.nc_host_law.proofs.Interleaving.{log_writers, call_writers}
 
 -- The events so far are attempts at those of the last call, and the last attempt so far, whose rest is pending.
-pub record Attempting (called own pending : List Event) : Type 0 where
+pub record Attempting (announced own pending : List Event) : Type 0 where
   pub made : List Event
   pub last : List Event
-  pub tried : AreAttempts called made
+  pub tried : AreAttempts announced made
   pub own_is : own ≡ made ++ last
-  pub last_is : last ++ pending ≡ called
+  pub last_is : last ++ pending ≡ announced
 
 -- The events that there are before a call of a region ends are those of that call so far, whose rest is pending. If a host makes all of
 -- its events, they are attempts. Or they are attempts at a deletion before its stamp.
-pub data Phase (seats : ℕ) (from : Region) (own : List Event) (begun : Option Chunk) (region : Region) (called pending : List Event)
+pub data Phase (seats : ℕ) (from : Region) (own : List Event) (begun : Option Chunk) (region : Region) (announced pending : List Event)
     : Type 0 where
   Calling : (whole : Region) → begun ≡ None → region ≡ record whole { made = region.made } → IsCall seats from whole (own ++ pending)
-      → (All IsHosts called → IsCall seats from whole called × Attempting called own pending)
-      → Phase seats from own begun region called pending
+      → (All IsMadeByHost announced → IsCall seats from whole announced × Attempting announced own pending)
+      → Phase seats from own begun region announced pending
   Deleting : (c : Chunk) → begun ≡ Some c → region ≡ from → IsLiveAt from.chunks c.base c
       → from.keeper.numbers.generation < 4611686018427387904
-      → called ++ Retires c.base c.length ∷ [] ≡ delete_events from.marked.marks c.base c.length → Attempting called own pending
-      → Phase seats from own begun region called pending
+      → announced ++ Retires c.base c.length ∷ [] ≡ delete_events from.marked.marks c.base c.length → Attempting announced own pending
+      → Phase seats from own begun region announced pending
 
 -- the events before the last call began, and since then
 pub record Led (limit seats : ℕ) (host : Host) : Type 0 where
@@ -63,7 +63,7 @@ pub record Led (limit seats : ℕ) (host : Host) : Type 0 where
   pub plain : All IsWriters host.pending
   pub steps : host.steps ≡ word_steps (before ++ since)
   pub order : ¬ All IsNoLook (writers since) → All IsNoLook host.pending → BeginsWith host.steps host.handle.region.keeper.trail
-  pub phase : Phase seats from (writers since) host.handle.begun host.handle.region host.called host.pending
+  pub phase : Phase seats from (writers since) host.handle.begun host.handle.region host.announced host.pending
 
 -- the world after one more event is that after all events
 led_after : (limit seats : ℕ) (before since : List Event) (w : World) (event : Event)
@@ -93,9 +93,9 @@ begins_longer all more known b =
     (b.0 ++ more, ap (λ (l : List WordStep). l ++ more) b.1 ∙ append_assoc known b.0 more)
 
 -- one event of an attempt is made
-attempting_made : (called own pending rest : List Event) (event : Event) → pending ≡ event ∷ rest → Attempting called own pending
-    → Attempting called (own ++ event ∷ []) rest
-attempting_made called own pending rest event is a =
+attempting_made : (announced own pending rest : List Event) (event : Event) → pending ≡ event ∷ rest → Attempting announced own pending
+    → Attempting announced (own ++ event ∷ []) rest
+attempting_made announced own pending rest event is a =
     record {
       made = a.made;
       last = a.last ++ event ∷ [];
@@ -105,8 +105,8 @@ attempting_made called own pending rest event is a =
     }
 
 -- one more attempt begins
-attempting_anew : (called own pending : List Event) → Attempting called own pending → Attempting called own called
-attempting_anew called own pending a =
+attempting_anew : (announced own pending : List Event) → Attempting announced own pending → Attempting announced own announced
+attempting_anew announced own pending a =
     record {
       made = a.made ++ a.last;
       last = [];
@@ -116,19 +116,19 @@ attempting_anew called own pending a =
     }
 
 -- the first attempt begins
-attempting_first : (called : List Event) → Attempting called [] called
-attempting_first called = record { made = []; last = []; tried = NoneYet; own_is = refl; last_is = refl }
+attempting_first : (announced : List Event) → Attempting announced [] announced
+attempting_first announced = record { made = []; last = []; tried = NoneYet; own_is = refl; last_is = refl }
 
 -- one event of a phase that was pending is made
 phase_made : (seats : ℕ) (from : Region) (own : List Event) (begun : Option Chunk) (region : Region) (event : Event)
-    (called pending rest : List Event) → pending ≡ event ∷ rest → Phase seats from own begun region called pending
-    → Phase seats from (own ++ event ∷ []) begun region called rest
-phase_made seats from own begun region event called pending rest is (Calling whole none pages call again) =
+    (announced pending rest : List Event) → pending ≡ event ∷ rest → Phase seats from own begun region announced pending
+    → Phase seats from (own ++ event ∷ []) begun region announced rest
+phase_made seats from own begun region event announced pending rest is (Calling whole none pages call again) =
     Calling whole none pages (subst (IsCall seats from whole)
     (ap (λ (z : List Event). own ++ z) is ∙ sym (append_assoc own (event ∷ []) rest)) call)
-    (λ hosts. ((again hosts).0, attempting_made called own pending rest event is (again hosts).1))
-phase_made seats from own begun region event called pending rest is (Deleting c at same live room ends a) =
-    Deleting c at same live room ends (attempting_made called own pending rest event is a)
+    (λ by_host. ((again by_host).0, attempting_made announced own pending rest event is (again by_host).1))
+phase_made seats from own begun region event announced pending rest is (Deleting c at same live room ends a) =
+    Deleting c at same live room ends (attempting_made announced own pending rest event is a)
 
 -- a host is led over a thread's event
 led_runs : (limit seats : ℕ) (old : Host) (event : Event) → Led limit seats old → is_writers event ≡ false → ThreadMay old.world event
@@ -146,7 +146,7 @@ led_runs limit seats old event l is may =
       steps = steps_after l.before l.since old.steps event l.steps;
       order = λ some none. begins_longer old.steps (word_step event) old.handle.region.keeper.trail
           (l.order (subst (λ (own : List Event). ¬ All IsNoLook own) (writers_thread l.since event is) some) none);
-      phase = subst (λ (own : List Event). Phase seats l.from own old.handle.begun old.handle.region old.called old.pending)
+      phase = subst (λ (own : List Event). Phase seats l.from own old.handle.begun old.handle.region old.announced old.pending)
           (sym (writers_thread l.since event is)) l.phase;
     }
 
@@ -183,35 +183,39 @@ led_makes limit seats old event rest l is order =
       steps = steps_after l.before l.since old.steps event l.steps;
       order = λ some none. order_made old event (writers l.since) rest is l.order order
           (subst (λ (z : List Event). ¬ All IsNoLook z) own some) none;
-      phase = subst (λ (own : List Event). Phase seats l.from own old.handle.begun old.handle.region old.called rest) (sym own)
-          (phase_made seats l.from (writers l.since) old.handle.begun old.handle.region event old.called old.pending rest is l.phase);
+      phase = subst (λ (own : List Event). Phase seats l.from own old.handle.begun old.handle.region old.announced rest) (sym own)
+          (phase_made seats l.from (writers l.since) old.handle.begun old.handle.region event old.announced old.pending rest is l.phase);
     }
 
 -- a host makes what is left of an attempt at events that it makes
-attempting_hosts : (called own pending : List Event) → Attempting called own pending → All IsHosts called → All IsHosts pending
-attempting_hosts called own pending a hosts = all_back IsHosts a.last pending (subst (All IsHosts) (sym a.last_is) hosts)
+attempting_by_host : (announced own pending : List Event) → Attempting announced own pending
+    → All IsMadeByHost announced → All IsMadeByHost pending
+attempting_by_host announced own pending a by_host = all_back IsMadeByHost a.last pending (subst (All IsMadeByHost) (sym a.last_is) by_host)
 
 -- where a host makes the events of the last call, it makes those pending
-pub pending_hosts : (limit seats : ℕ) (host : Host) → Led limit seats host → All IsHosts host.called → All IsHosts host.pending
-pending_hosts limit seats host l hosts = go l.phase
+pub pending_by_host : (limit seats : ℕ) (host : Host) → Led limit seats host
+    → All IsMadeByHost host.announced → All IsMadeByHost host.pending
+pending_by_host limit seats host l by_host = go l.phase
   where
-    go : Phase seats l.from (writers l.since) host.handle.begun host.handle.region host.called host.pending → All IsHosts host.pending
-    go (Calling whole idle pages call again) = attempting_hosts host.called (writers l.since) host.pending (again hosts).1 hosts
-    go (Deleting c is at live room ends a) = attempting_hosts host.called (writers l.since) host.pending a hosts
+    go : Phase seats l.from (writers l.since) host.handle.begun host.handle.region host.announced host.pending
+        → All IsMadeByHost host.pending
+    go (Calling whole idle pages call again) = attempting_by_host host.announced (writers l.since) host.pending (again by_host).1 by_host
+    go (Deleting c is at live room ends a) = attempting_by_host host.announced (writers l.since) host.pending a by_host
 
 -- while a deletion is under way, the last call's events are those up to its stamp
-pub deletion_called : (limit seats : ℕ) (host : Host) (c : Chunk) → Led limit seats host → host.handle.begun ≡ Some c
-    → host.called ++ Retires c.base c.length ∷ [] ≡ delete_events host.handle.region.marked.marks c.base c.length
-deletion_called limit seats host c l begun = go l.phase
+pub deletion_announced : (limit seats : ℕ) (host : Host) (c : Chunk) → Led limit seats host → host.handle.begun ≡ Some c
+    → host.announced ++ Retires c.base c.length ∷ [] ≡ delete_events host.handle.region.marked.marks c.base c.length
+deletion_announced limit seats host c l begun = go l.phase
   where
-    go : Phase seats l.from (writers l.since) host.handle.begun host.handle.region host.called host.pending
-        → host.called ++ Retires c.base c.length ∷ [] ≡ delete_events host.handle.region.marked.marks c.base c.length
+    go : Phase seats l.from (writers l.since) host.handle.begun host.handle.region host.announced host.pending
+        → host.announced ++ Retires c.base c.length ∷ [] ≡ delete_events host.handle.region.marked.marks c.base c.length
     go (Calling whole idle pages call again) = absurd (let bad : None ≡ Some c = sym idle ∙ begun in cc)
     go (Deleting d is at live room ends a) =
         let here : Some d ≡ Some c = sym is ∙ begun in
         let same : d ≡ c = cc in
-        subst (λ (r : Region). host.called ++ Retires c.base c.length ∷ [] ≡ delete_events r.marked.marks c.base c.length) (sym at)
-        (subst (λ (e : Chunk). host.called ++ Retires e.base e.length ∷ [] ≡ delete_events l.from.marked.marks e.base e.length) same ends)
+        subst (λ (r : Region). host.announced ++ Retires c.base c.length ∷ [] ≡ delete_events r.marked.marks c.base c.length) (sym at)
+        (subst (λ (e : Chunk). host.announced ++ Retires e.base e.length ∷ [] ≡ delete_events l.from.marked.marks e.base e.length)
+        same ends)
 
 -- pages that were made are no part of a world
 pages_stay : (limit seats : ℕ) (before : List Event) (old new : Region) → Stays limit seats before old
@@ -231,7 +235,7 @@ pub finished : (limit seats : ℕ) (host : Host) (l : Led limit seats host) → 
 finished limit seats host l none idle =
     go l.phase
   where
-    go : Phase seats l.from (writers l.since) host.handle.begun host.handle.region host.called host.pending
+    go : Phase seats l.from (writers l.since) host.handle.begun host.handle.region host.announced host.pending
         → Stays limit seats (l.before ++ l.since) host.handle.region
     go (Calling called idle pages call again) =
         let own : writers l.since ++ host.pending ≡ writers l.since =
@@ -247,7 +251,7 @@ finished limit seats host l none idle =
 -- a call that begins where the last one has ended
 led_anew : (limit seats : ℕ) (old new : Host) (l : Led limit seats old) → old.pending ≡ [] → old.handle.begun ≡ None
     → new.world ≡ old.world → new.steps ≡ old.steps → All IsWriters new.pending
-    → Phase seats old.handle.region [] new.handle.begun new.handle.region new.called new.pending → Led limit seats new
+    → Phase seats old.handle.region [] new.handle.begun new.handle.region new.announced new.pending → Led limit seats new
 led_anew limit seats old new l none idle same still plain phase =
     record {
       before = l.before ++ l.since;
@@ -271,49 +275,49 @@ stops_plain pending r c own =
     (log_writers (record no_details { base = c.base; len = c.length }) (log_of_delete r.marked.marks c.base c.length)))
 
 -- a deletion with its stamp, after attempts at it
-deletes : (seats : ℕ) (from region : Region) (own : List Event) (base stamp : ℕ) (c : Chunk) (called made last : List Event) (r : Region)
+deletes : (seats : ℕ) (from region : Region) (own : List Event) (base stamp : ℕ) (c : Chunk) (announced made last : List Event) (r : Region)
     → r ≡ from → (d : IsDeleted r region base stamp) → d.chunk ≡ c
-    → called ++ Retires base c.length ∷ [] ≡ delete_events from.marked.marks base c.length → AreAttempts called made → own ≡ made ++ last
-    → last ≡ called → IsCall seats from region (own ++ Retires base c.length ∷ [])
-deletes seats from region own base stamp c called made last r at d chunk ends tried own_is last_is =
-    let there : called ++ Retires base d.chunk.length ∷ [] ≡ delete_events r.marked.marks base d.chunk.length =
-    subst (λ (e : Chunk). called ++ Retires base e.length ∷ [] ≡ delete_events r.marked.marks base e.length) (sym chunk)
-    (subst (λ (q : Region). called ++ Retires base c.length ∷ [] ≡ delete_events q.marked.marks base c.length) (sym at) ends) in
+    → announced ++ Retires base c.length ∷ [] ≡ delete_events from.marked.marks base c.length → AreAttempts announced made
+    → own ≡ made ++ last → last ≡ announced → IsCall seats from region (own ++ Retires base c.length ∷ [])
+deletes seats from region own base stamp c announced made last r at d chunk ends tried own_is last_is =
+    let there : announced ++ Retires base d.chunk.length ∷ [] ≡ delete_events r.marked.marks base d.chunk.length =
+    subst (λ (e : Chunk). announced ++ Retires base e.length ∷ [] ≡ delete_events r.marked.marks base e.length) (sym chunk)
+    (subst (λ (q : Region). announced ++ Retires base c.length ∷ [] ≡ delete_events q.marked.marks base c.length) (sym at) ends) in
     subst (λ (q : Region). IsCall seats q region (own ++ Retires base c.length ∷ [])) at
-    (Deletes base stamp d called made there tried
+    (Deletes base stamp d announced made there tried
     (ap (λ (z : List Event). z ++ Retires base c.length ∷ []) own_is
     ∙ (append_assoc made last (Retires base c.length ∷ [])
     ∙ (ap (λ (z : List Event). made ++ (z ++ Retires base c.length ∷ [])) last_is
-    ∙ (ap (λ (e : Chunk). made ++ (called ++ Retires base e.length ∷ [])) (sym chunk)
+    ∙ (ap (λ (e : Chunk). made ++ (announced ++ Retires base e.length ∷ [])) (sym chunk)
     ∙ ap (λ (z : List Event). made ++ z) there)))))
 
 -- a stamp is none of the events that a host makes
-stamp_not : (base len : ℕ) (called : List Event) → called ≡ Retires base len ∷ [] → ¬ All IsHosts called
-stamp_not base len called is hosts = All-head IsHosts (Retires base len) [] (subst (All IsHosts) is hosts)
+stamp_not : (base len : ℕ) (announced : List Event) → announced ≡ Retires base len ∷ [] → ¬ All IsMadeByHost announced
+stamp_not base len announced is by_host = All-head IsMadeByHost (Retires base len) [] (subst (All IsMadeByHost) is by_host)
 
 -- the last call of a deletion
-phase_ended : (seats : ℕ) (from : Region) (own : List Event) (old new : RegionHandleState) (called pending then later : List Event)
+phase_ended : (seats : ℕ) (from : Region) (own : List Event) (old new : RegionHandleState) (announced pending then later : List Event)
     (stamp : ℕ) (is : HasEndedDeletion old new stamp) → pending ≡ [] → later ≡ Retires is.chunk.base is.chunk.length ∷ [] → then ≡ later
-    → Phase seats from own old.begun old.region called pending → Phase seats from own new.begun new.region then later
-phase_ended seats from own old new called pending then later stamp is none stamped same (Calling whole idle pages call again) =
+    → Phase seats from own old.begun old.region announced pending → Phase seats from own new.begun new.region then later
+phase_ended seats from own old new announced pending then later stamp is none stamped same (Calling whole idle pages call again) =
     absurd (let bad : None ≡ Some is.chunk = sym idle ∙ is.begun in cc)
-phase_ended seats from own old new called pending then later stamp is none stamped same (Deleting c begun at live room ends a) =
+phase_ended seats from own old new announced pending then later stamp is none stamped same (Deleting c begun at live room ends a) =
     let here : Some c ≡ Some is.chunk = sym begun ∙ is.begun in
     let one : c ≡ is.chunk = cc in
     Calling new.region (ap (λ (h : RegionHandleState). h.begun) is.others) refl
     (subst (λ (z : List Event). IsCall seats from new.region (own ++ z)) (sym stamped)
-    (deletes seats from new.region own is.chunk.base stamp is.chunk called a.made a.last old.region at is.deleted is.same
-    (subst (λ (e : Chunk). called ++ Retires e.base e.length ∷ [] ≡ delete_events from.marked.marks e.base e.length) one ends)
+    (deletes seats from new.region own is.chunk.base stamp is.chunk announced a.made a.last old.region at is.deleted is.same
+    (subst (λ (e : Chunk). announced ++ Retires e.base e.length ∷ [] ≡ delete_events from.marked.marks e.base e.length) one ends)
     a.tried a.own_is
     (sym (append-nil a.last) ∙ (ap (λ (z : List Event). a.last ++ z) (sym none) ∙ a.last_is))))
-    (λ hosts. absurd (stamp_not is.chunk.base is.chunk.length then (same ∙ stamped) hosts))
+    (λ by_host. absurd (stamp_not is.chunk.base is.chunk.length then (same ∙ stamped) by_host))
 
 -- the events of a call are its first attempt
-phase_called : (seats : ℕ) (from whole : Region) (called pending : List Event) → called ≡ pending → IsCall seats from whole pending
-    → IsCall seats from whole called × Attempting called [] pending
-phase_called seats from whole called pending is call = (
+phase_announced : (seats : ℕ) (from whole : Region) (announced pending : List Event) → announced ≡ pending → IsCall seats from whole pending
+    → IsCall seats from whole announced × Attempting announced [] pending
+phase_announced seats from whole announced pending is call = (
   subst (IsCall seats from whole) (sym is) call,
-  subst (Attempting called []) is (attempting_first called),
+  subst (Attempting announced []) is (attempting_first announced),
 )
 
 -- attempts at events without a look are without one
@@ -328,27 +332,29 @@ deletion_looks_not : (limit seats : ℕ) (host : Host) (c : Chunk) (l : Led limi
     → All IsNoLook (writers l.since)
 deletion_looks_not limit seats host c l begun = go l.phase
   where
-    go : Phase seats l.from (writers l.since) host.handle.begun host.handle.region host.called host.pending → All IsNoLook (writers l.since)
+    go : Phase seats l.from (writers l.since) host.handle.begun host.handle.region host.announced host.pending
+        → All IsNoLook (writers l.since)
     go (Calling whole idle pages call again) = absurd (let bad : None ≡ Some c = sym idle ∙ begun in cc)
     go (Deleting d is at live room ends a) =
-        let none : All IsNoLook host.called = hosts_look_not host.called (rest_hosts l.from.marked.marks d.base d.length [] host.called ends) in
+        let none : All IsNoLook host.announced =
+        by_host_look_not host.announced (rest_by_host l.from.marked.marks d.base d.length [] host.announced ends) in
         subst (All IsNoLook) (sym a.own_is)
-        (All-append IsNoLook a.made a.last (attempts_look_not host.called a.made a.tried none)
+        (All-append IsNoLook a.made a.last (attempts_look_not host.announced a.made a.tried none)
         (all_front IsNoLook a.last host.pending (subst (All IsNoLook) (sym a.last_is) none)))
 
 -- a host is led over a call
 led_calls : (limit seats : ℕ) (old new : Host) → Led limit seats old → old.pending ≡ [] → IsHandleCall seats old.handle new.handle new.pending
-    → new.world ≡ old.world → new.steps ≡ old.steps → new.called ≡ new.pending → Led limit seats new
-led_calls limit seats old new l none (Changes idle then call) same still called =
+    → new.world ≡ old.world → new.steps ≡ old.steps → new.announced ≡ new.pending → Led limit seats new
+led_calls limit seats old new l none (Changes idle then call) same still announced =
     led_anew limit seats old new l none idle same still (call_writers seats old.handle.region new.handle.region new.pending call)
     (Calling new.handle.region then refl call
-    (λ hosts. phase_called seats old.handle.region new.handle.region new.called new.pending called call))
-led_calls limit seats old new l none (Begins c begun own) same still called =
+    (λ by_host. phase_announced seats old.handle.region new.handle.region new.announced new.pending announced call))
+led_calls limit seats old new l none (Begins c begun own) same still announced =
     led_anew limit seats old new l none begun.none same still (stops_plain new.pending old.handle.region c own)
     (Deleting c (ap (λ (h : RegionHandleState). h.begun) begun.others) (ap (λ (h : RegionHandleState). h.region) begun.others) begun.live begun.room
-    (ap (λ (z : List Event). z ++ Retires c.base c.length ∷ []) called ∙ own)
-    (subst (Attempting new.called []) called (attempting_first new.called)))
-led_calls limit seats old new l none (Ends stamp is stamped) same still called =
+    (ap (λ (z : List Event). z ++ Retires c.base c.length ∷ []) announced ∙ own)
+    (subst (Attempting new.announced []) announced (attempting_first new.announced)))
+led_calls limit seats old new l none (Ends stamp is stamped) same still announced =
     record {
       before = l.before;
       since = l.since;
@@ -359,8 +365,8 @@ led_calls limit seats old new l none (Ends stamp is stamped) same still called =
       plain = subst (All IsWriters) (sym stamped) (one_writers (Retires is.chunk.base is.chunk.length) refl);
       steps = still ∙ l.steps;
       order = λ some. absurd (some (deletion_looks_not limit seats old is.chunk l is.begun));
-      phase = phase_ended seats l.from (writers l.since) old.handle new.handle old.called old.pending new.called new.pending stamp is none
-          stamped called l.phase;
+      phase = phase_ended seats l.from (writers l.since) old.handle new.handle old.announced old.pending new.announced new.pending
+          stamp is none stamped announced l.phase;
     }
 
 -- a call that leaves the region as it is, but for pages
@@ -372,7 +378,7 @@ led_asks limit seats old handle l begun region = go l.phase
     order some none =
         subst (λ (k : KeeperState). BeginsWith old.steps k.trail) (sym (ap (λ (r : Region). r.keeper) region)) (l.order some none)
 
-    go : Phase seats l.from (writers l.since) old.handle.begun old.handle.region old.called old.pending
+    go : Phase seats l.from (writers l.since) old.handle.begun old.handle.region old.announced old.pending
         → Led limit seats (record old { handle = handle })
     go (Calling whole idle pages call again) =
         record {
@@ -407,31 +413,33 @@ led_asks limit seats old handle l begun region = go l.phase
         }
 
 -- what a host makes is the writer's
-hosts_writers : (events : List Event) → All IsHosts events → All IsWriters events
-hosts_writers events all = All-weaker IsHosts IsWriters hosts events all
+by_host_writers : (events : List Event) → All IsMadeByHost events → All IsWriters events
+by_host_writers events all = All-weaker IsMadeByHost IsWriters by_host events all
   where
-    hosts : (event : Event) → IsHosts event → IsWriters event
-    hosts (Puts at byte) is = refl
-    hosts Serializes is = refl
-    hosts (Marks at marks) is = refl
-    hosts _ is = absurd is
+    by_host : (event : Event) → IsMadeByHost event → IsWriters event
+    by_host (Puts at byte) is = refl
+    by_host Serializes is = refl
+    by_host (Marks at marks) is = refl
+    by_host _ is = absurd is
 
 -- the events of a phase are to be made anew
-phase_anew : (seats : ℕ) (from : Region) (own : List Event) (begun : Option Chunk) (region : Region) (called pending : List Event)
-    → All IsHosts called → Phase seats from own begun region called pending → Phase seats from own begun region called called
-phase_anew seats from own begun region called pending hosts (Calling whole idle pages call again) =
-    let a = again hosts in
-    let more : AreAttempts called (a.1.made ++ a.1.last) = OneMore a.1.tried a.1.last pending a.1.last_is in
+phase_anew : (seats : ℕ) (from : Region) (own : List Event) (begun : Option Chunk) (region : Region) (announced pending : List Event)
+    → All IsMadeByHost announced → Phase seats from own begun region announced pending
+    → Phase seats from own begun region announced announced
+phase_anew seats from own begun region announced pending by_host (Calling whole idle pages call again) =
+    let a = again by_host in
+    let more : AreAttempts announced (a.1.made ++ a.1.last) = OneMore a.1.tried a.1.last pending a.1.last_is in
     Calling whole idle pages
-    (subst (λ (z : List Event). IsCall seats from whole (z ++ called)) (sym a.1.own_is)
-    (call_again seats from whole called (a.1.made ++ a.1.last) a.0 hosts more))
-    (λ all. (a.0, attempting_anew called own pending a.1))
-phase_anew seats from own begun region called pending hosts (Deleting c is at live room ends a) =
-    Deleting c is at live room ends (attempting_anew called own pending a)
+    (subst (λ (z : List Event). IsCall seats from whole (z ++ announced)) (sym a.1.own_is)
+    (call_again seats from whole announced (a.1.made ++ a.1.last) a.0 by_host more))
+    (λ all. (a.0, attempting_anew announced own pending a.1))
+phase_anew seats from own begun region announced pending by_host (Deleting c is at live room ends a) =
+    Deleting c is at live room ends (attempting_anew announced own pending a)
 
 -- the last call's events are to be made anew
-led_restarts : (limit seats : ℕ) (old : Host) → Led limit seats old → All IsHosts old.called → Led limit seats (record old { pending = old.called })
-led_restarts limit seats old l hosts =
+led_restarts : (limit seats : ℕ) (old : Host) → Led limit seats old → All IsMadeByHost old.announced
+    → Led limit seats (record old { pending = old.announced })
+led_restarts limit seats old l by_host =
     record {
       before = l.before;
       since = l.since;
@@ -439,10 +447,10 @@ led_restarts limit seats old l hosts =
       stays = l.stays;
       world = l.world;
       threads = l.threads;
-      plain = hosts_writers old.called hosts;
+      plain = by_host_writers old.announced by_host;
       steps = l.steps;
-      order = λ some _. l.order some (hosts_look_not old.pending (pending_hosts limit seats old l hosts));
-      phase = phase_anew seats l.from (writers l.since) old.handle.begun old.handle.region old.called old.pending hosts l.phase;
+      order = λ some _. l.order some (by_host_look_not old.pending (pending_by_host limit seats old l by_host));
+      phase = phase_anew seats l.from (writers l.since) old.handle.begun old.handle.region old.announced old.pending by_host l.phase;
     }
 
 -- a host is led over a step
@@ -450,18 +458,18 @@ led_step : (limit seats : ℕ) (old new : Host) → Led limit seats old → IsHo
 led_step limit seats old new l (Runs event is may same) order = subst (Led limit seats) (sym same) (led_runs limit seats old event l is may)
 led_step limit seats old new l (Makes event is same) order =
     subst (Led limit seats) (sym same) (led_makes limit seats old event new.pending l is (subst (IsInOrder old) same order))
-led_step limit seats old new l (Restarts hosts same) order = subst (Led limit seats) (sym same) (led_restarts limit seats old l hosts)
+led_step limit seats old new l (Restarts by_host same) order = subst (Led limit seats) (sym same) (led_restarts limit seats old l by_host)
 led_step limit seats old new l (Calls none call same) order =
     led_calls limit seats old new l none call (ap (λ (h : Host). h.world) same) (ap (λ (h : Host). h.steps) same)
-    (ap (λ (h : Host). h.called) same)
+    (ap (λ (h : Host). h.announced) same)
 led_step limit seats old new l (Asks begun region same) order =
     subst (Led limit seats) (sym same) (led_asks limit seats old new.handle l begun region)
 
 -- the first state of a host is led
 led_first : (bundles seats : ℕ) (host : Host) → IsFirst bundles seats host.handle
-    → host.world ≡ first_world (65536 + 32 * bundles) seats → host.steps ≡ [] → host.pending ≡ [] → host.called ≡ []
+    → host.world ≡ first_world (65536 + 32 * bundles) seats → host.steps ≡ [] → host.pending ≡ [] → host.announced ≡ []
     → Led (65536 + 32 * bundles) seats host
-led_first bundles seats host is world steps none uncalled =
+led_first bundles seats host is world steps none unannounced =
     let numbers : host.handle.region.keeper.numbers ≡ first_keeper_numbers seats = ap (λ (k : KeeperState). k.numbers) is.keeper in
     record {
       before = [];
@@ -482,12 +490,12 @@ led_first bundles seats host is world steps none uncalled =
       steps = steps;
       order = λ some. absurd (some (All-nil IsNoLook));
       phase = Calling host.handle.region is.begun refl (Keeps refl none)
-          (λ hosts. phase_called seats host.handle.region host.handle.region host.called host.pending (uncalled ∙ sym none)
+          (λ by_host. phase_announced seats host.handle.region host.handle.region host.announced host.pending (unannounced ∙ sym none)
           (Keeps refl none));
     }
 
 -- every state of a host that is reached is led
 pub led : (bundles seats : ℕ) (host : Host) → IsReached bundles seats host → Led (65536 + 32 * bundles) seats host
-led bundles seats host (First is world steps none uncalled) = led_first bundles seats host is world steps none uncalled
+led bundles seats host (First is world steps none unannounced) = led_first bundles seats host is world steps none unannounced
 led bundles seats host (Then {old} before step order) =
     led_step (65536 + 32 * bundles) seats old host (led bundles seats old before) step order

@@ -18,9 +18,9 @@ use Rattle.nc_host_handles.specs.RunCalls.{AreCreationRuns, AreDeletionRuns}
 use Rattle.nc_host_handles.specs.Lent.{bytes_of_span}
 use Rattle.nc_host_handles.specs.Pending.{IsHandleCall, Changes, Begins, events_pending}
 use Rattle.nc_host_handles.proofs.Offered.{create_runs_due, delete_runs_due, still_none, one_of_base, span_put, chunk_span}
-use Rattle.nc_host_law.specs.Hosts.{Host, IsHosts, IsReached}
-use Rattle.nc_host_law.proofs.Going.{again as again_called, restarts}
-use Rattle.nc_host_law.proofs.Making.{create_hosts}
+use Rattle.nc_host_law.specs.Hosts.{Host, IsMadeByHost, IsReached}
+use Rattle.nc_host_law.proofs.Going.{again as again_announced, restarts}
+use Rattle.nc_host_law.proofs.Making.{create_by_host}
 use Rattle.nc_host_law.proofs.Concluding.{is_region}
 
 -- a chunk that was inserted is in the list
@@ -57,17 +57,18 @@ creation bundles seats host new v c lent now count reached valid loaded live run
 
 -- a creation that was the last call: its runs are its events while the chunk has its bytes
 pub created_again : (bundles seats : ℕ) (host : Host) (v : MarkedChunk) (c : Chunk) (lent now : List NcAct) (count : ℕ)
-    → IsReached bundles seats host → host.called ≡ create_events v → c.base ≡ v.base
+    → IsReached bundles seats host → host.announced ≡ create_events v → c.base ≡ v.base
     → bytes_of_span host.handle.region.marked.bytes c.base c.length ≡ v.code → AreCreationRuns host.handle c lent now count
     → IsReached bundles seats (record host { pending = events_pending v (take count now) })
-created_again bundles seats host v c lent now count reached called base code runs =
+created_again bundles seats host v c lent now count reached announced base code runs =
     let here : HasRuns lent now count v.base v.code (runs_of_create v.base v.code) (log_of_create v.base v.code) =
     subst (λ (z : List ℕ). HasRuns lent now count v.base z (runs_of_create v.base z) (log_of_create v.base z)) code
     (subst (λ (b : ℕ). HasRuns lent now count b (bytes_of_span host.handle.region.marked.bytes c.base c.length)
     (runs_of_create b (bytes_of_span host.handle.region.marked.bytes c.base c.length))
     (log_of_create b (bytes_of_span host.handle.region.marked.bytes c.base c.length))) base runs.1) in
-    subst (λ (z : List Event). IsReached bundles seats (record host { pending = z })) (called ∙ sym (create_runs_due v lent now count here))
-    (again_called bundles seats host reached (subst (All IsHosts) (sym called) (create_hosts v)))
+    subst (λ (z : List Event). IsReached bundles seats (record host { pending = z }))
+    (announced ∙ sym (create_runs_due v lent now count here))
+    (again_announced bundles seats host reached (subst (All IsMadeByHost) (sym announced) (create_by_host v)))
 
 -- the first call of a deletion
 pub deletion : (seats : ℕ) (old new : RegionHandleState) (base : ℕ) (v : MarkedChunk) (c : Chunk) (lent now : List NcAct) (count : ℕ)

@@ -44,6 +44,6 @@ stores seats old new (Runs event is may same) =
     world_is old new (after old.world event) (ap (λ (h : Host). h.world) same) (inl (thread_keeps old.world event is))
 stores seats old new (Makes event is same) =
     world_is old new (after old.world event) (ap (λ (h : Host). h.world) same) (due_changes old.world event old.pending new.pending is)
-stores seats old new (Restarts hosts same) = world_is old new old.world (ap (λ (h : Host). h.world) same) (inl refl)
+stores seats old new (Restarts by_host same) = world_is old new old.world (ap (λ (h : Host). h.world) same) (inl refl)
 stores seats old new (Calls none call same) = world_is old new old.world (ap (λ (h : Host). h.world) same) (inl refl)
 stores seats old new (Asks begun region same) = world_is old new old.world (ap (λ (h : Host). h.world) same) (inl refl)

@@ -39,7 +39,7 @@ in_turn host turn made later = record {
   world = world_after host.world made;
   steps = host.steps ++ word_steps made;
   pending = writers later;
-  called = writers turn.events;
+  announced = writers turn.events;
 }
 
 -- one more event has happened
@@ -52,7 +52,7 @@ once_more host turn made later event = λ i. record {
       ∙ ap (λ (l : List WordStep). host.steps ++ l)
       (ap (λ (l : List WordStep). word_steps made ++ l) (sym (append-nil (word_step event))) ∙ sym (steps_append made (event ∷ [])))) i;
   pending = writers later;
-  called = writers turn.events;
+  announced = writers turn.events;
 }
 
 -- where one event more has a look among the writer's, it is the look
@@ -120,13 +120,13 @@ pub turns : (bundles seats : ℕ) (host : Host) (before events later : List Even
       world = world_after host.world events;
       steps = host.steps ++ word_steps events;
       pending = writers later;
-      called = writers turn.events;
+      announced = writers turn.events;
     })
 turns bundles seats host before events later turn reached none idle there steps is parts =
     let new : RegionHandleState = record host.handle { region = turn.region } in
     let own : List Event = writers turn.events in
     let call : IsHandleCall seats host.handle new (writers turn.events) = Changes idle idle is.call in
-    let called : Host = record host { handle = new; pending = own; called = own } in
+    let called : Host = record host { handle = new; pending = own; announced = own } in
     let gone : GoesOn bundles seats host called =
     Further (Here reached) (Calls none call refl) (calls bundles seats host new own reached none call) in
     let start : called ≡ in_turn host turn [] turn.events =

@@ -21,7 +21,7 @@ pub fn law_of_runs()
     ensures deletion { (seats : ℕ) (old new : RegionHandleState) (base : ℕ) (v : MarkedChunk) (c : Chunk) (lent now : List NcAct) (count : ℕ)
         → HasBegunDeletion old new base c → AreDeletionRuns new c lent now count → IsHandleCall seats old new (events_pending v (take count now)) }
     ensures created_again { (bundles seats : ℕ) (host : Host) (v : MarkedChunk) (c : Chunk) (lent now : List NcAct) (count : ℕ)
-        → IsReached bundles seats host → host.called ≡ create_events v → c.base ≡ v.base
+        → IsReached bundles seats host → host.announced ≡ create_events v → c.base ≡ v.base
         → bytes_of_span host.handle.region.marked.bytes c.base c.length ≡ v.code → AreCreationRuns host.handle c lent now count
         → IsReached bundles seats (record host { pending = events_pending v (take count now) }) }
     ensures again { (bundles seats : ℕ) (host : Host) (v : MarkedChunk) (c : Chunk) (lent now : List NcAct) (count : ℕ)

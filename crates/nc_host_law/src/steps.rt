@@ -10,7 +10,7 @@ ghost use Rattle.nc_histories.specs.Calls.{create_events, patch_events, delete_e
 ghost use Rattle.nc_host_acts.specs.declared.act.NcAct.{NcAct};
 ghost use Rattle.nc_host_handles.specs.RegionHandle.{RegionHandleState, HasLoaded, HasPatched, HasBegunDeletion, HasEndedDeletion, HasReclaimed, meetings};
 ghost use Rattle.nc_host_handles.specs.Pending.{IsHandleCall, ChangesPages, events_pending};
-ghost use Rattle.nc_host_law.specs.Hosts.{Host, host_after, IsHosts, IsReached};
+ghost use Rattle.nc_host_law.specs.Hosts.{Host, host_after, IsMadeByHost, IsReached};
 
 /// From each state that a host can reach, these lead to another one:
 ///
@@ -32,23 +32,23 @@ pub fn law_of_reaching()
         → IsReached bundles seats (record (host_after host event) { pending = later }) }
     ensures loads { (bundles seats : ℕ) (host : Host) (new : RegionHandleState) (v : MarkedChunk) → IsReached bundles seats host
         → host.pending ≡ [] → IsValid v → HasLoaded v host.handle new
-        → IsReached bundles seats (record host { handle = new; pending = create_events v; called = create_events v }) }
+        → IsReached bundles seats (record host { handle = new; pending = create_events v; announced = create_events v }) }
     ensures patches { (bundles seats : ℕ) (host : Host) (new : RegionHandleState) (at : ℕ) (bytes : List ℕ) (news : List Piece)
         → IsReached bundles seats host → host.pending ≡ [] → AreBytesOf bytes news → HasPatched at bytes host.handle new
         → IsReached bundles seats (record host {
           handle = new;
           pending = patch_events host.handle.region.marked.bytes at news;
-          called = patch_events host.handle.region.marked.bytes at news;
+          announced = patch_events host.handle.region.marked.bytes at news;
         }) }
     ensures begins { (bundles seats : ℕ) (host : Host) (new : RegionHandleState) (c : Chunk) (stops : List Event) → IsReached bundles seats host
         → host.pending ≡ [] → HasBegunDeletion host.handle new c.base c
         → stops ++ Event.Retires c.base c.length ∷ [] ≡ delete_events host.handle.region.marked.marks c.base c.length
-        → IsReached bundles seats (record host { handle = new; pending = stops; called = stops }) }
-    ensures again { (bundles seats : ℕ) (host : Host) → IsReached bundles seats host → All IsHosts host.called
-        → IsReached bundles seats (record host { pending = host.called }) }
-    ensures buffers { (v : MarkedChunk) (acts : List NcAct) → All IsHosts (events_pending v acts) }
-    ensures changes { (v : MarkedChunk) (text : List ℕ) (at : ℕ) (news : List Piece) → All IsHosts (create_events v)
-        × All IsHosts (patch_events text at news) }
+        → IsReached bundles seats (record host { handle = new; pending = stops; announced = stops }) }
+    ensures again { (bundles seats : ℕ) (host : Host) → IsReached bundles seats host → All IsMadeByHost host.announced
+        → IsReached bundles seats (record host { pending = host.announced }) }
+    ensures buffers { (v : MarkedChunk) (acts : List NcAct) → All IsMadeByHost (events_pending v acts) }
+    ensures changes { (v : MarkedChunk) (text : List ℕ) (at : ℕ) (news : List Piece) → All IsMadeByHost (create_events v)
+        × All IsMadeByHost (patch_events text at news) }
     ensures restarts { (bundles seats : ℕ) (host : Host) (c : Chunk) (stops : List Event) → IsReached bundles seats host
         → host.handle.begun ≡ Some c
         → stops ++ Event.Retires c.base c.length ∷ [] ≡ delete_events host.handle.region.marked.marks c.base c.length
@@ -61,17 +61,17 @@ pub fn law_of_reaching()
         → IsReached bundles seats (record host {
           handle = new;
           pending = Event.Retires is.chunk.base is.chunk.length ∷ [];
-          called = Event.Retires is.chunk.base is.chunk.length ∷ [];
+          announced = Event.Retires is.chunk.base is.chunk.length ∷ [];
         }) }
     ensures calls { (bundles seats : ℕ) (host : Host) (new : RegionHandleState) (own : List Event) → IsReached bundles seats host
         → host.pending ≡ [] → IsHandleCall seats host.handle new own
-        → IsReached bundles seats (record host { handle = new; pending = own; called = own }) }
+        → IsReached bundles seats (record host { handle = new; pending = own; announced = own }) }
     ensures reclaims { (bundles seats : ℕ) (host : Host) (new : RegionHandleState) (count : ℕ) (is : HasReclaimed host.handle new count)
         → IsReached bundles seats host → host.pending ≡ []
         → IsReached bundles seats (record host {
           handle = record host.handle { region = is.met };
           pending = meetings host.handle.passes;
-          called = meetings host.handle.passes;
+          announced = meetings host.handle.passes;
         }) }
     ensures asks { (bundles seats : ℕ) (host : Host) (new : RegionHandleState) → IsReached bundles seats host → new.begun ≡ host.handle.begun
         → new.region ≡ record host.handle.region { made = new.region.made } → IsReached bundles seats (record host { handle = new }) }

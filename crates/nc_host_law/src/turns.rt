@@ -29,7 +29,7 @@ pub fn law_of_turns()
           world = world_after host.world events;
           steps = host.steps ++ word_steps events;
           pending = writers later;
-          called = writers turn.events;
+          announced = writers turn.events;
         }) }
     ensures lives { (bundles : ℕ) (first : RegionHandleState) (v : MarkedChunk) → IsValid v → v.limit ≡ 0x10000 + 32 * bundles
         → IsFirst bundles 1 first → (created deleted last : Host) × GoesOn bundles 1 (new_host bundles 1 first) created

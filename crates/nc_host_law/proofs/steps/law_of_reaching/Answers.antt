@@ -1,5 +1,5 @@
 use Rattle.nc_host_law.proofs.Going.{makes_next, loads, patches, begins, again, restarts, anew, ends, calls, reclaims, asks, fails, runs}
-use Rattle.nc_host_law.proofs.Making.{create_hosts, patch_hosts, buffer_hosts}
+use Rattle.nc_host_law.proofs.Making.{create_by_host, patch_by_host, buffer_by_host}
 use Rattle.nc_host_law.proofs.steps.law_of_reaching.Goals as goal
 
 pub returns-clause-makes : goal.returns-clause-makes
@@ -18,10 +18,10 @@ pub returns-clause-again : goal.returns-clause-again
 returns-clause-again c = again
 
 pub returns-clause-buffers : goal.returns-clause-buffers
-returns-clause-buffers c = buffer_hosts
+returns-clause-buffers c = buffer_by_host
 
 pub returns-clause-changes : goal.returns-clause-changes
-returns-clause-changes c = λ v text at news. (create_hosts v, patch_hosts text at news)
+returns-clause-changes c = λ v text at news. (create_by_host v, patch_by_host text at news)
 
 pub returns-clause-restarts : goal.returns-clause-restarts
 returns-clause-restarts c = restarts
