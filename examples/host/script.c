@@ -1,5 +1,5 @@
 /*
- * A host in C that answers the lines of a script as `nc_replay replay --queries` does, by a region's handle.
+ * A host in C that replies to the lines of a script as `nc_replay replay --queries` does, by a region's handle.
  *
  *     script BUNDLES SEATS [acts|runs]
  *
@@ -69,7 +69,7 @@ static void compare(void) {
     }
 }
 
-static void answer(NcChange change) {
+static void reply(NcChange change) {
     if (change.fault != NC_OK) {
         refused(change.fault, change.at);
         return;
@@ -124,7 +124,7 @@ static void create(uint32_t base, size_t len) {
         must_lack_room(nc_region_creation_runs(&region, base, runs, count - 1), count);
         change.count = write_out(count, base);
     }
-    answer(change);
+    reply(change);
 }
 
 /* The bytes of a word of pairs of hexadecimal digits, or none for `-`; how many there are. */
@@ -239,7 +239,7 @@ static void obey(void) {
         create(at, len);
     } else if (strcmp(name, "modify") == 0) {
         size_t len = bytes_of(strtok(NULL, " \n"));
-        answer(nc_region_patch(&region, at, code, len, acts, MAX_BYTES + 2));
+        reply(nc_region_patch(&region, at, code, len, acts, MAX_BYTES + 2));
     } else if (strcmp(name, "delete") == 0) {
         delete_chunk(at);
     } else if (strcmp(name, "checkin") == 0) {

@@ -15,7 +15,7 @@ pub enum Ask {
 #[derive(Clone, Copy, Debug, Drop, PartialEq, Eq)]
 pub struct ReplayAsk {
     pub work: Ask,
-    /// Whether a script's `chunk` lines are answered.
+    /// Whether a script's `chunk` lines are taken.
     pub queries: bool,
     /// Whether each bad line and each refusal is explained on standard error.
     pub explain: bool,

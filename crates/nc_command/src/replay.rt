@@ -30,7 +30,7 @@ const SEATS: Word = Word {
     ..OPTION
 };
 
-/// The flag by which `chunk` lines are answered.
+/// The flag by which `chunk` lines are taken.
 const QUERIES: Word = Word {
     name: "queries",
     help: "Also answer `chunk <address>`, which shows one chunk",

@@ -12,7 +12,7 @@ use Rattle.nc_work.specs.Verdicts.{IsVerdictOn}
 use Rattle.nc_work.specs.declared.job.Job.{Job}
 use Rattle.nc_lines.specs.Lines.{kept_of}
 use Rattle.nc_lines.specs.Words.{chunk_in}
-use Rattle.nc_lines.specs.Answering.{AnswersLines}
+use Rattle.nc_lines.specs.Replying.{RepliesToLines}
 use Rattle.nc_lines.specs.machinery.Batch.{JobValue, value_of, jobs_for, Gathers, HasGathered, IsFound, AreFound}
 use Rattle.nc_lines.specs.declared.batch.Batch.{Batch}
 use Rattle.nc_lines.proofs.Kept.{chunk_of_kept}
@@ -46,8 +46,8 @@ gathers_none old kept line named names e n =
           ∙ ap (λ (o : Option (ℕ × List ℕ)). map value_of old.jobs.items ++ jobs_for old.limit o) (sym is);
     }
 
--- lines that are answered by a batch are gathered in it
-pub gathered : (old : Batch) (lines : List (List ℕ)) (replies : List ℕ) (new : Batch) → AnswersLines Gathers old lines replies new
+-- lines to which a batch replies are gathered in it
+pub gathered : (old : Batch) (lines : List (List ℕ)) (replies : List ℕ) (new : Batch) → RepliesToLines Gathers old lines replies new
     → HasGathered old new lines
 gathered old [] replies new h = record {
   limit = ap (λ (b : Batch). b.limit) h.1;

@@ -1,7 +1,7 @@
 pub mod Offered
 pub mod DigitValues
 pub mod Cuts
-pub mod Answered
+pub mod Replied
 pub mod HoldingBack
 pub mod Steps
 pub mod WholeInput

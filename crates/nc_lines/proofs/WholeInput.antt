@@ -3,7 +3,7 @@ use Rattle.std.proofs.Common.{◌++◌, ℕ, List, Option, Some, None, IfSome, R
 use Rattle.std.specs.Io.KnownBytes.{Consumes, IsAtEnd}
 use Rattle.std.proofs.KnownBytes.{Consumes-whole}
 use Rattle.nc_lines.specs.Lines.{lines_of, ended_lines}
-use Rattle.nc_lines.specs.Answering.{IsAnswered, IsBegun, IsCutShort, HasAnsweredAll}
+use Rattle.nc_lines.specs.Replying.{IsComplete, IsBegun, IsCutShort, HasRepliedToAll}
 use Rattle.nc_lines.specs.machinery.Progress.{Feeds, Finishes}
 use Rattle.nc_lines.specs.declared.fault.ReplayFault.{ReplayFault}
 use Rattle.nc_lines.specs.declared.fault.ReplayFault.TheVariants.{ReadFailed, WriteFailed, OutOfMemory, BadSize, BadSeats, BadWorkers}
@@ -15,15 +15,15 @@ known_more None new front P c h = tt
 known_more (Some xs) None front P c h = absurd c
 known_more (Some xs) (Some ys) front P c h = subst P (sym c) (h ys)
 
-module _ {S : Type 0} (T : Type 0) (answers : S → List ℕ → List ℕ → S → Type 0) (start : S) (before old new : Option (List ℕ))
+module _ {S : Type 0} (T : Type 0) (replies : S → List ℕ → List ℕ → S → Type 0) (start : S) (before old new : Option (List ℕ))
     (front : List ℕ) (consumed : Consumes old new front) (now : S) (after : Option (List ℕ)) where
   -- a run that ends as these bytes are taken
-  pub fed_ends : (held kept : List ℕ) (fault : ReplayFault) → Feeds {T = T} answers start before front now after held kept (Err fault)
-      → HasAnsweredAll {T = T} answers start now old new before after (Err fault)
+  pub fed_ends : (held kept : List ℕ) (fault : ReplayFault) → Feeds {T = T} replies start before front now after held kept (Err fault)
+      → HasRepliedToAll {T = T} replies start now old new before after (Err fault)
   fed_ends held kept WriteFailed h = record {
     ok = tt;
     read = tt;
-    write_failed = λ e. known_more old new front (λ input. IsBegun answers start before after (lines_of input)) consumed h;
+    write_failed = λ e. known_more old new front (λ input. IsBegun replies start before after (lines_of input)) consumed h;
     out_of_memory = λ e. absurd cc;
     read_failed = λ e. absurd cc;
     faults = (λ e. cc, λ e. cc, λ e. cc);
@@ -32,7 +32,7 @@ module _ {S : Type 0} (T : Type 0) (answers : S → List ℕ → List ℕ → S 
     ok = tt;
     read = tt;
     write_failed = λ e. absurd cc;
-    out_of_memory = λ e. known_more old new front (λ input. IsCutShort answers start before after (lines_of input)) consumed h;
+    out_of_memory = λ e. known_more old new front (λ input. IsCutShort replies start before after (lines_of input)) consumed h;
     read_failed = λ e. absurd cc;
     faults = (λ e. cc, λ e. cc, λ e. cc);
   }
@@ -42,10 +42,10 @@ module _ {S : Type 0} (T : Type 0) (answers : S → List ℕ → List ℕ → S 
   fed_ends held kept BadWorkers h = absurd h
 
   -- a run that ends at the end of the input
-  pub finished_ends : IsAtEnd new → (r : Result T ReplayFault) → Finishes answers start before front now after r
-      → HasAnsweredAll answers start now old new before after r
+  pub finished_ends : IsAtEnd new → (r : Result T ReplayFault) → Finishes replies start before front now after r
+      → HasRepliedToAll replies start now old new before after r
   finished_ends at_end (Ok x) h = record {
-    ok = Consumes-whole old new front (λ input. IsAnswered answers start now before after (lines_of input)) consumed at_end h;
+    ok = Consumes-whole old new front (λ input. IsComplete replies start now before after (lines_of input)) consumed at_end h;
     read = at_end;
     write_failed = λ e. absurd cc;
     out_of_memory = λ e. absurd cc;
@@ -55,7 +55,7 @@ module _ {S : Type 0} (T : Type 0) (answers : S → List ℕ → List ℕ → S 
   finished_ends at_end (Err WriteFailed) h = record {
     ok = tt;
     read = tt;
-    write_failed = λ e. Consumes-whole old new front (λ input. IsBegun answers start before after (lines_of input)) consumed at_end h;
+    write_failed = λ e. Consumes-whole old new front (λ input. IsBegun replies start before after (lines_of input)) consumed at_end h;
     out_of_memory = λ e. absurd cc;
     read_failed = λ e. absurd cc;
     faults = (λ e. cc, λ e. cc, λ e. cc);
@@ -65,7 +65,7 @@ module _ {S : Type 0} (T : Type 0) (answers : S → List ℕ → List ℕ → S 
     read = tt;
     write_failed = λ e. absurd cc;
     out_of_memory = λ e.
-        Consumes-whole old new front (λ input. IsCutShort answers start before after (lines_of input)) consumed at_end h;
+        Consumes-whole old new front (λ input. IsCutShort replies start before after (lines_of input)) consumed at_end h;
     read_failed = λ e. absurd cc;
     faults = (λ e. cc, λ e. cc, λ e. cc);
   }
@@ -75,13 +75,13 @@ module _ {S : Type 0} (T : Type 0) (answers : S → List ℕ → List ℕ → S 
   finished_ends at_end (Err BadWorkers) h = absurd h
 
   -- a run that ends as a read fails
-  pub read_ends : IsAnswered answers start now before after (ended_lines front)
-      → HasAnsweredAll {T = T} answers start now old new before after (Err ReadFailed)
-  read_ends answered = record {
+  pub read_ends : IsComplete replies start now before after (ended_lines front)
+      → HasRepliedToAll {T = T} replies start now old new before after (Err ReadFailed)
+  read_ends replied = record {
     ok = tt;
     read = tt;
     write_failed = λ e. absurd cc;
-    read_failed = λ e. (front, consumed, answered);
+    read_failed = λ e. (front, consumed, replied);
     out_of_memory = λ e. absurd cc;
     faults = (λ e. cc, λ e. cc, λ e. cc);
   }

@@ -1,5 +1,5 @@
 pub mod machinery
 pub mod Lines
 pub mod Words
-pub mod Answering
+pub mod Replying
 pub mod Vetting

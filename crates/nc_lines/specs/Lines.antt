@@ -22,7 +22,7 @@ abbrev pub ended_lines : List ℕ → List (List ℕ)
 ended_lines [] = []
 ended_lines (b ∷ bytes) = if b == 10 then [] ∷ ended_lines bytes else onto_ended b (ended_lines bytes)
 
--- the most bytes that a line may have, not counting its 0A; a longer line is answered as a bad one
+-- the most bytes that a line may have, not counting its 0A; the reply to a longer line is that to a bad one
 abbrev pub line_limit : ℕ
 line_limit = 1048576
 

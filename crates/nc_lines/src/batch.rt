@@ -34,9 +34,9 @@ impl Batch {
 
 /// A line is only gathered: its reply is written once all lines have been read.
 impl Responder for Batch {
-    ghost answers = { Gathers };
+    ghost replies = { Gathers };
 
-    fn answer(&mut self, kept: &[u8], _out: &mut Vec<u8>) -> Result<(), AllocError> {
+    fn reply(&mut self, kept: &[u8], _out: &mut Vec<u8>) -> Result<(), AllocError> {
         match placed_in_line(self.alloc, kept)? {
             Some((base, code)) => {
                 self.jobs.push(Job {

@@ -11,7 +11,7 @@ pub enum ReplayFault {
     /// The writer failed, or accepted none of the bytes offered.
     #[error("write failed")]
     WriteFailed,
-    /// There was no memory for a line, its answer or the region.
+    /// There was no memory for a line, its reply or the region.
     #[error("out of memory")]
     OutOfMemory,
     /// No region can have this number of bundles.

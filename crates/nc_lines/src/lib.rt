@@ -1,7 +1,7 @@
 //! Reads lines and writes one reply line for each, and vets the chunks that lines name.
 //!
-//! [`answer_all`] reads lines of any length in pieces, and hands each line to a [`Responder`], which replies to it. With
-//! [`answer_gathered`], `replies` holds the replies back until more is to be read.
+//! [`reply_to_all`] reads lines of any length in pieces, and hands each line to a [`Responder`], which replies to it. With
+//! [`reply_gathered`], `replies` holds the replies back until more is to be read.
 //! [`vet_lines`] vets the chunks that lines name, several at a time: `batch` gathers the lines, and `verdicts` writes the
 //! verdicts. [`words_of`], [`address_of`] and [`placed_of`] parse the words of a line; [`first_address_of`] and [`placed_at`] parse
 //! a text without a list of its words.
@@ -21,6 +21,6 @@ mod words;
 pub use fault::ReplayFault;
 pub use lines::LINE_LIMIT;
 pub use responder::Responder;
-pub use stream::{answer_all, answer_gathered};
+pub use stream::{reply_gathered, reply_to_all};
 pub use vetting::vet_lines;
 pub use words::{address_of, first_address_of, placed_at, placed_of, words_of};

@@ -1,9 +1,9 @@
-//! Bytes gathered into lines, each answered as soon as it ends. A line is kept up to the first byte beyond the limit.
+//! Bytes gathered into lines. Each line gets its reply as soon as it ends. A line is kept up to the first byte beyond the limit.
 
 ghost use Rattle.std.specs.Prelude.{◌≡◌, ◌++◌, ◌<◌, ◌≤◌, [], ℕ, List, Option, OnOk, IfOk, length, take, slice_index};
 ghost use Rattle.std.specs.Vec.{vec_capacity};
 ghost use Rattle.nc_lines.specs.Lines.{kept_of};
-ghost use Rattle.nc_lines.specs.machinery.Progress.{AnswersKept, IsOpen, KeepsUp, FeedsPart, FeedsPiece};
+ghost use Rattle.nc_lines.specs.machinery.Progress.{RepliesToKept, IsOpen, KeepsUp, FeedsPart, FeedsPiece};
 
 use crate::fault::ReplayFault;
 use crate::replies::Replies;
@@ -15,31 +15,31 @@ use std::io::Write;
 /// The most bytes that a line may have, without its line end.
 pub const LINE_LIMIT: usize = 1_048_576;
 
-/// Answers a line, given its kept part, and holds back the answer.
-pub(crate) fn answer_line<S: Responder, W: Write>(
+/// Replies to a line, given its kept part, and holds back the reply.
+pub(crate) fn reply_to_line<S: Responder, W: Write>(
     responder: &mut S,
     writer: &mut W,
     replies: &mut Replies,
     kept: &[u8],
 ) -> Result<(), ReplayFault>
-    ensures answers { (part : List ℕ) → kept.now ≡ kept_of part →
-        AnswersKept S.answers responder.old responder.new (W.contents writer.old) (W.contents writer.new)
+    ensures replies { (part : List ℕ) → kept.now ≡ kept_of part →
+        RepliesToKept S.replies responder.old responder.new (W.contents writer.old) (W.contents writer.new)
         replies.old.held.items replies.new.held.items part result }
     ensures most { replies.new.held.most ≡ replies.old.held.most }
-    ensures room { OnOk result (vec_capacity replies.new.answer ≤ 65_536) }
+    ensures room { OnOk result (vec_capacity replies.new.reply ≤ 65_536) }
 {
     // The buffer is empty already, but no clause of the callers says so.
-    replies.clear_answer();
-    match responder.answer(kept, &mut replies.answer) {
+    replies.clear_reply();
+    match responder.reply(kept, &mut replies.reply) {
         Ok(()) => {}
         Err(_) => return Err(replies.held.end_early(writer)),
     }
-    match replies.held.hold(writer, replies.answer.as_slice()) {
+    match replies.held.hold(writer, replies.reply.as_slice()) {
         Ok(()) => {}
         Err(_) => return Err(ReplayFault::WriteFailed),
     }
-    // The memory of a long answer isn't kept while more is read.
-    replies.clear_answer();
+    // The memory of a long reply isn't kept while more is read.
+    replies.clear_reply();
     Ok(())
 }
 
@@ -64,29 +64,29 @@ fn keep(line: &mut Vec<u8>, part: &[u8]) -> Result<(), AllocError>
     line.extend_from_slice(&part[..count])
 }
 
-/// Answers a line of which all but these last bytes are in `line`. If no others are, it is answered from where it stands.
-fn answer_last<S: Responder, W: Write>(
+/// Replies to a line of which all but these last bytes are in `line`. If no others are, the line is taken from where it stands.
+fn reply_to_last<S: Responder, W: Write>(
     responder: &mut S,
     writer: &mut W,
     replies: &mut Replies,
     line: &mut Vec<u8>,
     last: &[u8],
 ) -> Result<(), ReplayFault>
-    ensures answers { (part : List ℕ) → line.old.items ≡ kept_of part →
-        AnswersKept S.answers responder.old responder.new (W.contents writer.old) (W.contents writer.new)
+    ensures replies { (part : List ℕ) → line.old.items ≡ kept_of part →
+        RepliesToKept S.replies responder.old responder.new (W.contents writer.old) (W.contents writer.new)
         replies.old.held.items replies.new.held.items (part ++ last.now) result }
     ensures none { OnOk result (line.new.items ≡ []) }
     ensures most { replies.new.held.most ≡ replies.old.held.most }
 {
     if line.is_empty() {
         let count = last.len().min(LINE_LIMIT + 1);
-        return answer_line(responder, writer, replies, &last[..count]);
+        return reply_to_line(responder, writer, replies, &last[..count]);
     }
     match keep(line, last) {
         Ok(()) => {}
         Err(_) => return Err(replies.held.end_early(writer)),
     }
-    match answer_line(responder, writer, replies, line.as_slice()) {
+    match reply_to_line(responder, writer, replies, line.as_slice()) {
         Ok(()) => {
             line.clear();
             Ok(())
@@ -95,7 +95,7 @@ fn answer_last<S: Responder, W: Write>(
     }
 }
 
-/// Takes the next bytes up to the first line end, or all of them, and answers the line if it has ended. Returns the number
+/// Takes the next bytes up to the first line end, or all of them, and replies to the line if it has ended. Returns the number
 /// of bytes taken.
 fn feed_part<S: Responder, W: Write>(
     responder: &mut S,
@@ -107,8 +107,8 @@ fn feed_part<S: Responder, W: Write>(
     requires { 0 < length rest.now }
     ensures count { IfOk result (λ count. (0 < count) × (count ≤ length rest.now)) }
     ensures feeds { (start : S) (before : Option (List ℕ)) (bytes : List ℕ)
-        → KeepsUp S.answers start before bytes responder.old (W.contents writer.old) replies.old.held.items line.old.items
-        → FeedsPart S.answers start before bytes rest.now responder.new (W.contents writer.new) replies.new.held.items line.new.items
+        → KeepsUp S.replies start before bytes responder.old (W.contents writer.old) replies.old.held.items line.old.items
+        → FeedsPart S.replies start before bytes rest.now responder.new (W.contents writer.new) replies.new.held.items line.new.items
         result }
     ensures most { replies.new.held.most ≡ replies.old.held.most }
 {
@@ -119,13 +119,13 @@ fn feed_part<S: Responder, W: Write>(
             Err(_) => Err(replies.held.end_early(writer)),
         };
     }
-    match answer_last(responder, writer, replies, line, &rest[..end]) {
+    match reply_to_last(responder, writer, replies, line, &rest[..end]) {
         Ok(()) => Ok(end + 1),
         Err(fault) => Err(fault),
     }
 }
 
-/// Takes the next bytes, and answers each line as soon as it ends.
+/// Takes the next bytes, and replies to each line as soon as it ends.
 fn feed_parts<S: Responder, W: Write>(
     responder: &mut S,
     writer: &mut W,
@@ -134,7 +134,7 @@ fn feed_parts<S: Responder, W: Write>(
     piece: &[u8],
 ) -> Result<(), ReplayFault>
     ensures most { replies.new.held.most ≡ replies.old.held.most }
-    ensures feeds { FeedsPiece S.answers responder.old (W.contents writer.old) replies.old.held.items line.old.items piece.now
+    ensures feeds { FeedsPiece S.replies responder.old (W.contents writer.old) replies.old.held.items line.old.items piece.now
         responder.new (W.contents writer.new) replies.new.held.items line.new.items result }
 {
     let mut rest = piece;
@@ -147,7 +147,7 @@ fn feed_parts<S: Responder, W: Write>(
     Ok(())
 }
 
-/// Takes the next bytes, answers each line as soon as it ends, and then writes the answers that were held back.
+/// Takes the next bytes, replies to each line as soon as it ends, and then writes the replies that were held back.
 pub(crate) fn feed<S: Responder, W: Write>(
     responder: &mut S,
     writer: &mut W,
@@ -155,7 +155,7 @@ pub(crate) fn feed<S: Responder, W: Write>(
     line: &mut Vec<u8>,
     piece: &[u8],
 ) -> Result<(), ReplayFault>
-    ensures feeds { FeedsPiece S.answers responder.old (W.contents writer.old) replies.old.held.items line.old.items piece.now
+    ensures feeds { FeedsPiece S.replies responder.old (W.contents writer.old) replies.old.held.items line.old.items piece.now
         responder.new (W.contents writer.new) replies.new.held.items line.new.items result }
     ensures written { OnOk result (replies.new.held.items ≡ []) }
     ensures most { replies.new.held.most ≡ replies.old.held.most }

@@ -1,4 +1,4 @@
-//! Answers held back until more lines are to be read.
+//! Replies held back until more lines are to be read.
 
 ghost use Rattle.std.specs.Prelude.{◌≡◌, ◌++◌, ◌≤◌, [], OnOk, OnErr, if◌then◌else◌};
 ghost use Rattle.std.specs.Io.KnownBytes.{Appends};
@@ -11,11 +11,11 @@ use std::alloc::Global;
 use std::io::Write;
 use std::marker::Model;
 
-/// The most bytes of memory that are kept for the answer to the next line.
+/// The most bytes of memory that are kept for the reply to the next line.
 const KEPT_ROOM: usize = 65_536;
 
-/// Answers that are held back, at most `most` bytes in all. An answer with which there would be more is written at once, after
-/// those before it; so is every answer where `most` is 0.
+/// Replies that are held back, at most `most` bytes in all. A reply with which there would be more is written at once, after
+/// those before it; so is every reply where `most` is 0.
 #[derive(Drop)]
 pub(crate) struct HeldReplies {
     bytes: Vec<u8>,
@@ -34,7 +34,7 @@ impl Model for HeldReplies {
 }
 
 impl HeldReplies {
-    /// No answers, of which at most this many bytes are to be held back.
+    /// No replies, of which at most this many bytes are to be held back.
     pub fn new(alloc: Global, most: usize) -> HeldReplies
         ensures none { result.items ≡ [] }
         ensures most { result.most ≡ most }
@@ -61,28 +61,28 @@ impl HeldReplies {
         }
     }
 
-    /// Holds back an answer if there are not too many bytes and there is memory for them; returns whether it did.
-    fn has_taken(&mut self, answer: &[u8]) -> bool
-        ensures bytes { self.new.items ≡ (if result then self.old.items ++ answer.now else self.old.items) }
+    /// Holds back a reply if there are not too many bytes and there is memory for them; returns whether it did.
+    fn has_taken(&mut self, reply: &[u8]) -> bool
+        ensures bytes { self.new.items ≡ (if result then self.old.items ++ reply.now else self.old.items) }
         ensures most { self.new.most ≡ self.old.most }
     {
-        answer.len() <= self.most - self.bytes.len() && self.bytes.extend_from_slice(answer).is_ok()
+        reply.len() <= self.most - self.bytes.len() && self.bytes.extend_from_slice(reply).is_ok()
     }
 
-    /// Holds back an answer. If there would be too many bytes, or there is no memory for them, all are written instead.
-    pub fn hold<W: Write>(&mut self, writer: &mut W, answer: &[u8]) -> Result<(), WriteFailed>
-        ensures ok { OnOk result (HoldsRest (W.contents writer.old) (W.contents writer.new) (self.old.items ++ answer.now) self.new.items) }
-        ensures front { OnErr result (WritesFront (W.contents writer.old) (W.contents writer.new) (self.old.items ++ answer.now)) }
+    /// Holds back a reply. If there would be too many bytes, or there is no memory for them, all are written instead.
+    pub fn hold<W: Write>(&mut self, writer: &mut W, reply: &[u8]) -> Result<(), WriteFailed>
+        ensures ok { OnOk result (HoldsRest (W.contents writer.old) (W.contents writer.new) (self.old.items ++ reply.now) self.new.items) }
+        ensures front { OnErr result (WritesFront (W.contents writer.old) (W.contents writer.new) (self.old.items ++ reply.now)) }
         ensures most { self.new.most ≡ self.old.most }
     {
-        if self.has_taken(answer) {
+        if self.has_taken(reply) {
             return Ok(());
         }
         match self.write_all(writer) {
             Ok(()) => {}
             Err(fault) => return Err(fault),
         }
-        write_out(writer, answer)
+        write_out(writer, reply)
     }
 
     /// Writes what is held back as a run ends that lacks memory; returns why it ends.
@@ -97,37 +97,37 @@ impl HeldReplies {
     }
 }
 
-/// The answer to the line at hand, and those before it that are held back.
+/// The reply to the line at hand, and those before it that are held back.
 #[derive(Drop)]
 pub(crate) struct Replies {
     alloc: Global,
-    pub answer: Vec<u8>,
+    pub reply: Vec<u8>,
     pub held: HeldReplies,
 }
 
 impl Replies {
-    /// No answers, of which at most this many bytes are to be held back.
+    /// No replies, of which at most this many bytes are to be held back.
     pub fn new(alloc: Global, most: usize) -> Replies
         ensures none { result.held.items ≡ [] }
         ensures most { result.held.most ≡ most }
     {
         Replies {
             alloc,
-            answer: Vec::new(alloc),
+            reply: Vec::new(alloc),
             held: HeldReplies::new(alloc, most),
         }
     }
 
-    /// Makes room for the answer to the next line. The memory of a long answer is given back.
-    pub fn clear_answer(&mut self)
-        ensures answer { self.new.answer.items ≡ [] }
-        ensures room { vec_capacity self.new.answer ≤ 65_536 }
+    /// Makes room for the reply to the next line. The memory of a long reply is given back.
+    pub fn clear_reply(&mut self)
+        ensures reply { self.new.reply.items ≡ [] }
+        ensures room { vec_capacity self.new.reply ≤ 65_536 }
         ensures held { self.new.held ≡ self.old.held }
     {
-        if self.answer.capacity() > KEPT_ROOM {
-            self.answer = Vec::new(self.alloc);
+        if self.reply.capacity() > KEPT_ROOM {
+            self.reply = Vec::new(self.alloc);
         } else {
-            self.answer.clear();
+            self.reply.clear();
         }
     }
 }

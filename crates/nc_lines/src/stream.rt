@@ -1,32 +1,32 @@
-//! The lines of a reader, answered one after another.
+//! The lines of a reader, each with its reply, one after another.
 
 ghost use Rattle.std.specs.Prelude.{◌≡◌, []};
-ghost use Rattle.nc_lines.specs.Answering.{HasAnsweredAll};
+ghost use Rattle.nc_lines.specs.Replying.{HasRepliedToAll};
 ghost use Rattle.nc_lines.specs.machinery.Progress.{FinishesLine};
 
 use crate::fault::ReplayFault;
-use crate::lines::{answer_line, feed};
+use crate::lines::{feed, reply_to_line};
 use crate::replies::Replies;
 use crate::responder::Responder;
 use std::alloc::Global;
 use std::io::{Read, Write};
 
-/// Answers the last line, if it has no line end.
-fn answer_rest<S: Responder, W: Write>(
+/// Replies to the last line, if it has no line end.
+fn reply_to_rest<S: Responder, W: Write>(
     responder: &mut S,
     writer: &mut W,
     replies: &mut Replies,
     line: &[u8],
 ) -> Result<(), ReplayFault>
     requires { replies.old.held.items ≡ [] }
-    ensures finishes { FinishesLine S.answers responder.old (W.contents writer.old) replies.old.held.items line.now
+    ensures finishes { FinishesLine S.replies responder.old (W.contents writer.old) replies.old.held.items line.now
         responder.new (W.contents writer.new) result }
     ensures most { replies.new.held.most ≡ replies.old.held.most }
 {
     if line.is_empty() {
         return Ok(());
     }
-    match answer_line(responder, writer, replies, line) {
+    match reply_to_line(responder, writer, replies, line) {
         Ok(()) => {}
         Err(fault) => return Err(fault),
     }
@@ -36,7 +36,7 @@ fn answer_rest<S: Responder, W: Write>(
     }
 }
 
-/// Answers the last line, if it has no line end, and flushes.
+/// Replies to the last line, if it has no line end, and flushes.
 fn finish<S: Responder, W: Write>(
     responder: &mut S,
     writer: &mut W,
@@ -44,11 +44,11 @@ fn finish<S: Responder, W: Write>(
     line: &[u8],
 ) -> Result<(), ReplayFault>
     requires { replies.old.held.items ≡ [] }
-    ensures finishes { FinishesLine S.answers responder.old (W.contents writer.old) replies.old.held.items line.now
+    ensures finishes { FinishesLine S.replies responder.old (W.contents writer.old) replies.old.held.items line.now
         responder.new (W.contents writer.new) result }
     ensures most { replies.new.held.most ≡ replies.old.held.most }
 {
-    match answer_rest(responder, writer, replies, line) {
+    match reply_to_rest(responder, writer, replies, line) {
         Ok(()) => {}
         Err(fault) => return Err(fault),
     }
@@ -58,35 +58,35 @@ fn finish<S: Responder, W: Write>(
     }
 }
 
-/// Reads all lines and answers each as soon as its line end has been read. Each answer is a write of its own, unless the writer
+/// Reads all lines and replies to each as soon as its line end has been read. Each reply is a write of its own, unless the writer
 /// takes only a part.
-pub fn answer_all<S: Responder, R: Read, W: Write>(
+pub fn reply_to_all<S: Responder, R: Read, W: Write>(
     alloc: Global,
     responder: &mut S,
     reader: &mut R,
     writer: &mut W,
 ) -> Result<(), ReplayFault>
-    ensures { HasAnsweredAll S.answers responder.old responder.new (R.remaining reader.old) (R.remaining reader.new)
+    ensures { HasRepliedToAll S.replies responder.old responder.new (R.remaining reader.old) (R.remaining reader.new)
         (W.contents writer.old) (W.contents writer.new) result }
 {
-    answer_gathered(alloc, responder, reader, writer, 0)
+    reply_gathered(alloc, responder, reader, writer, 0)
 }
 
-/// Reads all lines and answers each, as [`answer_all`], but holds back at most `most` bytes of answers. Held answers are written
-/// together: before more is read, before an answer with which they would be too many, and as the call returns, unless the writer
+/// Reads all lines and replies to each, as [`reply_to_all`], but holds back at most `most` bytes of replies. Held replies are written
+/// together: before more is read, before a reply with which they would be too many, and as the call returns, unless the writer
 /// has failed.
 ///
 /// It is for a responder that neither waits nor writes elsewhere, and for a writer that takes all of a write, or as much of it as
 /// it has room for. A pipe that doesn't block takes a write of at most 4,096 bytes whole or not at all. With such a writer less may
-/// have gone out at a failed write than by [`answer_all`].
-pub fn answer_gathered<S: Responder, R: Read, W: Write>(
+/// have gone out at a failed write than by [`reply_to_all`].
+pub fn reply_gathered<S: Responder, R: Read, W: Write>(
     alloc: Global,
     responder: &mut S,
     reader: &mut R,
     writer: &mut W,
     most: usize,
 ) -> Result<(), ReplayFault>
-    ensures { HasAnsweredAll S.answers responder.old responder.new (R.remaining reader.old) (R.remaining reader.new)
+    ensures { HasRepliedToAll S.replies responder.old responder.new (R.remaining reader.old) (R.remaining reader.new)
         (W.contents writer.old) (W.contents writer.new) result }
 {
     let mut line = Vec::new(alloc);

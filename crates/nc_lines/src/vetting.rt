@@ -10,7 +10,7 @@ ghost use Rattle.nc_lines.specs.machinery.Batch.{HasGathered};
 
 use crate::batch::Batch;
 use crate::fault::ReplayFault;
-use crate::stream::answer_all;
+use crate::stream::reply_to_all;
 use crate::verdicts::push_verdicts;
 use nc_decode::{BUNDLE, START, is_region_size};
 use nc_output::write_out;
@@ -115,7 +115,7 @@ fn gather<R: Read>(alloc: Global, batch: &mut Batch, reader: &mut R) -> Result<(
 {
     // nothing is written here: a gathered line has no reply
     let mut nowhere = Vec::new(alloc);
-    match answer_all(alloc, batch, reader, &mut nowhere) {
+    match reply_to_all(alloc, batch, reader, &mut nowhere) {
         Ok(()) => Ok(()),
         Err(ReplayFault::ReadFailed) => Err(ReplayFault::ReadFailed),
         Err(_) => Err(ReplayFault::OutOfMemory),

@@ -1,9 +1,9 @@
--- What each line is answered, and that it has one answer.
+-- The reply to each line, and that a line has one reply.
 pub mod Serving
 pub mod ChunkRequests
 pub mod SeatRequests
-pub mod LineAnswers
-pub mod OneAnswer
+pub mod LineReplies
+pub mod OnlyReply
 pub mod OneReply
 pub mod Kept
 pub mod RequestWords

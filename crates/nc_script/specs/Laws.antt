@@ -1,8 +1,8 @@
 -- As long as no seat leaves, lines have no other replies than those that a run wrote.
 use Rattle.std.specs.Prelude.{◌≡◌, ◌≢◌, ◌++◌, ℕ, ◌≤◌, Bool, List, [], ◌∷◌, Option, Some, All, Any}
 use Rattle.std.specs.Io.KnownBytes.{Appends}
-use Rattle.nc_lines.specs.Answering.{AnswersLines, IsBegun}
-use Rattle.nc_script.specs.Answers.{AnswersOnly, Serves, ServesLine}
+use Rattle.nc_lines.specs.Replying.{RepliesToLines, IsBegun}
+use Rattle.nc_script.specs.Serving.{IsOnlyReply, Serves, ServesLine}
 use Rattle.nc_output.specs.Verdicts.{with_line_end}
 use Rattle.nc_script.specs.Replies.{freed_reply}
 use Rattle.nc_script.specs.Requests.{Leave, Reclaim, request_in}
@@ -13,25 +13,25 @@ use Rattle.nc_script.specs.Script.{Script, Retired, Staying, Left}
 abbrev pub IsNoLeave : (queries : Bool) → List ℕ → Type 0
 IsNoLeave queries line = (seat : ℕ) → request_in queries line ≢ Some (Leave seat)
 
--- the reply that was written is a prefix of any answers to all of these lines
-pub record BeginsAnswers (queries : Bool) (old : Script) (before after : Option (List ℕ)) (lines : List (List ℕ)) : Type 0 where
+-- the text that was written is a prefix of any replies to all of these lines
+pub record BeginsReplies (queries : Bool) (old : Script) (before after : Option (List ℕ)) (lines : List (List ℕ)) : Type 0 where
   pub reply : List ℕ
   pub written : Appends before after reply
-  pub begins : (all : List ℕ) (last : Script) → AnswersLines (ServesLine queries) old lines all last
+  pub begins : (all : List ℕ) (last : Script) → RepliesToLines (ServesLine queries) old lines all last
       → (rest : List ℕ) × (all ≡ reply ++ rest)
 
 -- if no seat has left and no line asks for a leave, lines have only one reply and lead to only one state
 abbrev pub HasOneReply : Type 0
 HasOneReply = (queries : Bool) (old : Script) (lines : List (List ℕ)) (reply other : List ℕ) (new next : Script) → AllStay old
-    → All (IsNoLeave queries) lines → AnswersLines (AnswersOnly queries) old lines reply new
-    → AnswersLines (ServesLine queries) old lines other next → (other ≡ reply) × (next ≡ new)
+    → All (IsNoLeave queries) lines → RepliesToLines (IsOnlyReply queries) old lines reply new
+    → RepliesToLines (ServesLine queries) old lines other next → (other ≡ reply) × (next ≡ new)
 
--- if no seat has left and no line asks for a leave, the part written of the answers to some first lines is a prefix of the
--- answers to all lines
+-- if no seat has left and no line asks for a leave, the part written of the replies to some first lines is a prefix of the
+-- replies to all lines
 abbrev pub BeginsAll : Type 0
 BeginsAll = (queries : Bool) (old : Script) (before after : Option (List ℕ)) (lines : List (List ℕ)) → AllStay old
-    → All (IsNoLeave queries) lines → IsBegun (AnswersOnly queries) old before after lines
-    → BeginsAnswers queries old before after lines
+    → All (IsNoLeave queries) lines → IsBegun (IsOnlyReply queries) old before after lines
+    → BeginsReplies queries old before after lines
 
 -- while no seat has left, the number by which a reclaim frees is the least number of all seats
 abbrev pub FreesByLeast : Type 0

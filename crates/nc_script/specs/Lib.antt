@@ -5,6 +5,6 @@ pub mod Reuse
 pub mod Replies
 pub mod Queries
 pub mod Requests
-pub mod Answers
+pub mod Serving
 pub mod Run
 pub mod Laws

@@ -75,7 +75,7 @@ single_in request (word ∷ words) = None
 abbrev pub ask_in : List ℕ → List (List ℕ) → Option Request
 ask_in word words = option_and_then (λ query. single_in (Ask query) words) (query_in word)
 
--- the request made by the words of a line, if they make one; `chunk` makes one only where queries are answered
+-- the request made by the words of a line, if they make one; `chunk` makes one only where queries are taken
 abbrev pub request_of : (queries : Bool) → List (List ℕ) → Option Request
 request_of queries [] = None
 request_of queries (word ∷ words) =

@@ -19,7 +19,7 @@ pub data ScriptSeat : Type 0 where
   Staying : (number : ℕ) → ScriptSeat
   Left : (number : ℕ) → ScriptSeat
 
--- The state that answers depend on. The chunks are in ascending order of their bases; `freed` is the number by which the last
+-- The state that replies depend on. The chunks are in ascending order of their bases; `freed` is the number by which the last
 -- reclaim freed chunks, initially 0.
 pub record Script : Type 0 where
   pub limit : ℕ

@@ -2,17 +2,17 @@
 //!
 //! [`run`] runs a script over any reader and writer: it creates, patches, deletes and reclaims chunks in a code region, whose
 //! threads check in and leave, walks through them and shows them. The calls of `nc_lines` read the lines and write the replies;
-//! `session` answers a line, by the calls of a region and those on its threads' seats (`seats`). `request` parses the request
-//! that a line makes, and `query` answers lines that change nothing. [`run_gathered`] writes replies together, and [`run_queries`] also
-//! answers `chunk` lines.
+//! `session` replies to a line, by the calls of a region and those on its threads' seats (`seats`). `request` parses the request
+//! that a line makes, and `query` replies to lines that change nothing. [`run_gathered`] writes replies together, and [`run_queries`] also
+//! takes `chunk` lines.
 #![tactic(auto)]
 
-mod answer;
 mod query;
 mod replay;
+mod reply;
 mod request;
 mod seats;
 mod session;
 mod words;
 
-pub use replay::{law_of_answers, run, run_gathered, run_queries};
+pub use replay::{law_of_replies, run, run_gathered, run_queries};

@@ -7,7 +7,7 @@ ghost use Rattle.nc_script.specs.Requests.{Ask};
 ghost use Rattle.nc_script.specs.Script.{ScriptSeat};
 ghost use Rattle.nc_script.specs.machinery.Session.{FollowsIn, script_chunk, script_of};
 
-use crate::answer::push_chunk;
+use crate::reply::push_chunk;
 use crate::words::is_word;
 use nc_region::{Acts, RegionOf};
 use std::alloc::{AllocError, Global};
@@ -31,8 +31,8 @@ pub(crate) fn query_of(word: &[u8]) -> Option<Query>
     None
 }
 
-/// Answers a query.
-pub(crate) fn answer_query<A: Acts + Drop>(
+/// Replies to a query.
+pub(crate) fn reply_to_query<A: Acts + Drop>(
     alloc: Global,
     region: &RegionOf<A>,
     query: Query,

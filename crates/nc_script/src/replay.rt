@@ -10,22 +10,22 @@ use crate::seats::Seats;
 use crate::session::Session;
 use nc_decode::is_region_size;
 use nc_gens::{Gens, MOST_SEATS};
-use nc_lines::{ReplayFault, answer_gathered};
+use nc_lines::{ReplayFault, reply_gathered};
 use nc_region::Region;
 use std::alloc::Global;
 use std::io::{Read, Write};
 
-/// How the lines of a script are answered.
+/// How a script is run.
 #[derive(Clone, Copy)]
 struct Manner {
-    /// The most bytes of answers that are held back.
+    /// The most bytes of replies that are held back.
     most: usize,
-    /// Whether `chunk` lines are answered.
+    /// Whether `chunk` lines are taken; otherwise they are bad lines.
     queries: bool,
 }
 
-/// Runs a script on a new region of `bundles` bundles, for threads with `seats` seats: reads its lines, and writes the answer
-/// to each as soon as its line end has been read. Each answer is a write of its own, unless the writer takes only a part.
+/// Runs a script on a new region of `bundles` bundles, for threads with `seats` seats: reads its lines, and writes the reply
+/// to each as soon as its line end has been read. Each reply is a write of its own, unless the writer takes only a part.
 ///
 /// A line ends at a byte 0A or at the end of the input, and begins with one of these words:
 ///
@@ -37,7 +37,7 @@ struct Manner {
 /// - `walk` with an address and choices shows the places of a walk and its end;
 /// - `dump` shows every chunk.
 ///
-/// Any other line, and any line of more than 1,048,576 bytes, is answered as a bad line. The promises about bytes hold for a
+/// Any other line, and any line of more than 1,048,576 bytes, is a bad line. The promises about bytes hold for a
 /// reader and a writer whose bytes are known; nothing is promised about when a device fails.
 pub fn run<R: Read, W: Write>(
     alloc: Global,
@@ -51,8 +51,8 @@ pub fn run<R: Read, W: Write>(
     run_gathered(alloc, reader, writer, bundles, seats, 0)
 }
 
-/// Runs a script as [`run`] does, but holds back at most `most` bytes of answers and writes them together, at the moments and for the
-/// writers that `answer_gathered` of `nc_lines` names.
+/// Runs a script as [`run`] does, but holds back at most `most` bytes of replies and writes them together, at the moments and for the
+/// writers that `reply_gathered` of `nc_lines` names.
 pub fn run_gathered<R: Read, W: Write>(
     alloc: Global,
     reader: &mut R,
@@ -70,7 +70,7 @@ pub fn run_gathered<R: Read, W: Write>(
     run_in(alloc, reader, writer, bundles, seats, manner)
 }
 
-/// Runs a script as [`run_gathered`] does, but also answers lines with the word `chunk` and an address. They show the chunk that has the
+/// Runs a script as [`run_gathered`] does, but also takes lines with the word `chunk` and an address. They show the chunk that has the
 /// address, or else the first one above it.
 pub fn run_queries<R: Read, W: Write>(
     alloc: Global,
@@ -131,20 +131,20 @@ fn run_new<R: Read, W: Write>(
     match Region::new(alloc, bundles, &gens, keeper) {
         Ok(region) => {
             let mut session = Session::new(alloc, region, threads, manner.queries);
-            answer_gathered(alloc, &mut session, reader, writer, manner.most)
+            reply_gathered(alloc, &mut session, reader, writer, manner.most)
         }
         Err(_) => Err(ReplayFault::OutOfMemory),
     }
 }
 
-/// As long as no seat leaves, the answers of a run depend on the script alone. Lines have no other answers than those that a run
-/// wrote, and a part that it wrote is a prefix of the answers to all lines. A reclaim frees by the least number of all seats. The
+/// As long as no seat leaves, the replies of a run depend on the script alone. Lines have no other replies than those that a run
+/// wrote, and a part that it wrote is a prefix of the replies to all lines. A reclaim frees by the least number of all seats. The
 /// function does nothing when called.
-pub fn law_of_answers()
+pub fn law_of_replies()
     ensures one_text { HasOneReply }
     ensures begins_all { BeginsAll }
     ensures least { FreesByLeast }
 
-    // Once a seat has left, a reclaim can have two answers.
+    // Once a seat has left, a reclaim can have two replies.
     ensures leaves_open { LeavesOpen }
 {}

@@ -143,7 +143,7 @@ fn walk_of(alloc: Global, text: &[u8]) -> Result<Option<Request>, AllocError>
     }
 }
 
-/// The request made by a line, or nothing if it is a bad line, as one with `chunk` is unless `queries` are answered.
+/// The request made by a line, or nothing if it is a bad line, as one with `chunk` is unless `queries` are taken.
 pub(crate) fn request_of(
     alloc: Global,
     line: &[u8],
@@ -186,7 +186,7 @@ fn asked_alone(key: &[u8]) -> Option<Request>
     Some(Request::Ask { query })
 }
 
-/// Whether a word begins the lines of a query, and these are answered.
+/// Whether a word begins the lines of a query, and these are taken.
 fn begins_query(key: &[u8], queries: bool) -> bool
     ensures { result ≡ (queries && spelling.is_word key.now (codes "chunk")) }
 {

@@ -1,4 +1,4 @@
-//! Answering a script's lines by the calls of a region.
+//! Replies to a script's lines, by the calls of a region.
 
 ghost use Rattle.std.specs.Prelude.{◌≡◌, ◌++◌, List, ℕ, OnOk, ◌<◌};
 ghost use Rattle.nc_region.specs.Region.{IsRegion, Region};
@@ -6,10 +6,10 @@ ghost use Rattle.nc_script.specs.Requests.{Create, Modify, Delete, CheckIn, Leav
 ghost use Rattle.nc_script.specs.machinery.Session.{Follows, FollowsIn, FollowsLine};
 ghost use Rattle.nc_script.specs.machinery.Shown.{shown};
 
-use crate::answer::{
+use crate::query::reply_to_query;
+use crate::reply::{
     push_create_fault, push_delete_fault, push_freed, push_patch_fault, push_stamp, push_trace,
 };
-use crate::query::answer_query;
 use crate::request::{Request, request_of};
 use crate::seats::Seats;
 use nc_lines::Responder;
@@ -19,13 +19,13 @@ use nc_vet::vet;
 use std::alloc::{AllocError, Global};
 use std::marker::Model;
 
-/// A region and its threads' seats, whose calls answer a script's lines.
+/// A region and its threads' seats, by whose calls a script's lines get their replies.
 #[derive(Drop)]
 pub struct Session<'g> {
     alloc: Global,
     region: Region<'g>,
     seats: Seats<'g>,
-    /// Whether `chunk` lines are answered.
+    /// Whether `chunk` lines are taken; otherwise they are bad lines.
     queries: bool,
 }
 
@@ -41,7 +41,7 @@ impl<'g> Model for Session<'g> {
 }
 
 impl<'g> Session<'g> {
-    /// A session over a region and its threads' seats, whose passes belong to the region's table. It answers `chunk` lines if
+    /// A session over a region and its threads' seats, whose passes belong to the region's table. It takes `chunk` lines if
     /// `queries` are wanted.
     pub fn new(alloc: Global, region: Region<'g>, seats: Seats<'g>, queries: bool) -> Session<'g>
         requires { region.keeper.table ≡ seats.table }
@@ -57,9 +57,9 @@ impl<'g> Session<'g> {
 }
 
 impl<'g> Responder for Session<'g> {
-    ghost answers = { FollowsLine };
+    ghost replies = { FollowsLine };
 
-    fn answer(&mut self, kept: &[u8], out: &mut Vec<u8>) -> Result<(), AllocError> {
+    fn reply(&mut self, kept: &[u8], out: &mut Vec<u8>) -> Result<(), AllocError> {
         // Called for its contract only.
         let _facts = self.region.limit();
         match request_of(self.alloc, kept, self.queries)? {
@@ -69,7 +69,7 @@ impl<'g> Responder for Session<'g> {
     }
 }
 
-/// Answers a request.
+/// Replies to a request.
 fn serve<A: Acts + Drop>(
     alloc: Global,
     region: &mut RegionOf<A>,
@@ -85,19 +85,19 @@ fn serve<A: Acts + Drop>(
     ensures table { region.new.keeper.table ≡ seats.new.table }
 {
     match request {
-        Request::Create { at, bytes } => answer_create(region, at, bytes, out),
-        Request::Modify { at, bytes } => answer_modify(region, at, &bytes, out),
-        Request::Delete { base } => answer_delete(alloc, region, base, out),
-        Request::CheckIn { seat } => answer_check_in(region, seats, seat, out),
-        Request::Leave { seat } => answer_leave(seats, seat, out),
-        Request::Reclaim => answer_reclaim(alloc, region, seats, out),
-        Request::Walk { start, choices } => answer_walk(region, start, &choices, out),
-        Request::Ask { query } => answer_query(alloc, region, query, out),
+        Request::Create { at, bytes } => reply_to_create(region, at, bytes, out),
+        Request::Modify { at, bytes } => reply_to_modify(region, at, &bytes, out),
+        Request::Delete { base } => reply_to_delete(alloc, region, base, out),
+        Request::CheckIn { seat } => reply_to_check_in(region, seats, seat, out),
+        Request::Leave { seat } => reply_to_leave(seats, seat, out),
+        Request::Reclaim => reply_to_reclaim(alloc, region, seats, out),
+        Request::Walk { start, choices } => reply_to_walk(region, start, &choices, out),
+        Request::Ask { query } => reply_to_query(alloc, region, query, out),
     }
 }
 
 /// Vets a chunk for the region's limit and creates it.
-fn answer_create<A: Acts + Drop>(
+fn reply_to_create<A: Acts + Drop>(
     region: &mut RegionOf<A>,
     base: u32,
     bytes: Vec<u8>,
@@ -119,7 +119,7 @@ fn answer_create<A: Acts + Drop>(
 }
 
 /// Replaces instructions of a live chunk.
-fn answer_modify<A: Acts + Drop>(
+fn reply_to_modify<A: Acts + Drop>(
     region: &mut RegionOf<A>,
     at: u32,
     bytes: &[u8],
@@ -137,7 +137,7 @@ fn answer_modify<A: Acts + Drop>(
 }
 
 /// Deletes a live chunk.
-fn answer_delete<A: Acts + Drop>(
+fn reply_to_delete<A: Acts + Drop>(
     alloc: Global,
     region: &mut RegionOf<A>,
     base: u32,
@@ -155,7 +155,7 @@ fn answer_delete<A: Acts + Drop>(
 }
 
 /// A seat checks in.
-fn answer_check_in<A: Acts + Drop>(
+fn reply_to_check_in<A: Acts + Drop>(
     region: &mut RegionOf<A>,
     seats: &mut Seats<'_>,
     seat: u32,
@@ -175,7 +175,7 @@ fn answer_check_in<A: Acts + Drop>(
 }
 
 /// A seat leaves for good.
-fn answer_leave(seats: &mut Seats<'_>, seat: u32, out: &mut Vec<u8>) -> Result<(), AllocError>
+fn reply_to_leave(seats: &mut Seats<'_>, seat: u32, out: &mut Vec<u8>) -> Result<(), AllocError>
     ensures follows { (region : Region) → OnOk result ((reply : List ℕ) × (out.new.items ≡ out.old.items ++ reply)
         × Follows (Leave seat) (record { region = region; seats = seats.old }) reply (record { region = region; seats = seats.new })) }
     ensures table { seats.new.table ≡ seats.old.table }
@@ -189,7 +189,7 @@ fn answer_leave(seats: &mut Seats<'_>, seat: u32, out: &mut Vec<u8>) -> Result<(
 
 /// Frees the spans of deleted chunks, as far as the seats allow. The keeper meets every seat afterwards, which shows the
 /// number by which it freed.
-fn answer_reclaim<A: Acts + Drop>(
+fn reply_to_reclaim<A: Acts + Drop>(
     alloc: Global,
     region: &mut RegionOf<A>,
     seats: &mut Seats<'_>,
@@ -206,7 +206,7 @@ fn answer_reclaim<A: Acts + Drop>(
 }
 
 /// Walks through the region.
-fn answer_walk<A: Acts + Drop>(
+fn reply_to_walk<A: Acts + Drop>(
     region: &RegionOf<A>,
     start: u32,
     choices: &[u32],

@@ -39,7 +39,7 @@ pub record HasVettedLines {R W T : Type 0} (bundles workers : ℕ) (remaining : 
       HasBegunVetted (limit_after bundles) (contents writer) (contents after) (lines_of input))
   pub unwritten : IfErr result (λ fault. fault ≢ WriteFailed → after ≡ writer)
 
--- the effect of this work, by its result: a script was run, whose `chunk` lines are answered if queries are, or lines were vetted
+-- the effect of this work, by its result: a script was run, whose `chunk` lines are requests if queries are taken, or lines were vetted
 abbrev pub IsDone : {R W T : Type 0} → (queries : Bool) → Ask → (R → Option (List ℕ)) → (W → Option (List ℕ))
     → (reader left : R) (writer after : W) → Result T ReplayFault → Type 0
 IsDone queries (Replay bundles seats) remaining contents reader left writer after result =

@@ -16,7 +16,7 @@ use std::sync::Wait;
 use std::thread::Threads;
 
 /// Carries out the words of a command line, which don't begin with the program's own name. It runs a script, or vets lines of chunks
-/// by workers. The words are those that `ask` of `nc_command` takes. Each answer to a script's line is a write of its own.
+/// by workers. The words are those that `ask` of `nc_command` takes. Each reply to a script's line is a write of its own.
 pub fn start<'a, T: Threads + Wait + Sync, R: Read, W: Write>(
     rt: &T,
     alloc: Global,
@@ -47,8 +47,8 @@ pub fn start<'a, T: Threads + Wait + Sync, R: Read, W: Write>(
     }
 }
 
-/// Does the work that a command line asks for. Of a script's answers at most `most` bytes are held back and written together, and
-/// its `chunk` lines are answered if that is asked for. Lines and refusals are explained by the reader and the writer, if at all.
+/// Does the work that a command line asks for. Of a script's replies at most `most` bytes are held back and written together, and
+/// its `chunk` lines are taken if that is asked for. Lines and refusals are explained by the reader and the writer, if at all.
 pub fn carry_out<T: Threads + Wait + Sync, R: Read, W: Write>(
     rt: &T,
     alloc: Global,

@@ -11,7 +11,7 @@ use nc_lines::ReplayFault;
 pub enum Halt {
     /// The words of the command line can't be carried out, or ask for help or the version.
     Words(clap::Error),
-    /// A script or the lines of chunks could not be answered completely.
+    /// The replies to a script or to lines of chunks could not be completed.
     Fault(ReplayFault),
 }
 

@@ -46,7 +46,7 @@ impl<'r, E: Eprint> Lines<'r, E> {
 
 /// Passes on the bytes of a reader, and says what is wrong with each line of a request that gets the reply `bad line`.
 ///
-/// A read gives one byte. So whoever answers each line as it ends has answered all lines before the one that is explained.
+/// A read gives one byte. So whoever replies to each line as it ends has replied to all lines before the one that is explained.
 #[derive(Drop)]
 pub struct ExplainedInput<'r, R, E> {
     reader: R,

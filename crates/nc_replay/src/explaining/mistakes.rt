@@ -159,7 +159,7 @@ fn mistake_in_bytes_of(line: &[u8]) -> Option<Mistake> {
 const UNKNOWN: &str =
     "a request begins with create, modify, delete, checkin, leave, reclaim, walk or dump, in lower case";
 
-/// What is said of a line that begins with no request, where queries are answered.
+/// What is said of a line that begins with no request, where queries are taken.
 const UNKNOWN_QUERY: &str =
     "a request begins with create, modify, delete, checkin, leave, reclaim, walk, dump or chunk, in lower case";
 

@@ -27,7 +27,7 @@ pub(crate) struct Request {
     pub word: &'static [u8],
     /// The words after it.
     pub words: Shape,
-    /// Whether its lines are answered only where queries are.
+    /// Whether its lines are taken only where queries are.
     pub is_query: bool,
 }
 

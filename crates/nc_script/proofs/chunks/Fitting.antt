@@ -6,7 +6,7 @@ use Rattle.nc_region.specs.Each.{Each}
 use Rattle.nc_region.specs.Region.{Region}
 use Rattle.nc_script.specs.Requests.{Request}
 use Rattle.nc_script.specs.Script.{ScriptSeat, Staying, Left}
-use Rattle.nc_script.specs.Answers.{Serves}
+use Rattle.nc_script.specs.Serving.{Serves}
 use Rattle.nc_script.specs.machinery.Session.{script_of, SeatFits, SeatsFit, IsStamped, FollowsIn}
 
 -- the stamps of chunks aren't above a generation

@@ -10,7 +10,7 @@ use Rattle.nc_gens.specs.Seen.{PassState, KeeperState, first_pass, new_passes, f
 use Rattle.nc_text.specs.MarkedText.{MarkedText, unused_text}
 use Rattle.nc_text.specs.Ready.{unmade_pages}
 use Rattle.nc_region.specs.Region.{Region}
-use Rattle.nc_script.specs.Answers.{new_script}
+use Rattle.nc_script.specs.Serving.{new_script}
 use Rattle.nc_script.specs.Script.{ScriptSeat, Staying, Left}
 use Rattle.nc_script.specs.machinery.Session.{SeatsState, SessionState, FitsSession, SeatFits, script_of}
 use Rattle.nc_gens.proofs.Offered.{length-new_passes}

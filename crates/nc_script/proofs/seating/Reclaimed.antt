@@ -1,4 +1,4 @@
--- What a reclaim of a session answers is what the script answers.
+-- The reply to a reclaim of a session is the script's.
 use Rattle.std.proofs.Common.{◌≡◌, ◌≢◌, ℕ, ◌<◌, ◌≤◌, ◌^◌, min, List, length, map, get_or, Option, Some, None}
 use Rattle.std.proofs.Common.{sym, ap, ◌∙◌}
 use Rattle.std.proofs.Common.{subst, arith}

@@ -1,4 +1,4 @@
--- What a patch and a deletion of a region's chunk answer is what the script answers.
+-- The replies to a patch and a deletion of a region's chunk are the script's.
 use Rattle.std.proofs.Common.{◌≡◌, ℕ, ◌+◌, ◌-◌, ◌≤◌, List, ◌∷◌, length, map, set, take, drop, inl, inr, refl, sym, ap, ◌∙◌, subst}
 use Rattle.std.proofs.Common.{replicate, arith}
 use Rattle.std.specs.Prelude.{codes}

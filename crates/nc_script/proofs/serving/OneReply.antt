@@ -4,10 +4,10 @@ use Rattle.std.proofs.Common.{subst, append_assoc, arith, zero, suc}
 use Rattle.std.specs.Prelude.{All, MatchOption}
 use Rattle.std.proofs.lemmas.List.Elements.{All-tail, All-take}
 use Rattle.std.proofs.lemmas.List.{take_at}
-use Rattle.nc_lines.specs.Answering.{AnswersLines}
+use Rattle.nc_lines.specs.Replying.{RepliesToLines}
 use Rattle.nc_lines.specs.Lines.{bad_line}
 use Rattle.nc_script.specs.Requests.{Request, Create, Modify, Delete, CheckIn, Leave, Reclaim, Walk, Ask, request_in}
-use Rattle.nc_script.specs.Answers.{Serves, ServesLine}
+use Rattle.nc_script.specs.Serving.{Serves, ServesLine}
 use Rattle.nc_script.specs.Laws.{HasOneReply, BeginsAll, FreesByLeast, IsNoLeave, LeavesOpen, one_left}
 use Rattle.nc_script.specs.Reuse.{AllStay, Stays, LetsFree, number_of, IsFreeingNumber}
 use Rattle.nc_script.specs.Script.{Script, ScriptSeat, Staying, Left}
@@ -50,38 +50,38 @@ stay_on_line (Some request) old reply new not_leave stay h =
 pub one_text : HasOneReply
 one_text queries old [] reply other new next stay none a b = (b.0 ∙ sym a.0, b.1 ∙ sym a.1)
 one_text queries old (line ∷ lines) reply other new next stay none a b =
-    let (mid, answer, rest, one, e, more) = a in
+    let (mid, text, rest, one, e, more) = a in
     let (also, second, others, two, f, same_so) = b in
     let same = one.only (inr stay) second also two in
-    let still = stay_on_line (request_in queries line) old answer mid (none 0 line (omega arith)) stay one.serves in
+    let still = stay_on_line (request_in queries line) old text mid (none 0 line (omega arith)) stay one.serves in
     let on = one_text queries mid lines rest others new next still (All-tail (IsNoLeave queries) line lines none) more
-    (subst (λ (s : Script). AnswersLines (ServesLine queries) s lines others next) same.1 same_so) in
-    (f ∙ (ap (λ (t : List ℕ). t ++ others) same.0 ∙ (ap (λ (t : List ℕ). answer ++ t) on.0 ∙ sym e)), on.1)
+    (subst (λ (s : Script). RepliesToLines (ServesLine queries) s lines others next) same.1 same_so) in
+    (f ∙ (ap (λ (t : List ℕ). t ++ others) same.0 ∙ (ap (λ (t : List ℕ). text ++ t) on.0 ∙ sym e)), on.1)
 
--- the answers to lines begin with the answers to the first of them
-first_answers : (queries : Bool) (old : Script) (first others : List (List ℕ)) (all : List ℕ) (last : Script)
-    → AnswersLines (ServesLine queries) old (first ++ others) all last
-    → (mid : Script) × (reply : List ℕ) × (rest : List ℕ) × AnswersLines (ServesLine queries) old first reply mid × (all ≡ reply ++ rest)
-first_answers queries old [] others all last h = (old, [], all, (refl, refl), refl)
-first_answers queries old (line ∷ first) others all last h =
-    let (mid, answer, more, one, e, on) = h in
-    let (end, reply, rest, so, f) = first_answers queries mid first others more last on in (
+-- the replies to lines begin with the replies to the first of them
+first_replies : (queries : Bool) (old : Script) (first others : List (List ℕ)) (all : List ℕ) (last : Script)
+    → RepliesToLines (ServesLine queries) old (first ++ others) all last
+    → (mid : Script) × (reply : List ℕ) × (rest : List ℕ) × RepliesToLines (ServesLine queries) old first reply mid × (all ≡ reply ++ rest)
+first_replies queries old [] others all last h = (old, [], all, (refl, refl), refl)
+first_replies queries old (line ∷ first) others all last h =
+    let (mid, text, more, one, e, on) = h in
+    let (end, reply, rest, so, f) = first_replies queries mid first others more last on in (
       end,
-      answer ++ reply,
+      text ++ reply,
       rest,
-      (mid, answer, reply, one, refl, so),
-      e ∙ (ap (λ (t : List ℕ). answer ++ t) f ∙ sym (append_assoc answer reply rest)),
+      (mid, text, reply, one, refl, so),
+      e ∙ (ap (λ (t : List ℕ). text ++ t) f ∙ sym (append_assoc text reply rest)),
     )
 
--- a beginning of the answers to first lines is one of all answers
+-- a beginning of the replies to first lines is one of all replies
 pub begins_all : BeginsAll
 begins_all queries old before after lines stay none begun = record {
   reply = begun.reply;
   written = begun.written;
   begins = λ all last h.
       let (mid, reply, rest, so, e) =
-      first_answers queries old begun.first begun.others all last
-      (subst (λ (ls : List (List ℕ)). AnswersLines (ServesLine queries) old ls all last) begun.split h) in
+      first_replies queries old begun.first begun.others all last
+      (subst (λ (ls : List (List ℕ)). RepliesToLines (ServesLine queries) old ls all last) begun.split h) in
       let none_first = subst (All (IsNoLeave queries)) (take_at begun.first begun.others (length begun.first) refl)
       (All-take (IsNoLeave queries) (length begun.first) (begun.first ++ begun.others) (subst (All (IsNoLeave queries)) begun.split none)) in
       let same = one_text queries old begun.first (begun.reply ++ begun.missing) reply begun.new mid stay none_first begun.runs so in

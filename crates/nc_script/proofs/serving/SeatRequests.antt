@@ -1,11 +1,11 @@
--- What a check-in, a leave and a reclaim of a session answer is what the script answers.
+-- The replies to a check-in, a leave and a reclaim of a session are the script's.
 use Rattle.std.proofs.Common.{◌≡◌, ℕ, List, get_or, set, Option, Some, None, inl, inr, refl, sym, ap, ◌∙◌, subst}
 use Rattle.std.proofs.Common.{arith}
 use Rattle.std.specs.Prelude.{codes}
 use Rattle.std.proofs.lemmas.List.{set-get_or}
 use Rattle.nc_gens.specs.Seen.{PassState}
 use Rattle.nc_region.specs.Region.{Region}
-use Rattle.nc_script.specs.Answers.{IsNoSeat}
+use Rattle.nc_script.specs.Serving.{IsNoSeat}
 use Rattle.nc_script.specs.Requests.{Request, CheckIn, Leave}
 use Rattle.nc_script.specs.Script.{ScriptSeat, Staying, Left}
 use Rattle.nc_output.specs.Verdicts.{with_line_end, refused_words}
@@ -14,7 +14,7 @@ use Rattle.nc_script.specs.machinery.Seats.{HasPass, HasNoPass, HasCheckedAt}
 use Rattle.nc_script.proofs.chunks.Fitting.{AreStamped}
 use Rattle.nc_script.proofs.seating.SeatStates.{seats_set, seat_there, seat_gone}
 
--- a check-in of a seat that is there is answered with `ok`
+-- the reply to a check-in of a seat that is there is `ok`
 pub checked_follows : (seat : ℕ) (old : SeatsState) (before : Region) (new : SeatsState) (after : Region)
     → HasCheckedAt seat old.passes before new.passes after
     → Follows (CheckIn seat) (record { region = before; seats = old }) (with_line_end (codes "ok")) (record { region = after; seats = new })
@@ -50,7 +50,7 @@ checked_follows seat old before new after h seats freed fits =
       },
     )
 
--- a leave of a seat that is there is answered with `ok`
+-- the reply to a leave of a seat that is there is `ok`
 pub left_follows : (seat : ℕ) (old : SeatsState) (region : Region) (new : SeatsState) (p : PassState) → HasPass old.passes seat p
     → new.passes ≡ set old.passes seat None
     → Follows (Leave seat) (record { region = region; seats = old }) (with_line_end (codes "ok")) (record { region = region; seats = new })
@@ -106,7 +106,7 @@ same_state before after old new region table passes = λ j. record {
   seats = record { table = sym table j; passes = sym passes j };
 }
 
--- an answer that leaves a state as it is leads to each state with the same parts
+-- a reply that leaves a state as it is leads to each state with the same parts
 pub follows_same : (request : Request) (before after : Region) (old new : SeatsState) (reply : List ℕ) → after ≡ before
     → new.table ≡ old.table → new.passes ≡ old.passes
     → Follows request (record { region = before; seats = old }) reply (record { region = before; seats = old })

@@ -1,4 +1,4 @@
--- What a session's calls answer is what the script answers.
+-- The replies of a session's calls are the script's.
 use Rattle.std.proofs.Common.{◌≡◌, ◌≢◌, ℕ, ◌+◌, ◌-◌, ◌≤◌, length, map, arith, List, inl, inr, refl, sym, ap, ◌∙◌, subst}
 use Rattle.std.specs.Prelude.{codes}
 use Rattle.nc_list.specs.declared.chunk.Chunk.{Chunk}
@@ -17,7 +17,7 @@ use Rattle.nc_vet.specs.declared.fault.VetFault.TheVariants.{OutOfMemory}
 use Rattle.nc_text.specs.Places.{limit_of}
 use Rattle.nc_script.specs.Requests.{Create, Walk}
 use Rattle.nc_output.specs.Verdicts.{IsValidAt}
-use Rattle.nc_script.specs.Answers.{Serves}
+use Rattle.nc_script.specs.Serving.{Serves}
 use Rattle.nc_script.specs.machinery.Session.{script_of, script_chunk}
 use Rattle.nc_output.specs.Verdicts.{with_line_end, refused_words, fault_words}
 use Rattle.nc_script.specs.Replies.{walk_reply}

@@ -12,7 +12,7 @@ use Rattle.nc_text.specs.Places.{limit_of}
 use Rattle.nc_region.specs.Region.{Region}
 use Rattle.nc_script.specs.Script.{Script, ScriptChunk, ScriptChunkState, Live, Retired, ScriptSeat, Staying, Left}
 use Rattle.nc_script.specs.Requests.{Request}
-use Rattle.nc_script.specs.Answers.{Serves, AnswersOnly}
+use Rattle.nc_script.specs.Serving.{Serves, IsOnlyReply}
 
 -- the bytes of a span of the region
 abbrev pub bytes_at : List ℕ → ℕ → ℕ → List ℕ
@@ -79,26 +79,26 @@ pub record FitsSession (session : SessionState) (seats : List ScriptSeat) (freed
   pub stamps : Each (λ (c : Chunk). IsStamped session.region.keeper.numbers.generation c.state) session.region.chunks
   pub seats_fit : SeatsFit session.region.keeper.numbers.generation freed session.seats.passes session.region.keeper.numbers.bounds seats
 
--- whatever state the session represented, this answers the request, and leads to a state that it represents now
+-- whatever state the session represented, this is a reply to the request, and leads to a state that it represents now
 abbrev pub Follows : Request → SessionState → List ℕ → SessionState → Type 0
 Follows request old reply new = (seats : List ScriptSeat) (freed : ℕ) → FitsSession old seats freed
     → (next : List ScriptSeat) × (number : ℕ) × Serves request (script_of old.region seats freed) reply (script_of new.region next number)
     × FitsSession new next number
 
--- a session that answers queries or doesn't
+-- a session that takes queries or doesn't
 pub record SessionOf : Type 0 where
   pub queries : Bool
   pub state : SessionState
 
--- whatever state the session represented, this answers the line, and leads to a state that it represents now
+-- whatever state the session represented, this is a reply to the line, and leads to a state that it represents now
 abbrev pub FollowsLine : SessionOf → List ℕ → List ℕ → SessionOf → Type 0
 FollowsLine old line reply new =
     (new.queries ≡ old.queries) × ((seats : List ScriptSeat) (freed : ℕ) → FitsSession old.state seats freed
     → (next : List ScriptSeat) × (number : ℕ)
-    × AnswersOnly old.queries (script_of old.state.region seats freed) line reply (script_of new.state.region next number)
+    × IsOnlyReply old.queries (script_of old.state.region seats freed) line reply (script_of new.state.region next number)
     × FitsSession new.state next number)
 
--- whatever state the region and any seats represented, this answers the request, and leads to a state that they represent now
+-- whatever state the region and any seats represented, this is a reply to the request, and leads to a state that they represent now
 abbrev pub FollowsIn : Request → Region → List ℕ → Region → Type 0
 FollowsIn request old reply new = (seats : SeatsState)
     → Follows request (record { region = old; seats = seats }) reply (record { region = new; seats = seats })

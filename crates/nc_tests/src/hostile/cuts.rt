@@ -33,7 +33,7 @@ fn are_replies(written: &[u8], front: &[u8]) -> bool {
 }
 
 /// Whether the first bytes of the script get their replies.
-fn is_answered(alloc: Global, front: &[u8]) -> bool {
+fn gets_replies(alloc: Global, front: &[u8]) -> bool {
     let mut written = Vec::new(alloc);
     let mut reader = front;
     let end = replay(alloc, &mut reader, &mut written);
@@ -53,7 +53,7 @@ fn is_whole(alloc: Global) -> bool {
 fn cuts(rt: HostRuntime) -> Result<(), Fail> {
     right(is_whole(rt.alloc()), SCRIPT.len() as u32)?;
     for k in 0..SCRIPT.len() {
-        right(is_answered(rt.alloc(), &SCRIPT[..k]), k as u32)?;
+        right(gets_replies(rt.alloc(), &SCRIPT[..k]), k as u32)?;
     }
     Ok(())
 }

@@ -68,7 +68,7 @@ impl Run {
         end == self.due && rest.len() == self.unread && writer.has(self.output)
     }
 
-    /// Whether the lines are answered as a script.
+    /// Whether the lines are run as a script.
     fn is_replayed(&self, alloc: Global, mut writer: Slow) -> bool {
         let mut rest = self.lines;
         let end = replay(alloc, &mut rest, &mut writer, self.bundles, self.number);

@@ -112,7 +112,7 @@ fn done(
     }
 }
 
-/// Each answer to a script's line is a write of its own, and a line with `chunk` is a bad line. The last bundle of a region is no
+/// Each reply to a script's line is a write of its own, and a line with `chunk` is a bad line. The last bundle of a region is no
 /// place for a chunk. Flags beside the work are refused.
 fn starts() -> [Start; 12] {
     [

@@ -1,10 +1,10 @@
-//! How often answers are written: each by itself, or several together.
+//! How often replies are written: each by itself, or several together.
 
 ghost use Rattle.std.specs.Prelude.{⊤};
 
 use crate::hostile::devices::Bytewise;
 use crate::lower::rows::right;
-use nc_lines::{Responder, answer_all, answer_gathered};
+use nc_lines::{Responder, reply_gathered, reply_to_all};
 use std::alloc::{AllocError, Global};
 use std::io::{self, Read, Write};
 use std::test::Fail;
@@ -40,26 +40,26 @@ impl Write for Counting {
     }
 }
 
-/// Answers each line alike.
+/// Replies to each line alike.
 #[derive(Drop)]
 struct Agreeing {}
 
 impl Responder for Agreeing {
-    ghost answers = { λ _ _ _ _. ⊤ };
+    ghost replies = { λ _ _ _ _. ⊤ };
 
-    fn answer(&mut self, _kept: &[u8], out: &mut Vec<u8>) -> Result<(), AllocError> {
+    fn reply(&mut self, _kept: &[u8], out: &mut Vec<u8>) -> Result<(), AllocError> {
         out.extend_from_slice(b"ok\n")
     }
 }
 
-/// Four lines, of which the last has no line end; their answers have 12 bytes.
+/// Four lines, of which the last has no line end; their replies have 12 bytes.
 const LINES: &[u8] = b"a\nb\nc\nd";
 
-/// Whether answering each line by itself makes four writes.
+/// Whether replying to each line by itself makes four writes.
 fn are_apart(alloc: Global) -> bool {
     let mut reader = LINES;
     let mut writer = Counting::new();
-    let end = answer_all(alloc, &mut Agreeing {}, &mut reader, &mut writer);
+    let end = reply_to_all(alloc, &mut Agreeing {}, &mut reader, &mut writer);
     end.is_ok() && writer.bytes == 12 && writer.writes == 4
 }
 
@@ -68,7 +68,7 @@ fn apart(rt: HostRuntime) -> Result<(), Fail> {
     right(are_apart(rt.alloc()), 1)
 }
 
-/// The most bytes that are held back, and the number of writes. What is held back is written before an answer with which there
+/// The most bytes that are held back, and the number of writes. What is held back is written before a reply with which there
 /// would be more, which is then written by itself; before the second read; and at the end.
 type Gathering = (usize, usize);
 
@@ -82,11 +82,11 @@ static GATHERINGS: [Gathering; 6] = [
     (65_536, 2),
 ];
 
-/// Whether answers make the row's number of writes, if at most its number of bytes are held back.
+/// Whether replies make the row's number of writes, if at most its number of bytes are held back.
 fn are_written<R: Read>(alloc: Global, reader: &mut R, row: &Gathering) -> bool {
     let (most, writes) = *row;
     let mut writer = Counting::new();
-    let end = answer_gathered(alloc, &mut Agreeing {}, reader, &mut writer, most);
+    let end = reply_gathered(alloc, &mut Agreeing {}, reader, &mut writer, most);
     end.is_ok() && writer.bytes == 12 && writer.writes == writes
 }
 
@@ -101,7 +101,7 @@ fn together(rt: HostRuntime) -> Result<(), Fail> {
     Ok(())
 }
 
-/// The most bytes that are held back, and the number of writes, where each read gives one byte: no answer is held back over a read.
+/// The most bytes that are held back, and the number of writes, where each read gives one byte: no reply is held back over a read.
 #[rattlefmt::skip]
 static SINGLE_READS: [Gathering; 3] = [
     (0, 4),

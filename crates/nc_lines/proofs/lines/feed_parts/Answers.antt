@@ -11,7 +11,7 @@ loop-rest-init g c = (
   refl,
   refl,
   λ start before bytes s.
-      subst (λ (xs : List ℕ). KeepsUp g.S.Responder.answers start before xs c.args.responder.now
+      subst (λ (xs : List ℕ). KeepsUp g.S.Responder.replies start before xs c.args.responder.now
       (g.W.Write.contents c.args.writer.now) c.args.replies.now.held.items c.args.line.now.items) (sym (append-nil bytes)) s,
 )
 
@@ -30,7 +30,7 @@ loop-rest-preserved g c =
       moves_front _ done rest n split,
       c.in-Ok.ensures.most ∙ most,
       λ start before bytes s.
-          subst (λ (xs : List ℕ). KeepsUp g.S.Responder.answers start before xs c.feed_part.new.responder
+          subst (λ (xs : List ℕ). KeepsUp g.S.Responder.replies start before xs c.feed_part.new.responder
           (g.W.Write.contents c.feed_part.new.writer) c.feed_part.new.replies.held.items c.feed_part.new.line.items)
           (append_assoc bytes done (take n rest)) (c.in-Ok.ensures.feeds start before (bytes ++ done) (so_far start before bytes s)),
     )
@@ -39,7 +39,7 @@ pub returns-in-Err-clause-feeds : goal.returns-in-Err-clause-feeds
 returns-in-Err-clause-feeds g c = λ start before bytes s.
     let (done, split, most, so_far) = c.loop-rest.invariant in
     let rest = c.loop-rest.rest.now in
-    subst (λ (xs : List ℕ). Feeds {T = Unit {0}} g.S.Responder.answers start before xs c.feed_part.new.responder
+    subst (λ (xs : List ℕ). Feeds {T = Unit {0}} g.S.Responder.replies start before xs c.feed_part.new.responder
     (g.W.Write.contents c.feed_part.new.writer) c.feed_part.new.replies.held.items c.feed_part.new.line.items (Err c.in-Err.fault))
     (append_assoc bytes done rest ∙ ap (λ (xs : List ℕ). bytes ++ xs) (sym split))
     (c.in-Err.ensures.feeds start before (bytes ++ done) (so_far start before bytes s))
@@ -48,7 +48,7 @@ pub returns-clause-feeds : goal.returns-clause-feeds
 returns-clause-feeds g c = λ start before bytes s.
     let (done, split, most, so_far) = c.loop-rest.invariant in
     let empty : c.loop-rest.rest.now ≡ [] = drop_all 0 c.loop-rest.rest.now (search rules) in
-    subst (λ (xs : List ℕ). KeepsUp g.S.Responder.answers start before xs c.loop-rest.responder
+    subst (λ (xs : List ℕ). KeepsUp g.S.Responder.replies start before xs c.loop-rest.responder
     (g.W.Write.contents c.loop-rest.writer) c.loop-rest.replies.held.items c.loop-rest.line.items)
     (ap (λ (xs : List ℕ). bytes ++ xs) (sym (split ∙ ap (λ (l : List ℕ). done ++ l) empty ∙ append-nil done)))
     (so_far start before bytes s)

@@ -1,5 +1,5 @@
 use Rattle.nc_lines.specs.Lines.{lines_of}
-use Rattle.nc_lines.proofs.Steps.{answered_kept, begun_whole}
+use Rattle.nc_lines.proofs.Steps.{replied_kept, begun_whole}
 use Rattle.nc_lines.proofs.stream.finish.Goals as goal
 
 pub returns-in-Err-clause-finishes : goal.returns-in-Err-clause-finishes
@@ -7,10 +7,10 @@ returns-in-Err-clause-finishes g c = λ start before bytes s. c.in-Err.ensures.f
 
 pub returns-in-Ok-flush-clause-finishes : goal.returns-in-Ok-flush-clause-finishes
 returns-in-Ok-flush-clause-finishes g c = λ start before bytes s.
-    answered_kept g.S.Responder.answers start _ before _ _ (lines_of bytes) (c.in-Ok.ensures.finishes start before bytes s) c.flush.ensures.bytes
+    replied_kept g.S.Responder.replies start _ before _ _ (lines_of bytes) (c.in-Ok.ensures.finishes start before bytes s) c.flush.ensures.bytes
 
 pub returns-in-Err-flush-clause-finishes : goal.returns-in-Err-flush-clause-finishes
 returns-in-Err-flush-clause-finishes g c = λ start before bytes s.
-    begun_whole g.S.Responder.answers start before c.answer_rest.new.responder _ (lines_of bytes)
-    (answered_kept g.S.Responder.answers start _ before _ _ (lines_of bytes)
+    begun_whole g.S.Responder.replies start before c.reply_to_rest.new.responder _ (lines_of bytes)
+    (replied_kept g.S.Responder.replies start _ before _ _ (lines_of bytes)
     (c.in-Ok.ensures.finishes start before bytes s) c.flush.ensures.bytes)

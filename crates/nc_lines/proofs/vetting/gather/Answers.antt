@@ -5,4 +5,4 @@ use Rattle.nc_lines.proofs.vetting.gather.Goals as goal
 
 pub returns-in-Ok-clause-ok : goal.returns-in-Ok-clause-ok
 returns-in-Ok-clause-ok g c =
-    IfSome_then _ c.in-Ok.ensures.ok (λ input a. gathered c.args.batch.now (lines_of input) a.reply c.answer_all.new.responder a.runs)
+    IfSome_then _ c.in-Ok.ensures.ok (λ input a. gathered c.args.batch.now (lines_of input) a.reply c.reply_to_all.new.responder a.runs)

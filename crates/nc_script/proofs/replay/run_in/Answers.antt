@@ -8,7 +8,7 @@ use Rattle.nc_script.proofs.replay.run_in.Goals as goal
 -- the refusal of a size is due
 refuses_size : (bundles : ℕ) → (IsTrue false ↔ IsRegionSize bundles)
     → IsErrOf {T = Unit} {E = ReplayFault} (Err BadSize) BadSize ↔ ¬ IsRegionSize bundles
-refuses_size bundles answered = (λ _. λ size. no (answered.1 size), λ _. refl)
+refuses_size bundles replied = (λ _. λ size. no (replied.1 size), λ _. refl)
   where
     no : IsTrue false → ⊥
     no e = cc

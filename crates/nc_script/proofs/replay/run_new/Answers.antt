@@ -1,4 +1,4 @@
--- What the session answers is what the script answers.
+-- The session's replies are the script's.
 use Rattle.std.proofs.Common.{◌≡◌, ◌≢◌, ap, List, replicate, inr, refl}
 use Rattle.std.specs.Prelude.{Result, Ok, Err, IfErr, IsErrOf}
 use Rattle.std.proofs.lemmas.Result.{on_ok_weaker}
@@ -6,13 +6,13 @@ use Rattle.std.proofs.lemmas.Option.{IfSome_then}
 use Rattle.nc_lines.specs.declared.fault.ReplayFault.{ReplayFault}
 use Rattle.nc_lines.specs.declared.fault.ReplayFault.TheVariants.{BadSize, BadSeats, BadWorkers}
 use Rattle.nc_lines.specs.Lines.{lines_of, ended_lines}
-use Rattle.nc_lines.specs.Answering.{IsAnswered, IsBegun, IsCutShort}
-use Rattle.nc_script.specs.Answers.{AnswersOnly, new_script}
-use Rattle.nc_script.specs.Run.{HasAnswered}
+use Rattle.nc_lines.specs.Replying.{IsComplete, IsBegun, IsCutShort}
+use Rattle.nc_script.specs.Serving.{IsOnlyReply, new_script}
+use Rattle.nc_script.specs.Run.{HasReplied}
 use Rattle.nc_script.specs.Script.{ScriptSeat, Staying}
 use Rattle.nc_script.specs.machinery.Session.{SessionOf, FollowsLine}
 use Rattle.nc_script.proofs.seating.FirstState.{begins_run}
-use Rattle.nc_script.proofs.serving.Carried.{answered_script, begun_script, cut_script}
+use Rattle.nc_script.proofs.serving.Carried.{replied_script, begun_script, cut_script}
 use Rattle.nc_script.proofs.replay.run_new.Goals as goal
 
 -- a run with valid numbers is refused for none of them
@@ -38,36 +38,36 @@ returns-in-Ok-new-2 g c =
     c.requires.seats.0 c.in-Ok.ensures.keeper c.in-Ok.ensures.passes c.in-Ok-new-2.ensures.region c.in-Ok-new.ensures old.state (ap (λ (s : SessionOf). s.state) c.new-session.ensures) in
     let input = g.R.Read.remaining c.args.reader.now in
     let before = g.W.Write.contents c.args.writer.now in
-    let after = g.W.Write.contents c.answer_gathered.new.writer in
-    let ran = c.answer_gathered.ensures in
+    let after = g.W.Write.contents c.reply_gathered.new.writer in
+    let ran = c.reply_gathered.ensures in
     record {
-      bad_size = (λ e. absurd ((no_fault c.answer_gathered.result BadSize ran.faults e).0 refl), λ none. absurd (none c.requires.size));
-      bad_seats = (λ e. absurd ((no_fault c.answer_gathered.result BadSeats ran.faults e).1 refl), λ due. absurd (due.1 c.requires.seats));
-      no_workers = no_workers_of c.answer_gathered.result ran.faults;
+      bad_size = (λ e. absurd ((no_fault c.reply_gathered.result BadSize ran.faults e).0 refl), λ none. absurd (none c.requires.size));
+      bad_seats = (λ e. absurd ((no_fault c.reply_gathered.result BadSeats ran.faults e).1 refl), λ due. absurd (due.1 c.requires.seats));
+      no_workers = no_workers_of c.reply_gathered.result ran.faults;
       untouched = λ wrong. absurd (wrong (c.requires.size, c.requires.seats));
-      ok = on_ok_weaker c.answer_gathered.result
+      ok = on_ok_weaker c.reply_gathered.result
           (λ h.
           IfSome_then input
-          {P = (λ bytes. IsAnswered FollowsLine old c.answer_gathered.new.responder before after (lines_of bytes))}
-          {Q = (λ bytes. HasAnswered queries c.args.bundles c.args.seats before after (lines_of bytes))}
-          h (λ bytes a. answered_script old seats 0 script fits begins queries is c.answer_gathered.new.responder before after (lines_of bytes) a))
+          {P = (λ bytes. IsComplete FollowsLine old c.reply_gathered.new.responder before after (lines_of bytes))}
+          {Q = (λ bytes. HasReplied queries c.args.bundles c.args.seats before after (lines_of bytes))}
+          h (λ bytes a. replied_script old seats 0 script fits begins queries is c.reply_gathered.new.responder before after (lines_of bytes) a))
           ran.ok;
       read = ran.read;
       write_failed = λ e.
           IfSome_then input
           {P = (λ bytes. IsBegun FollowsLine old before after (lines_of bytes))}
-          {Q = (λ bytes. IsBegun (AnswersOnly queries) script before after (lines_of bytes))}
+          {Q = (λ bytes. IsBegun (IsOnlyReply queries) script before after (lines_of bytes))}
           (ran.write_failed e) (λ bytes b. begun_script old seats 0 script fits begins queries is before after (lines_of bytes) b);
       read_failed = λ e.
-          (let (front, consumed, answered) = ran.read_failed e in (
+          (let (front, consumed, replied) = ran.read_failed e in (
             front,
             consumed,
-            answered_script old seats 0 script fits begins queries is c.answer_gathered.new.responder before after (ended_lines front) answered,
+            replied_script old seats 0 script fits begins queries is c.reply_gathered.new.responder before after (ended_lines front) replied,
           ));
       out_of_memory = λ e.
           inr
           (IfSome_then input
           {P = (λ bytes. IsCutShort FollowsLine old before after (lines_of bytes))}
-          {Q = (λ bytes. IsCutShort (AnswersOnly queries) script before after (lines_of bytes))}
+          {Q = (λ bytes. IsCutShort (IsOnlyReply queries) script before after (lines_of bytes))}
           (ran.out_of_memory e) (λ bytes s. cut_script old seats 0 script fits begins queries is before after (lines_of bytes) s));
     }
