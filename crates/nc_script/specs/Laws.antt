@@ -9,7 +9,7 @@ use Rattle.nc_script.specs.Requests.{Leave, Reclaim, request_in}
 use Rattle.nc_script.specs.Reuse.{number_of, IsFreeingNumber, AllStay}
 use Rattle.nc_script.specs.Script.{Script, Retired, Staying, Left}
 
--- the line doesn't ask for a leave
+-- the line makes no request for a leave
 abbrev pub IsNoLeave : (queries : Bool) → List ℕ → Type 0
 IsNoLeave queries line = (seat : ℕ) → request_in queries line ≢ Some (Leave seat)
 
@@ -20,13 +20,13 @@ pub record BeginsReplies (queries : Bool) (old : Script) (before after : Option 
   pub begins : (all : List ℕ) (last : Script) → RepliesToLines (ServesLine queries) old lines all last
       → (rest : List ℕ) × (all ≡ reply ++ rest)
 
--- if no seat has left and no line asks for a leave, lines have only one reply and lead to only one state
+-- if no seat has left and no line requests a leave, lines have only one reply and lead to only one state
 abbrev pub HasOneReply : Type 0
 HasOneReply = (queries : Bool) (old : Script) (lines : List (List ℕ)) (reply other : List ℕ) (new next : Script) → AllStay old
     → All (IsNoLeave queries) lines → RepliesToLines (IsOnlyReply queries) old lines reply new
     → RepliesToLines (ServesLine queries) old lines other next → (other ≡ reply) × (next ≡ new)
 
--- if no seat has left and no line asks for a leave, the part written of the replies to some first lines is a prefix of the
+-- if no seat has left and no line requests a leave, the part written of the replies to some first lines is a prefix of the
 -- replies to all lines
 abbrev pub BeginsAll : Type 0
 BeginsAll = (queries : Bool) (old : Script) (before after : Option (List ℕ)) (lines : List (List ℕ)) → AllStay old

@@ -4,7 +4,7 @@ use Rattle.std.specs.Option.{option_map, option_and_then}
 use Rattle.nc_lines.specs.Lines.{words_in, is_long}
 use Rattle.nc_lines.specs.Words.{address_in, placed_in}
 use Rattle.nc_script.specs.Queries.{is_word, query_in}
-use Rattle.nc_script.specs.declared.query.Query.{Query}
+use Rattle.nc_script.specs.declared.query.Query as kind
 use Rattle.nc_script.specs.declared.query.Query.TheVariants.{ChunkAt}
 
 -- a request that a line of a script makes
@@ -16,7 +16,7 @@ pub data Request : Type 0 where
   Leave : (seat : ℕ) → Request
   Reclaim : Request
   Walk : (start : ℕ) (choices : List ℕ) → Request
-  Ask : (query : Query) → Request
+  Query : (query : kind.Query) → Request
 
 -- the addresses that these words denote, if each denotes one
 abbrev pub addresses_in : List (List ℕ) → Option (List ℕ)
@@ -63,7 +63,7 @@ walk_in [] = None
 
 -- the request made by the words after `chunk`: an address
 abbrev pub chunk_at_in : List (List ℕ) → Option Request
-chunk_at_in (at ∷ []) = option_map (λ a. Ask (ChunkAt a)) (address_in at)
+chunk_at_in (at ∷ []) = option_map (λ a. Query (ChunkAt a)) (address_in at)
 chunk_at_in _ = None
 
 -- this request, if no words follow its own
@@ -72,8 +72,8 @@ single_in request [] = Some request
 single_in request (word ∷ words) = None
 
 -- the request made by the word of a query, if no words follow it
-abbrev pub ask_in : List ℕ → List (List ℕ) → Option Request
-ask_in word words = option_and_then (λ query. single_in (Ask query) words) (query_in word)
+abbrev pub single_query_in : List ℕ → List (List ℕ) → Option Request
+single_query_in word words = option_and_then (λ query. single_in (Query query) words) (query_in word)
 
 -- the request made by the words of a line, if they make one; `chunk` makes one only where queries are taken
 abbrev pub request_of : (queries : Bool) → List (List ℕ) → Option Request
@@ -87,7 +87,7 @@ request_of queries (word ∷ words) =
     else if is_word word (codes "reclaim") then single_in Reclaim words
     else if is_word word (codes "walk") then walk_in words
     else if queries && is_word word (codes "chunk") then chunk_at_in words
-    else ask_in word words
+    else single_query_in word words
 
 -- the request made by a line; a line that is too long or has no such form makes none, and is a bad line
 abbrev pub request_in : (queries : Bool) → List ℕ → Option Request

@@ -9,7 +9,7 @@ use Rattle.nc_region.specs.Trace.{IsTrace, IsWalkStart}
 use Rattle.nc_lines.specs.Lines.{bad_line}
 use Rattle.nc_region.specs.declared.fault.ModifyFault.{ModifyFault}
 use Rattle.nc_region.specs.declared.fault.DeleteFault.{DeleteFault}
-use Rattle.nc_script.specs.Requests.{Request, Create, Modify, Delete, CheckIn, Leave, Reclaim, Walk, Ask, request_in}
+use Rattle.nc_script.specs.Requests.{Request, Create, Modify, Delete, CheckIn, Leave, Reclaim, Walk, Query, request_in}
 use Rattle.nc_script.specs.Script.{Script, Live, Staying, Left, script_text, IsOccupied, IsPutBetween}
 use Rattle.nc_script.specs.Patching.{IsLawfulPatch, IsRefusedPatch, patched_at}
 use Rattle.nc_script.specs.Reuse.{ListsLive, retired_at, IsRefusedDeletion, IsThere, IsFreeingNumber, freed_by, kept_by, AllStay}
@@ -120,7 +120,7 @@ Serves (CheckIn seat) old reply new = IsCheckedIn seat old reply new ⊎ IsNoSea
 Serves (Leave seat) old reply new = HasLeft seat old reply new ⊎ IsNoSeat seat old reply new
 Serves Reclaim old reply new = IsFreed old reply new
 Serves (Walk start choices) old reply new = IsWalked start choices old reply new ⊎ IsNoStart start old reply new
-Serves (Ask query) old reply new = (reply ≡ with_line_end (reply_to query old)) × (new ≡ old)
+Serves (Query query) old reply new = (reply ≡ with_line_end (reply_to query old)) × (new ≡ old)
 
 -- From the old state this is a reply to the line, and `new` is the state after it. A line that makes no request is a bad
 -- line, and changes nothing.

@@ -3,7 +3,7 @@
 ghost use Rattle.std.specs.Prelude.{◌≡◌, ◌++◌, List, ℕ, OnOk, map};
 ghost use Rattle.nc_script.specs.Queries.{next_chunk, query_in, reply_to};
 ghost use Rattle.nc_script.specs.Replies.{chunk_reply, dump_reply};
-ghost use Rattle.nc_script.specs.Requests.{Ask};
+ghost use Rattle.nc_script.specs.Requests as spec;
 ghost use Rattle.nc_script.specs.Script.{ScriptSeat};
 ghost use Rattle.nc_script.specs.machinery.Session.{FollowsIn, script_chunk, script_of};
 
@@ -39,7 +39,7 @@ pub(crate) fn reply_to_query<A: Acts + Drop>(
     out: &mut Vec<u8>,
 ) -> Result<(), AllocError>
     ensures { OnOk result ((reply : List ℕ) × (out.new.items ≡ out.old.items ++ reply)
-        × FollowsIn (Ask query) region.now reply region.now) }
+        × FollowsIn (spec.Query query) region.now reply region.now) }
 {
     push_reply(alloc, region, query, out)?;
     out.push(b'\n')?;

@@ -33,8 +33,8 @@ pub(crate) enum Request {
     Reclaim,
     /// Walks from this address, using up one choice at each instruction.
     Walk { start: u32, choices: Vec<u32> },
-    /// Asks a query, which changes nothing.
-    Ask { query: Query },
+    /// Makes a query, which changes nothing.
+    Query { query: Query },
 }
 
 /// The request made by the text after `create`.
@@ -92,7 +92,7 @@ fn chunk_of(text: &[u8]) -> Option<Request>
     ensures { option_map shown result ≡ chunk_at_in (words_in text.now) }
 {
     match address_of(text) {
-        Some(at) => Some(Request::Ask {
+        Some(at) => Some(Request::Query {
             query: Query::ChunkAt { at },
         }),
         None => None,
@@ -155,13 +155,13 @@ pub(crate) fn request_of(
         return Ok(None);
     }
     match memchr(b' ', line) {
-        Some(end) => asked_by(alloc, &line[..end], Some(&line[end + 1..]), queries),
-        None => asked_by(alloc, line, None, queries),
+        Some(end) => request_by(alloc, &line[..end], Some(&line[end + 1..]), queries),
+        None => request_by(alloc, line, None, queries),
     }
 }
 
 /// The request made by the first word of a line and the text after it, or nothing if they make none.
-fn asked_by(
+fn request_by(
     alloc: Global,
     key: &[u8],
     rest: Option<&[u8]>,
@@ -170,20 +170,20 @@ fn asked_by(
     ensures { IfOk result (λ found. option_map shown found ≡ spec.request_of queries (key.now ∷ words_after (option_copied rest.entry))) }
 {
     match rest {
-        Some(text) => asked_with(alloc, key, text, queries),
-        None => Ok(asked_alone(key)),
+        Some(text) => request_with(alloc, key, text, queries),
+        None => Ok(request_alone(key)),
     }
 }
 
 /// The request made by the only word of a line.
-fn asked_alone(key: &[u8]) -> Option<Request>
+fn request_alone(key: &[u8]) -> Option<Request>
     ensures { (queries : Bool) → option_map shown result ≡ spec.request_of queries (key.now ∷ []) }
 {
     if is_word(key, b"reclaim") {
         return Some(Request::Reclaim);
     }
     let query = query_of(key)?;
-    Some(Request::Ask { query })
+    Some(Request::Query { query })
 }
 
 /// Whether a word begins the lines of a query, and these are taken.
@@ -194,7 +194,7 @@ fn begins_query(key: &[u8], queries: bool) -> bool
 }
 
 /// The request made by the first word of a line and the text after it.
-fn asked_with(
+fn request_with(
     alloc: Global,
     key: &[u8],
     text: &[u8],

@@ -92,7 +92,7 @@ fn serve<A: Acts + Drop>(
         Request::Leave { seat } => reply_to_leave(seats, seat, out),
         Request::Reclaim => reply_to_reclaim(alloc, region, seats, out),
         Request::Walk { start, choices } => reply_to_walk(region, start, &choices, out),
-        Request::Ask { query } => reply_to_query(alloc, region, query, out),
+        Request::Query { query } => reply_to_query(alloc, region, query, out),
     }
 }
 

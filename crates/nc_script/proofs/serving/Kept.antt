@@ -1,4 +1,4 @@
--- What is kept of a line asks for what the line asks for.
+-- What is kept of a line makes the request that the line makes.
 use Rattle.std.proofs.Common.{◌≡◌, ℕ, Bool, List}
 use Rattle.nc_lines.specs.Lines.{kept_of, words_in}
 use Rattle.nc_lines.proofs.Offered.{read_of_kept}

@@ -8,24 +8,24 @@ use Rattle.nc_script.specs.Reuse.{AllStay}
 use Rattle.nc_script.specs.machinery.Session.{SeatsState, SessionOf, SessionState, script_of, Follows, FollowsIn, FollowsLine}
 use Rattle.nc_script.proofs.serving.OnlyReply.{request_only, line_only, bad_only}
 
--- what was asked for is the request that has the reply
-module _ {T E : Type 0} (r : Result T E) (new old : List ℕ) (asked request : Request) (is : asked ≡ request) where
-  -- what was asked for has its reply, by the calls of a region and of its seats
+-- what was requested is the request that has the reply
+module _ {T E : Type 0} (r : Result T E) (new old : List ℕ) (requested request : Request) (is : requested ≡ request) where
+  -- what was requested has its reply, by the calls of a region and of its seats
   pub served : (before after : SessionState) → OnOk r ((reply : List ℕ) × (new ≡ old ++ reply) × Follows request before reply after)
-      → OnOk r ((reply : List ℕ) × (new ≡ old ++ reply) × Follows asked before reply after)
+      → OnOk r ((reply : List ℕ) × (new ≡ old ++ reply) × Follows requested before reply after)
   served before after h =
       subst (λ (named : Request). OnOk r ((reply : List ℕ) × (new ≡ old ++ reply) × Follows named before reply after)) (sym is) h
 
-  -- what was asked for has its reply, by the calls of a region, whatever its seats are
+  -- what was requested has its reply, by the calls of a region, whatever its seats are
   pub served_in : (before after : Region) (seats : SeatsState)
       → OnOk r ((reply : List ℕ) × (new ≡ old ++ reply) × FollowsIn request before reply after)
       → OnOk r ((reply : List ℕ) × (new ≡ old ++ reply)
-      × Follows asked (record { region = before; seats = seats }) reply (record { region = after; seats = seats }))
+      × Follows requested (record { region = before; seats = seats }) reply (record { region = after; seats = seats }))
   served_in before after seats h =
       served (record { region = before; seats = seats }) (record { region = after; seats = seats })
       (on_ok_weaker r (λ reply. (reply.0, reply.1, reply.2 seats)) h)
 
--- a line that asks for a request
+-- a line that makes a request
 pub line_follows : (queries : Bool) (request : Request) (old new : SessionState) (line reply : List ℕ)
     → IsRegion old.region.marked old.region.chunks → request_in queries line ≡ Some request → Follows request old reply new
     → FollowsLine (record { queries = queries; state = old }) line reply (record { queries = queries; state = new })
@@ -39,7 +39,7 @@ line_follows queries request old new line reply is e follows = (
         number,
         line_only queries request before after line reply e serves
             (λ determined. request_only request old.region seats freed reply after is
-            (subst (λ (asked : Option Request). (asked ≢ Some Reclaim) ⊎ AllStay before) e determined) serves),
+            (subst (λ (requested : Option Request). (requested ≢ Some Reclaim) ⊎ AllStay before) e determined) serves),
         still,
       ),
 )

@@ -6,7 +6,7 @@ use Rattle.std.proofs.lemmas.List.Elements.{All-tail, All-take}
 use Rattle.std.proofs.lemmas.List.{take_at}
 use Rattle.nc_lines.specs.Replying.{RepliesToLines}
 use Rattle.nc_lines.specs.Lines.{bad_line}
-use Rattle.nc_script.specs.Requests.{Request, Create, Modify, Delete, CheckIn, Leave, Reclaim, Walk, Ask, request_in}
+use Rattle.nc_script.specs.Requests.{Request, Create, Modify, Delete, CheckIn, Leave, Reclaim, Walk, Query, request_in}
 use Rattle.nc_script.specs.Serving.{Serves, ServesLine}
 use Rattle.nc_script.specs.Laws.{HasOneReply, BeginsAll, FreesByLeast, IsNoLeave, LeavesOpen, one_left}
 use Rattle.nc_script.specs.Reuse.{AllStay, Stays, LetsFree, number_of, IsFreeingNumber}
@@ -37,11 +37,11 @@ stay_on (Leave seat) old reply new not_leave stay h = absurd (not_leave seat ref
 stay_on Reclaim old reply new not_leave stay a = subst (All Stays) (sym (ap (λ (s : Script). s.seats) a.new_is)) stay
 stay_on (Walk start choices) old reply new not_leave stay (inl a) = subst AllStay (sym a.same) stay
 stay_on (Walk start choices) old reply new not_leave stay (inr a) = subst AllStay (sym a.same) stay
-stay_on (Ask query) old reply new not_leave stay a = subst AllStay (sym a.1) stay
+stay_on (Query query) old reply new not_leave stay a = subst AllStay (sym a.1) stay
 
--- a line that asks for no leave lets no seat leave
-stay_on_line : (asked : Option Request) (old : Script) (reply : List ℕ) (new : Script) → ((seat : ℕ) → asked ≢ Some (Leave seat))
-    → AllStay old → MatchOption asked ((reply ≡ bad_line) × (new ≡ old)) (λ request. Serves request old reply new) → AllStay new
+-- a line that requests no leave lets no seat leave
+stay_on_line : (requested : Option Request) (old : Script) (reply : List ℕ) (new : Script) → ((seat : ℕ) → requested ≢ Some (Leave seat))
+    → AllStay old → MatchOption requested ((reply ≡ bad_line) × (new ≡ old)) (λ request. Serves request old reply new) → AllStay new
 stay_on_line None old reply new not_leave stay h = subst AllStay (sym h.1) stay
 stay_on_line (Some request) old reply new not_leave stay h =
     stay_on request old reply new (λ seat e. not_leave seat (ap (λ (r : Request). Some r) e)) stay h

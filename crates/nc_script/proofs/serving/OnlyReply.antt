@@ -17,10 +17,10 @@ use Rattle.nc_region.specs.declared.fault.ModifyFault.{ModifyFault}
 use Rattle.nc_region.specs.declared.fault.ModifyFault.TheVariants.{BadSpan, NotLive, NotPermitted, Boundaries, PairTouched, BadTarget}
 use Rattle.nc_region.specs.declared.fault.DeleteFault.{DeleteFault}
 use Rattle.nc_region.specs.declared.fault.DeleteFault.TheVariants.{NoChunk, GensFull}
-use Rattle.nc_script.specs.Requests.{Request, Create, Modify, Delete, CheckIn, Leave, Reclaim, Walk, Ask, request_in}
+use Rattle.nc_script.specs.Requests.{Request, Create, Modify, Delete, CheckIn, Leave, Reclaim, Walk, Query, request_in}
 use Rattle.nc_lines.specs.Lines.{bad_line}
 use Rattle.nc_script.specs.Script.{Script, ScriptChunk, ScriptSeat, Staying, Left, script_text, IsPutBetween}
-use Rattle.nc_script.specs.declared.query.Query.{Query}
+use Rattle.nc_script.specs.declared.query.Query as kind
 use Rattle.nc_script.specs.Patching.{LiesInLive, Replaces, IsLawfulPatch, IsRefusedPatch}
 use Rattle.nc_script.specs.Reuse.{ListsLive, IsRefusedDeletion, AllStay, Stays, LetsFree, number_of, IsFreeingNumber, freed_by, kept_by}
 use Rattle.nc_output.specs.Verdicts.{IsValidAt}
@@ -87,8 +87,9 @@ create_only base bytes old reply new (inr (inr a)) other next (inr (inl b)) =
 create_only base bytes old reply new (inr (inr a)) other next (inr (inr b)) = (b.reply_is ∙ sym a.reply_is, b.same ∙ sym a.same)
 
 -- a query has one reply
-ask_only : (query : Query) (old : Script) (reply : List ℕ) (new : Script) → Serves (Ask query) old reply new → IsOnly (Ask query) old reply new
-ask_only query old reply new a other next b = (b.0 ∙ sym a.0, b.1 ∙ sym a.1)
+query_only : (query : kind.Query) (old : Script) (reply : List ℕ) (new : Script) → Serves (Query query) old reply new
+    → IsOnly (Query query) old reply new
+query_only query old reply new a other next b = (b.0 ∙ sym a.0, b.1 ∙ sym a.1)
 
 -- a walk through a region has one reply, since there is one trace
 walk_only : (region : Region) (seats : List ScriptSeat) (freed : ℕ) (start : ℕ) (choices reply : List ℕ) (new : Script)
@@ -262,26 +263,26 @@ request_only Reclaim region seats freed reply new is (inl other) h = absurd (oth
 request_only Reclaim region seats freed reply new is (inr stay) h = reclaim_only (script_of region seats freed) reply new stay h
 request_only (Walk start choices) region seats freed reply new is determined h =
     walk_only region seats freed start choices reply new is h
-request_only (Ask query) region seats freed reply new is determined h = ask_only query (script_of region seats freed) reply new h
+request_only (Query query) region seats freed reply new is determined h = query_only query (script_of region seats freed) reply new h
 
--- a line that asks for this has this reply, and only this one if it leaves nothing open
+-- a line that makes this request has this reply, and only this one if it leaves nothing open
 pub line_only : (queries : Bool) (request : Request) (old new : Script) (line reply : List ℕ) → request_in queries line ≡ Some request
     → Serves request old reply new → (IsDetermined queries old line → IsOnly request old reply new)
     → IsOnlyReply queries old line reply new
 line_only queries request old new line reply e h only =
     let Shown : Option Request → List ℕ → Script → Type 0 =
-    λ r t n. MatchOption r ((t ≡ bad_line) × (n ≡ old)) (λ asked. Serves asked old t n) in
+    λ r t n. MatchOption r ((t ≡ bad_line) × (n ≡ old)) (λ requested. Serves requested old t n) in
     record {
       serves = subst (λ (r : Option Request). Shown r reply new) (sym e) h;
       only = λ determined other next s. only determined other next (subst (λ (r : Option Request). Shown r other next) e s);
     }
 
--- a line that asks for nothing is only a bad line
+-- a line that makes no request is only a bad line
 pub bad_only : (queries : Bool) (old : Script) (line : List ℕ) → request_in queries line ≡ None
     → IsOnlyReply queries old line bad_line old
 bad_only queries old line e =
     let Shown : Option Request → List ℕ → Script → Type 0 =
-    λ r t n. MatchOption r ((t ≡ bad_line) × (n ≡ old)) (λ asked. Serves asked old t n) in
+    λ r t n. MatchOption r ((t ≡ bad_line) × (n ≡ old)) (λ requested. Serves requested old t n) in
     record {
       serves = subst (λ (r : Option Request). Shown r bad_line old) (sym e) (refl, refl);
       only = λ determined other next s. subst (λ (r : Option Request). Shown r other next) e s;

@@ -12,7 +12,7 @@ use Rattle.nc_lines.specs.Lines.{line_limit, words_in}
 use Rattle.nc_lines.specs.Words.{address_in, first_address_in}
 use Rattle.nc_lines.proofs.Offered.{words_some, of_one, of_one-text, address_in-spaced}
 use Rattle.nc_script.specs.Queries.{is_word, query_in}
-use Rattle.nc_script.specs.Requests.{Request, Delete, Reclaim, Walk, Ask, addresses_in, delete_in, chunk_at_in, digit_in, next_digit, of_seat_in}
+use Rattle.nc_script.specs.Requests.{Request, Delete, Reclaim, Walk, Query, addresses_in, delete_in, chunk_at_in, digit_in, next_digit, of_seat_in}
 use Rattle.nc_script.specs.Requests.{request_in, request_of, seat_in, single_in, walk_in}
 use Rattle.nc_script.specs.declared.query.Query.TheVariants.{ChunkAt}
 
@@ -30,19 +30,19 @@ delete_text text =
     ∙ of_one-text (λ word. option_map Delete (address_in word)) text (λ front back. ap (option_map Delete) (address_in-spaced front back))
 
 -- a query of the chunk at an address
-abbrev ask_at : ℕ → Request
-ask_at at = Ask (ChunkAt at)
+abbrev query_at : ℕ → Request
+query_at at = Query (ChunkAt at)
 
-one_chunk : (words : List (List ℕ)) → chunk_at_in words ≡ of_one (λ word. option_map ask_at (address_in word)) words
+one_chunk : (words : List (List ℕ)) → chunk_at_in words ≡ of_one (λ word. option_map query_at (address_in word)) words
 one_chunk [] = refl
 one_chunk (word ∷ []) = refl
 one_chunk (word ∷ next ∷ words) = refl
 
 -- the request of a text after `chunk`
-pub chunk_text : (text : List ℕ) → chunk_at_in (words_in text) ≡ option_map (λ (at : ℕ). Ask (ChunkAt at)) (address_in text)
+pub chunk_text : (text : List ℕ) → chunk_at_in (words_in text) ≡ option_map (λ (at : ℕ). Query (ChunkAt at)) (address_in text)
 chunk_text text =
     one_chunk (words_in text)
-    ∙ of_one-text (λ word. option_map ask_at (address_in word)) text (λ front back. ap (option_map ask_at) (address_in-spaced front back))
+    ∙ of_one-text (λ word. option_map query_at (address_in word)) text (λ front back. ap (option_map query_at) (address_in-spaced front back))
 
 -- a step that gives nothing, after whatever comes before it
 nothing_after : {A B : Type 0} (o : Option A) (step : A → Option B) → ((a : A) → step a ≡ None) → option_and_then step o ≡ None
@@ -100,7 +100,7 @@ pub none_with : (queries : Bool) (word text : List ℕ) → is_word word (codes 
 none_with queries word text create modify delete checkin leave walk chunk =
     sym (passed _ _ _ None create (passed _ _ _ None modify (passed _ _ _ None delete (passed _ _ _ None checkin (passed _ _ _ None leave
     (neither _ _ _ (single_text Reclaim text) (passed _ _ _ None walk (passed _ _ _ None chunk
-    (nothing_after (query_in word) _ (λ query. single_text (Ask query) text))))))))))
+    (nothing_after (query_in word) _ (λ query. single_text (Query query) text))))))))))
 
 -- ---- addresses
 

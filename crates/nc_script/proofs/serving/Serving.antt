@@ -113,9 +113,9 @@ crowded_serves old seats freed v is limit_is valid meets = inr (inr (record {
   same = refl;
 }))
 
--- what serves the chunk serves what was asked for
-pub as_asked : (v : vet.MarkedChunk) (base : ℕ) (bytes reply : List ℕ) (old new : Script) → v.base ≡ base → v.code ≡ bytes
+-- what serves the chunk serves what was requested
+pub as_requested : (v : vet.MarkedChunk) (base : ℕ) (bytes reply : List ℕ) (old new : Script) → v.base ≡ base → v.code ≡ bytes
     → Serves (Create v.base v.code) old reply new → Serves (Create base bytes) old reply new
-as_asked v base bytes reply old new base_is code_is served =
+as_requested v base bytes reply old new base_is code_is served =
     subst (λ (b : ℕ). Serves (Create b bytes) old reply new) base_is
     (subst (λ (bs : List ℕ). Serves (Create v.base bs) old reply new) code_is served)

@@ -2,7 +2,7 @@ use Rattle.std.proofs.Common.{◌∙◌, ◌∷◌, ◌++◌, [], List, ℕ, sym
 use Rattle.std.proofs.lemmas.List.{append_cancel_left}
 use Rattle.nc_output.specs.Verdicts.{with_line_end}
 use Rattle.nc_script.specs.Queries.{reply_to}
-use Rattle.nc_script.specs.Requests.{Ask}
+use Rattle.nc_script.specs.Requests.{Query}
 use Rattle.nc_script.specs.machinery.Session.{script_of}
 use Rattle.nc_script.proofs.chunks.Fitting.{follows_same}
 use Rattle.nc_script.proofs.query.reply_to_query.Goals as goal
@@ -16,6 +16,6 @@ returns g c =
     let written = c.in_ok-push_reply.ensures in (
       with_line_end first,
       c.in_ok-push.ensures.items ∙ ap (λ (bytes : List ℕ). bytes ++ 10 ∷ []) (written [] 0) ∙ append_assoc before first (10 ∷ []),
-      follows_same (Ask query) region (with_line_end first)
+      follows_same (Query query) region (with_line_end first)
           (λ seats freed. (ap with_line_end (append_cancel_left before _ _ (sym (written [] 0) ∙ written seats freed)), refl)),
     )

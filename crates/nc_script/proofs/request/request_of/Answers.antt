@@ -15,16 +15,16 @@ returns-in-Some c =
     let words = line_words line end first.high (eqb-true _ 32 c.in-Some.ensures.1)
     (λ k below is. first.before k (omega arith) below (eq-eqb _ 32 is)) in
     let short : length line ≤ line_limit = omega arith in
-    subst (λ (request : Option Request). IfOk c.asked_by.result (λ found. option_map shown found ≡ request))
+    subst (λ (request : Option Request). IfOk c.request_by.result (λ found. option_map shown found ≡ request))
     (ap (λ (t : List ℕ). request_of c.args.queries (take end line ∷ words_in t)) (take_rest line (end + 1)) ∙ ap (request_of c.args.queries) (sym words)
     ∙ sym (short_request c.args.queries line short))
-    c.asked_by.ensures
+    c.request_by.ensures
 
 pub returns-in-None : goal.returns-in-None
 returns-in-None c =
     let line = c.args.line.now in
     let words = line_word line (λ k below is. c.in-None.ensures k (omega arith) below (eq-eqb _ 32 is)) in
     let short : length line ≤ line_limit = omega arith in
-    subst (λ (request : Option Request). IfOk c.asked_by-in-None.result (λ found. option_map shown found ≡ request))
+    subst (λ (request : Option Request). IfOk c.request_by-in-None.result (λ found. option_map shown found ≡ request))
     (ap (request_of c.args.queries) (sym words) ∙ sym (short_request c.args.queries line short))
-    c.asked_by-in-None.ensures
+    c.request_by-in-None.ensures

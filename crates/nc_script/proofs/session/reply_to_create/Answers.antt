@@ -11,7 +11,7 @@ use Rattle.nc_script.specs.machinery.Session.{FollowsIn}
 use Rattle.nc_output.specs.Verdicts.{with_line_end, refused_words, fault_words}
 use Rattle.nc_script.proofs.chunks.Fitting.{follows_kept, follows_same}
 use Rattle.nc_script.proofs.serving.ChunkRequests.{inserted_stamped}
-use Rattle.nc_script.proofs.serving.Serving.{fault_serves, created_serves, crowded_serves, as_asked}
+use Rattle.nc_script.proofs.serving.Serving.{fault_serves, created_serves, crowded_serves, as_requested}
 use Rattle.nc_output.proofs.Offered.{added}
 use Rattle.nc_script.proofs.session.reply_to_create.Goals.{in-Ok-create, in-Err-create}
 use Rattle.nc_script.proofs.session.reply_to_create.Goals as goal
@@ -52,7 +52,7 @@ returns-clause-follows g c =
           (follows_kept (Create c.args.base c.args.bytes.items) old new (with_line_end (codes "ok"))
           (ap (λ (r : Region). r.keeper) created.others)
           (λ generation h. inserted_stamped generation old.chunks new.chunks (live_chunk c.in-Ok.vetted) refl created.chunks h)
-          (λ seats freed. as_asked c.in-Ok.vetted c.args.base c.args.bytes.items _ _ _ base_is code_is
+          (λ seats freed. as_requested c.in-Ok.vetted c.args.base c.args.bytes.items _ _ _ base_is code_is
           (created_serves old new seats freed c.in-Ok.vetted c.limit-limit.ensures.region
           (limit_is ∙ c.limit-limit.ensures.limit) valid created w.in-Ok-create.ensures.free.1))))
       | in-Err-create w ↦
@@ -65,7 +65,7 @@ returns-clause-follows g c =
             subst (λ (now : Region). FollowsIn (Create c.args.base c.args.bytes.items) old refused now)
                 (sym unchanged)
                 (follows_same (Create c.args.base c.args.bytes.items) old refused
-                (λ seats freed. as_asked c.in-Ok.vetted c.args.base c.args.bytes.items _ _ _ base_is code_is
+                (λ seats freed. as_requested c.in-Ok.vetted c.args.base c.args.bytes.items _ _ _ base_is code_is
                 (crowded_serves old seats freed c.in-Ok.vetted c.limit-limit.ensures.region
                 (limit_is ∙ c.limit-limit.ensures.limit) valid
                 due.1))),

@@ -27,5 +27,5 @@ pub returns-in-Walk-clause-follows : goal.returns-in-Walk-clause-follows
 returns-in-Walk-clause-follows g c =
     served_in c.reply_to_walk.result _ _ _ _ (ap shown c.in-Walk.is ∙ ap (Walk c.in-Walk.start) (sym c.deref-in-Walk.ensures.value)) _ _ _ c.reply_to_walk.ensures
 
-pub returns-in-Ask-clause-follows : goal.returns-in-Ask-clause-follows
-returns-in-Ask-clause-follows g c = served_in c.reply_to_query.result _ _ _ _ (ap shown c.in-Ask.is) _ _ _ c.reply_to_query.ensures
+pub returns-in-Query-clause-follows : goal.returns-in-Query-clause-follows
+returns-in-Query-clause-follows g c = served_in c.reply_to_query.result _ _ _ _ (ap shown c.in-Query.is) _ _ _ c.reply_to_query.ensures

@@ -1,6 +1,6 @@
 use Rattle.std.proofs.Common.{◌∙◌, sym}
 use Rattle.nc_script.proofs.serving.RequestWords.{none_with}
-use Rattle.nc_script.proofs.request.asked_with.Goals as goal
+use Rattle.nc_script.proofs.request.request_with.Goals as goal
 
 pub returns : goal.returns
 returns c =
