@@ -5,7 +5,7 @@ from __future__ import annotations
 import re
 from typing import Any
 
-NOTES = {"$schema", "$defs", "title", "description"}
+NOTES = {"$schema", "$comment", "$defs", "title", "description"}
 TYPES = {"object": dict, "array": list, "string": str, "integer": int}
 
 # The words that judge a value by itself: whether it fits what stands behind the word, and what is said where it doesn't.

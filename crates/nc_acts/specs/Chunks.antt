@@ -5,6 +5,8 @@ use Rattle.nc_text.specs.Marks.{IsClosed}
 use Rattle.nc_text.specs.Marks.{mark_at}
 use Rattle.nc_text.specs.Places.{byte_at}
 use Rattle.nc_text.specs.MarkedText.{MarkedText, unused_text, unused_mark}
+-- The clauses of the acts say what a text with a chunk is (`with_chunk`), and which spans a chunk may have (`HasGoodSpan`, from the rules
+-- of vetting). Both are handed on, so that a crate above takes all terms of these clauses from one place.
 pub use Rattle.nc_text.specs.MarkedText.{with_chunk}
 pub use Rattle.nc_vet.specs.Faults.{HasGoodSpan}
 

@@ -21,6 +21,11 @@
 //! assert!(decode(&[0xC3]) == Err(DecodeFault::NotPermitted)); // a return
 //! assert!(decode(&[0xE8, 0x00]) == Err(DecodeFault::Truncated)); // the beginning of a call
 //! ```
+//!
+//! `decode` is in `decoding`. It finds the shape of an instruction first (`shape`): the opcode's entry in the opcode maps (`table`),
+//! whose names `entries`, `groups` and `entry` explain, and the operand's length (`operand`). `instruction` has the result. The
+//! automaton is in `automaton`, with its states in `states`, and a bundle's bits are in `bundle`. `bundles` has the constants,
+//! `transfer` the direct transfers, and `law` the laws.
 #![tactic(auto)]
 
 mod automaton;

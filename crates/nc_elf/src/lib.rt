@@ -31,6 +31,10 @@
 //!     print(symbol.address, symbol.name(file));
 //! }
 //! ```
+//!
+//! `header` and `program` read the ELF header and the program headers, and `checks` has the checks, with the faults of `fault`.
+//! `listing` lists the segments of code (`segment`), and `loaded` writes all loaded ones. `symbols` lists the symbols: `sections` finds
+//! the symbol table, and `entries` reads its entries and their names. `numbers` reads a number in the file.
 #![tactic(auto)]
 
 mod checks;

@@ -4,7 +4,7 @@
 //! `making` makes the seats, and a region over the host's own acts (`image`), and `loading` vets code and creates it. `host` takes this
 //! region behind its lock through a whole life: code vetted before the lock is taken, two threads that run code while it is patched and
 //! deleted, reclaiming, and the same span used again. `guest` is one of these threads, and `turns` makes the output the same for every
-//! schedule.
+//! schedule. `code` is the code that the threads run, `fault` says why it isn't loaded and why the host gives up, and `printing` prints.
 //!
 //! - Vet first, then take the lock (`load` in `host`). `vet` takes the bytes by value, so nobody can change them between the verdict and
 //!   the puts.

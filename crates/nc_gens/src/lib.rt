@@ -13,6 +13,10 @@
 //! self-modifying code"); the technique is quiescent-state-based reclamation. A pass stores only to its own seat's word, and only the
 //! keeper changes the generation. Nothing here waits. Once every seat has checked in since a stamp, or has left, the next look shows it
 //! ([`law_of_progress`]). A seat that neither checks in nor leaves holds back every later stamp for good.
+//!
+//! `table` has the types, and `opening` creates them. `keeper` and `pass` have the calls of these two tokens, and `meeting` that of
+//! both. `view` says what each token knows about the words, and `steps` has the atomic steps, which change that. `progress` is the law,
+//! and `fault` has the refusals.
 #![tactic(auto)]
 
 mod fault;

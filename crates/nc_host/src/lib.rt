@@ -26,9 +26,13 @@
 //! On a lent file:
 //!
 //! - [`nc_host_elf`]: the loaded segments of an ELF file, each judged.
+//!
+//! A file whose name begins with `lent` has a call on lent bytes, and one that begins with `region` has calls on a region. `vetted` has
+//! those on a handle of a vetted chunk, `seat` those on a seat, and `version` has [`nc_host_version`]. `lent_answers` and
+//! `region_answers` have the structs that calls return, and `numbers` the numbers of refusals. `vet_copy` is no call: it makes the copy
+//! that a creation and a handle keep.
 #![tactic(auto)]
 
-mod chunks;
 mod lent_answers;
 mod lent_decode;
 mod lent_elf;
@@ -45,6 +49,7 @@ mod region_runs;
 mod region_walk;
 mod seat;
 mod version;
+mod vet_copy;
 mod vetted;
 
 pub use lent_answers::{NcInstruction, NcSegments, NcVerdict};

@@ -13,9 +13,9 @@ ghost use Rattle.nc_host_handles.specs.declared.fault.PatchFault.{PatchFault};
 ghost use Rattle.nc_host.specs.Handles.{IsChunkFor, IsDone, IsNumberedRefusal, IsSameButPages, load_number, load_wanted, patch_number, patch_wanted};
 ghost use Rattle.nc_host.specs.Outcomes.{IsChunkFault};
 
-use crate::chunks::vet_copy;
 use crate::numbers::{NOTHING, load_numbers, patch_numbers};
 use crate::region_answers::{NcChange, no_change};
+use crate::vet_copy::vet_copy;
 use nc_host_handles::{NcAct, NcRegion, RegionHandle};
 use nc_vet::Vetted;
 use std::alloc::Global;

@@ -11,11 +11,11 @@ ghost use Rattle.nc_host_handles.specs.declared.vetted_handle.VettedHandle.{Vett
 ghost use Rattle.nc_host.specs.Handles.{HoldsVetted, IsDone, IsSameButPages, IsVetted, load_number, load_wanted};
 ghost use Rattle.nc_host.specs.Outcomes.{IsChunkFault};
 
-use crate::chunks::vet_copy;
 use crate::lent_answers::NcVerdict;
 use crate::lent_vet::verdict_of;
 use crate::numbers::{NOTHING, TAKEN, load_numbers};
 use crate::region_answers::{NcChange, no_change};
+use crate::vet_copy::vet_copy;
 use nc_host_handles::{NcAct, NcRegion, NcVetted, RegionHandle, VettedHandle};
 use nc_vet::VetFault;
 use std::alloc::Global;

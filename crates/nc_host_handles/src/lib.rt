@@ -10,6 +10,12 @@
 //!
 //! An [`NcAct`] is an entry of the log by which `nc_region` changes a text. The calls of a `RegionHandle` write such a log into a
 //! buffer that the host lends, by the writers of `nc_host_acts`.
+//!
+//! `region_handle`, `seat_handle` and `vetted_handle` are the three values. `region_calls` has the changes of a region, `run_calls`
+//! their acts as runs, and `queries` what reads it. `seats` gives out seats, and `attending` checks in for those that haven't been
+//! given out. `span` and `window` read a region's bytes for the writers of acts. `region_pointer`, `seat_pointer` and `vetted_pointer`
+//! are what C holds: `parts` has a box as its pointer, and `sent` makes the prover check that a value may go to another thread. `fault`
+//! says why a call is refused.
 #![tactic(auto)]
 
 mod attending;

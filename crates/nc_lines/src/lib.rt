@@ -1,10 +1,13 @@
 //! Reads lines and writes one reply line for each, and vets the chunks that lines name.
 //!
-//! [`reply_to_all`] reads lines of any length in pieces, and hands each line to a [`Responder`], which replies to it. With
-//! [`reply_gathered`], `replies` holds the replies back until more is to be read.
-//! [`vet_lines`] vets the chunks that lines name, several at a time: `batch` gathers the lines, and `verdicts` writes the
-//! verdicts. [`words_of`], [`address_of`] and [`placed_of`] parse the words of a line; [`first_address_of`] and [`placed_at`] parse
-//! a text without a list of its words.
+//! [`reply_to_all`] reads lines of any length in pieces, and hands each line to a [`Responder`], which replies to it.
+//! [`reply_gathered`] holds the replies back until more is to be read. [`vet_lines`] vets the chunks that lines name, several at a time.
+//! [`words_of`], [`address_of`] and [`placed_of`] parse the words of a line; [`first_address_of`] and [`placed_at`] parse a text without a
+//! list of its words.
+//!
+//! `stream` reads the pieces, and `lines` cuts them into lines. `responder` is the trait, and `replies` holds replies back. `vetting`
+//! is [`vet_lines`]: `batch` gathers the lines, and `verdicts` writes the verdicts as replies. `words` parses the words of a line, and
+//! `digits` the bytes in them. `fault` says why a run ended early.
 #![tactic(auto)]
 
 mod batch;

@@ -14,6 +14,10 @@
 //!
 //! A chunk takes 16 bytes. Two neighbouring leaves have more than 48 chunks in room for 128, and two neighbouring rows more than
 //! 96 leaves in room for 256. So a list takes at most 48 bytes for each chunk once it has more chunks than one leaf.
+//!
+//! `list` is [`ChunkList`], and `chunk` what it lists. `row`, `leaf` and `entry` are the levels of the tree, down to a chunk in 16
+//! bytes. `part` is what rows and leaves have in common, `parts` are those of a row, and `starts` counts the chunks before each of
+//! them. `place` is where a search ended.
 #![tactic(auto)]
 
 mod chunk;

@@ -4,6 +4,9 @@
 //! give these two parts. [`write_out`] writes all of the given bytes; a [`PipeWriter`] reports whether its reader is gone.
 //! [`push_detail`] adds a line of details without control bytes, and [`push_between`] the inside of a JSON string. [`Style`] says how
 //! much is written about a file, and in which form.
+//!
+//! `verdict` has the words of refusals, `shown` lines without control bytes, and `strings` the insides of JSON strings. `writing` is
+//! [`write_out`], `pipe_writer` is [`PipeWriter`], and `detail` is [`Style`].
 #![tactic(auto)]
 
 mod detail;

@@ -85,7 +85,8 @@ fn list_room(alloc: Global, length: usize) -> Result<Vec<Mark>, AllocError>
 }
 
 /// Creates a chunk that is closed by itself in an unused span: from bits if both sides keep them, otherwise act by act. `room` is for
-/// a list of more than `SMALL` marks.
+/// a list of more than `SMALL` marks. From bits (`put_by_bits`, `put_bundles`, `change` of `nc_text`) whole spans are copied in no order,
+/// since nobody executes that text. The order of bytes is that of the log of acts (`Acts::put_bundles`).
 pub(crate) fn put_chunk<A: Acts>(
     acts: &mut A,
     base: u32,

@@ -42,6 +42,11 @@
 //!
 //! The order of puts and the use of generations follow Ansel et al. 2011, "Language-independent sandboxing of just-in-time
 //! compilation and self-modifying code".
+//!
+//! `region` is [`RegionOf`]. Each change has a file: `create`, `patch` with `patch/judge`, which decides, and `patch/put`, which acts,
+//! `delete` and `reclaim`. `listing` searches the list of chunks. `walk` walks, and `trace` is its result. `shared` is [`SharedOf`],
+//! over the lock of `lock` and `lock/ruled`, which know from which region the present one was reached. `law` has the laws, and `fault`
+//! the refusals.
 #![tactic(auto)]
 
 mod create;

@@ -1,4 +1,4 @@
-//! Verdicts as JSON objects, each on a line of its own.
+//! Verdicts as JSON objects, each on a line of its own. `docs/nc_check.schema.json` describes them; a new member goes there, too.
 
 ghost use Rattle.std.specs.Prelude.{◌≡◌, ◌≢◌, ◌<◌, ◌++◌, ℕ, List, codes, IfOk, OnOk};
 ghost use Rattle.nc_vet.specs.declared.fault.VetFault.TheVariants as vet;

@@ -26,6 +26,12 @@
 //! let Err((back, fault)) = vet(0x10000, 0x10040, nops_and_a_return) else { .. };
 //! assert!(fault == VetFault::NotPermitted { at: 0x1001F });
 //! ```
+//!
+//! `vetting` has the order of the rules, `vetted` and `fault` its two results, and `law` the laws. A chunk is read by bundles first:
+//! `lanes` runs the automaton over eight of them in lock step, and `lane` over one, two or four. From the first bundle at whose end no
+//! instruction ends, `reading` goes on instruction by instruction, and finds the fault. `marks` keeps the marks, as bits where all
+//! bundles were read. `targets` finds the first bad target: by the bits, if they are kept, it passes over bundles without one
+//! (`transfers`), and in many bundles first lists their transfers (`lists`).
 #![tactic(auto)]
 
 mod fault;

@@ -3,7 +3,7 @@ use Rattle.std.proofs.lemmas.Grind.{common_steps}
 use Rattle.nc_vet.specs.declared.fault.VetFault.TheVariants.{OutOfMemory}
 use Rattle.nc_host.specs.declared.lent_answers.NcVerdict.{NcVerdict}
 use Rattle.nc_host.proofs.Accepted.{good_span, some_fault}
-use Rattle.nc_host.proofs.chunks.vet_copy.Goals as goal
+use Rattle.nc_host.proofs.vet_copy.vet_copy.Goals as goal
 
 pub returns-in-Err-clause-fault : goal.returns-in-Err-clause-fault
 returns-in-Err-clause-fault c = grind (arith, common_steps)

@@ -1,4 +1,4 @@
-//! Vetted chunks.
+//! Lent code that is vetted and then copied, for a creation or a handle to keep.
 
 ghost use Rattle.std.specs.Prelude.{◌≡◌, ◌<◌, IfOk, IfErr};
 ghost use Rattle.nc_host.specs.Handles.{IsVetted};
