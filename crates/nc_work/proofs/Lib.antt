@@ -1,2 +1,3 @@
 pub mod Offered
-pub mod Places
+mod Places
+mod Outcomes

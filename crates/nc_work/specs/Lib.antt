@@ -1,2 +1,4 @@
 pub mod Verdicts
-pub mod Answers
+pub mod Outcomes
+pub mod Places
+pub mod Found

@@ -5,17 +5,19 @@
 //! has finished one; a **verdict** is the result of `nc_vet::vet` for a job. A **gate** is called before and after each
 //! job, with the job's number; `Open` is the gate that does nothing.
 //!
-//! `vet_all` is the only call: it takes jobs and returns verdicts in the jobs' order, the same for any number of workers.
+//! [`vet_all`] takes jobs and returns verdicts in the jobs' order, the same for any number of workers. Below it is a pool of workers for
+//! work of any kind: [`for_places`] calls a closure with each number below a count, and what a worker gives for a number is its
+//! **outcome**.
 #![tactic(auto)]
 
 mod fault;
 mod gate;
 mod job;
-mod room;
+mod pool;
 mod vetting;
-mod work;
 
 pub use fault::WorkFault;
 pub use gate::{Gate, Open};
 pub use job::{Job, Verdict};
+pub use pool::for_places;
 pub use vetting::vet_all;

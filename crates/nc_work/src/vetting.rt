@@ -1,97 +1,88 @@
 //! Vets all jobs.
 
-ghost use Rattle.std.specs.Prelude.{◌≡◌, ◌↔◌, [], All, Some, length, vec_len, vec_capacity, IfOk, IfErr, Err};
+ghost use Rattle.std.specs.Prelude.{◌≡◌, ◌<◌, ◌↔◌, [], length, vec_len, vec_capacity, IfOk, IfErr, Err};
 ghost use Rattle.std.specs.List.{AllZip};
 ghost use Rattle.std.specs.Option.{ForSome};
 ghost use Rattle.nc_work.specs.Verdicts.{IsVerdictOn, AreWorkers};
-ghost use Rattle.nc_work.specs.Answers.{AnswersJob, FitsPlace, AreDone, AreAnswers};
+ghost use Rattle.nc_work.specs.Outcomes.{IsOutcomeOf, FitsJob, AreOutcomes};
 
 use crate::fault::WorkFault;
 use crate::gate::Gate;
 use crate::job::{Job, Verdict};
-use crate::room::Room;
-use crate::work::{Answer, Done, judge_job, work};
-use nc_vet::Vetted;
+use crate::pool::for_places;
+use nc_vet::{Marks, VetFault, Vetted, judge};
+use std::alloc::{AllocError, Global};
 use std::sync::Wait;
-use std::sync::atomic::AtomicUsize;
-use std::thread::{Threads, for_each_mut};
+use std::thread::Threads;
 
 /// The largest number of workers.
 const MOST: u32 = 16;
 
-/// Judges jobs with one worker for each list. Each worker begins with the job of its own number.
-fn work_all<G: Gate, T: Threads + Sync>(rt: &T, jobs: &[Job], lists: &mut [Vec<Done>], gate: &G)
-    requires { All (λ list. AreDone jobs.now list.items) lists.old }
-    ensures { All (λ list. AreDone jobs.now list.items) lists.new }
+/// The marks of a valid chunk, or a chunk's fault.
+type Outcome = Result<Marks, VetFault>;
+
+/// What workers have found, and room for the verdicts.
+#[derive(Drop)]
+struct Judged {
+    outcomes: Vec<Option<Outcome>>,
+    verdicts: Vec<Verdict>,
+}
+
+/// Judges a job's chunk in place, between the gate's two calls.
+fn judge_job<G: Gate>(number: usize, job: &Job, gate: &G) -> Outcome
+    ensures { IsOutcomeOf job.now result }
 {
-    let count = lists.len();
-    let next = AtomicUsize::new(count);
-    for_each_mut(
+    gate.before(number);
+    let outcome = judge(*job.code.allocator(), job.base, job.limit, &job.code);
+    gate.after(number);
+    outcome
+}
+
+/// Judges jobs by workers. Returns their outcomes, in the jobs' order, where a worker has judged them, and room for the verdicts.
+fn judge_all<G: Gate, T: Threads + Sync>(
+    rt: &T,
+    alloc: Global,
+    jobs: &[Job],
+    workers: usize,
+    gate: &G,
+) -> Result<Judged, AllocError>
+    ensures len { IfOk result (λ judged. vec_len judged.outcomes ≡ length jobs.now) }
+    ensures outcomes { IfOk result (λ judged. AreOutcomes jobs.now judged.outcomes.items) }
+    ensures verdicts { IfOk result (λ judged. (judged.verdicts.items ≡ []) × (vec_capacity judged.verdicts ≡ length jobs.now)) }
+{
+    let verdicts = Vec::with_capacity(alloc, jobs.len())?;
+    let outcomes = for_places(
         rt,
-        lists,
-        count.max(1),
-        &|own: usize, done: &mut Vec<Done>|
-            requires { AreDone jobs.now done.old.items }
-            ensures { AreDone jobs.entry.now done.new.items }
-        { work(jobs, own, &next, gate, done) },
-    );
+        alloc,
+        jobs.len(),
+        workers,
+        (),
+        &|number: usize, _state: &mut ()|
+            requires { number < length jobs.now }
+            ensures { FitsJob jobs.entry.now number result }
+        { Some(judge_job(number, &jobs[number], gate)) },
+    )?;
+    Ok(Judged { outcomes, verdicts })
 }
 
-/// Puts an answer into its place.
-fn put(jobs: &[Job], done: Done, answers: &mut [Option<Answer>])
-    requires done { FitsPlace jobs.now done.job (Some done.answer) }
-    requires answers { AreAnswers jobs.now answers.old }
-    ensures len { length answers.new ≡ length answers.old }
-    ensures answers { AreAnswers jobs.now answers.new }
-{
-    let Done { job, answer } = done;
-    if job < answers.len() {
-        answers[job] = Some(answer);
-    }
-}
-
-/// Puts the answers of one worker into their places.
-fn put_all(jobs: &[Job], done: Vec<Done>, answers: &mut [Option<Answer>])
-    requires done { AreDone jobs.now done.items }
-    requires answers { AreAnswers jobs.now answers.old }
-    ensures len { length answers.new ≡ length answers.old }
-    ensures answers { AreAnswers jobs.now answers.new }
-{
-    for one in done {
-        put(jobs, one, answers);
-    }
-}
-
-/// Puts the answers of all workers into their places.
-fn gather(jobs: &[Job], lists: Vec<Vec<Done>>, answers: &mut [Option<Answer>])
-    requires lists { All (λ list. AreDone jobs.now list.items) lists.items }
-    requires answers { AreAnswers jobs.now answers.old }
-    ensures len { length answers.new ≡ length answers.old }
-    ensures answers { AreAnswers jobs.now answers.new }
-{
-    for done in lists {
-        put_all(jobs, done, answers);
-    }
-}
-
-/// The verdict on a job, by the answer on its chunk.
-fn verdict(job: Job, answer: Answer) -> Verdict
-    requires { AnswersJob job answer }
+/// The verdict on a job, by the outcome of its chunk.
+fn verdict(job: Job, outcome: Outcome) -> Verdict
+    requires { IsOutcomeOf job outcome }
     ensures { IsVerdictOn job result }
 {
-    match answer {
+    match outcome {
         Ok(marks) => Ok(Vetted::new(job.base, job.limit, job.code, marks)),
         Err(fault) => Err((job.code, fault)),
     }
 }
 
-/// The answer that was found; if there is none, judges the job.
-fn answer_of<G: Gate>(number: usize, job: &Job, found: Option<Answer>, gate: &G) -> Answer
-    requires { ForSome found (AnswersJob job.now) }
-    ensures { AnswersJob job.now result }
+/// The outcome that was found; if there is none, judges the job.
+fn outcome_of<G: Gate>(number: usize, job: &Job, found: Option<Outcome>, gate: &G) -> Outcome
+    requires { ForSome found (IsOutcomeOf job.now) }
+    ensures { IsOutcomeOf job.now result }
 {
     match found {
-        Some(answer) => answer,
+        Some(outcome) => outcome,
         None => judge_job(number, job, gate),
     }
 }
@@ -99,19 +90,19 @@ fn answer_of<G: Gate>(number: usize, job: &Job, found: Option<Answer>, gate: &G)
 /// The verdicts on all jobs. A job that no worker has judged is judged here.
 fn conclude<G: Gate>(
     jobs: Vec<Job>,
-    answers: &mut [Option<Answer>],
+    outcomes: &mut [Option<Outcome>],
     mut verdicts: Vec<Verdict>,
     gate: &G,
 ) -> Vec<Verdict>
-    requires len { length answers.old ≡ vec_len jobs }
-    requires answers { AreAnswers jobs.items answers.old }
+    requires len { length outcomes.old ≡ vec_len jobs }
+    requires outcomes { AreOutcomes jobs.items outcomes.old }
     requires room { (verdicts.items ≡ []) × (vec_capacity verdicts ≡ vec_len jobs) }
     ensures { AllZip IsVerdictOn jobs.items result.items }
 {
     for job in jobs {
         let number = verdicts.len();
-        let answer = answer_of(number, &job, answers[number].take(), gate);
-        verdicts.push_reserved(verdict(job, answer));
+        let outcome = outcome_of(number, &job, outcomes[number].take(), gate);
+        verdicts.push_reserved(verdict(job, outcome));
     }
     verdicts
 }
@@ -140,16 +131,12 @@ pub fn vet_all<G: Gate, T: Threads + Wait + Sync>(
     if workers < 1 || MOST < workers {
         return Err((jobs, WorkFault::BadWorkers));
     }
-    let Ok(room) = Room::new(*jobs.allocator(), jobs.len(), workers as usize) else {
+    let Ok(judged) = judge_all(rt, *jobs.allocator(), &jobs, workers as usize, gate) else {
         return Err((jobs, WorkFault::OutOfMemory));
     };
-    let Room {
-        mut lists,
-        mut answers,
+    let Judged {
+        mut outcomes,
         verdicts,
-    } = room;
-    work_all(rt, &jobs, &mut lists, gate);
-    let places = answers.as_mut_slice();
-    gather(&jobs, lists, places);
-    Ok(conclude(jobs, places, verdicts, gate))
+    } = judged;
+    Ok(conclude(jobs, &mut outcomes, verdicts, gate))
 }

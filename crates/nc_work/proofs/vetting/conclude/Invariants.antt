@@ -2,7 +2,7 @@ use Rattle.std.specs.Prelude.{◌≡◌, ◌≤◌, length, take, drop, vec_len,
 use Rattle.std.specs.List.{AllZip}
 use Rattle.std.specs.Vec.Iter.{into_iter_items}
 use Rattle.nc_work.specs.Verdicts.{IsVerdictOn}
-use Rattle.nc_work.specs.Answers.{AreAnswers}
+use Rattle.nc_work.specs.Outcomes.{AreOutcomes}
 use Rattle.nc_work.proofs.vetting.conclude.Given as goal
 
 abbrev pub invariant-loop-job : goal.invariant-loop-job
@@ -10,8 +10,8 @@ invariant-loop-job g l =
     let jobs = l.fn.jobs.items in
     let n = vec_len l.verdicts in
     record {
-      len : length l.answers ≡ length jobs;
-      answers : AreAnswers jobs l.answers;
+      len : length l.outcomes ≡ length jobs;
+      outcomes : AreOutcomes jobs l.outcomes;
       rest : into_iter_items l.job-iterator ≡ drop n jobs;
       within : n ≤ length jobs;
       room : vec_capacity l.verdicts ≡ length jobs;
