@@ -2,7 +2,8 @@
 
 ghost use Rattle.std.specs.Prelude.{◌≡◌, [], IfOk};
 
-use nc_report::{Source, SourceFault, read_source};
+use crate::source::{SourceFault, read_source};
+use nc_report::Source;
 use std::alloc::Global;
 use std::fs;
 use std::fs::{File, OpenFile};

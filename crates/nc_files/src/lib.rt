@@ -2,8 +2,8 @@
 //!
 //! [`check_files`] goes through the files, one round after another, and prints the reports (`checking`). `working` lets workers judge
 //! the files of a round, each into a report that `buffered` holds, and puts the reports into the places of their files. `judging` judges
-//! one file: `files` opens and reads it, `parts` finds the segments of code of an ELF file and `labelling` the names in them, and
-//! `report` of `nc_report` writes the report. `outcome` has the exit status, and a [`Progress`] shows how far the work is.
+//! one file: `files` opens it, `source` reads it to its end, `parts` finds the segments of code of an ELF file and `labelling` the names
+//! in them, and `report` of `nc_report` writes the report. `outcome` has the exit status, and a [`Progress`] shows how far the work is.
 #![tactic(auto)]
 
 mod buffered;
@@ -14,6 +14,7 @@ mod labelling;
 mod outcome;
 mod parts;
 mod progress;
+mod source;
 mod working;
 
 pub use checking::check_files;

@@ -1,20 +1,6 @@
-//! Why a source isn't read, or a report isn't finished.
+//! Why a report isn't finished.
 
 use thiserror::Error;
-
-/// Why a source isn't read.
-#[derive(Clone, Copy, Debug, Drop, PartialEq, Eq, Error)]
-pub enum SourceFault {
-    /// The reader failed.
-    #[error("read failed")]
-    ReadFailed,
-    /// The reader gave more bytes than the largest region has.
-    #[error("too long")]
-    TooLong,
-    /// There was no memory for the bytes.
-    #[error("out of memory")]
-    OutOfMemory,
-}
 
 /// Why a report isn't finished.
 #[derive(Clone, Copy, Debug, Drop, PartialEq, Eq, Error)]

@@ -1,9 +1,8 @@
 //! Reports on raw code and on segments of linked files: their verdicts, and what a refusal means for the person building the code.
 //!
-//! [`read_source`] reads a file's bytes, and [`report`] vets such a source and writes the report on it. Both are generic over the
-//! reader or the writer, so that their contracts can name the bytes. In text, the first line of a report is the verdict, and the
-//! lines after it begin with two spaces; `objects` writes JSON instead, by `json`, and `outside` lists the addresses outside
-//! accepted code that its direct transfers target.
+//! [`report`] vets a [`Source`], the bytes of a file under its name, and writes the report on it. It is generic over the writer, so that
+//! its contract can name the bytes. In text, the first line of a report is the verdict, and the lines after it begin with two spaces;
+//! `objects` writes JSON instead, by `json`, and `outside` lists the addresses outside accepted code that its direct transfers target.
 //!
 //! `source_report` writes the report, and `counting` counts the instructions in a valid chunk. A `finding` is what is shown about a
 //! fault: its bundle, the target of a refused transfer by `targets`, and what the fault means by `advice`. `explaining` writes it
@@ -46,10 +45,10 @@ mod targets;
 mod totals;
 mod words;
 
-pub use fault::{ReportFault, SourceFault};
+pub use fault::ReportFault;
 pub use forms::is_hexadecimal;
 pub use labels::{Label, Labels};
 pub use law::{law_of_objects, law_of_readings};
 pub use objects::push_file_object;
 pub use reporting::report;
-pub use source::{MOST_BYTES, Source, read_source};
+pub use source::Source;

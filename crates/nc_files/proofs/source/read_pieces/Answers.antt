@@ -1,7 +1,7 @@
 use Rattle.std.proofs.Common.{◌≡◌, ◌≤◌, ◌+◌, ◌++◌, Option, ℕ, List, length, take, arith, refl, sym, ap, ◌∙◌, subst, append-nil, length-append, length-take-le}
 use Rattle.std.specs.Io.KnownBytes.{Consumes}
 use Rattle.std.proofs.KnownBytes.{Consumes-nil, Consumes-trans, Consumes-kept, Consumes-whole}
-use Rattle.nc_report.proofs.source.read_pieces.Goals as goal
+use Rattle.nc_files.proofs.source.read_pieces.Goals as goal
 
 -- with the next piece more was read
 more_read : (before mid after : Option (List ℕ)) (code buf : List ℕ) (n : ℕ) → Consumes before mid code → Consumes mid after (take n buf)

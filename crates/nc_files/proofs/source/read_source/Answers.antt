@@ -1,6 +1,6 @@
 use Rattle.std.proofs.Common.{[], arith}
 use Rattle.std.proofs.KnownBytes.{Consumes-nil}
-use Rattle.nc_report.proofs.source.read_source.Goals as goal
+use Rattle.nc_files.proofs.source.read_source.Goals as goal
 
 pub returns-in_default-clause-out_of_memory : goal.returns-in_default-clause-out_of_memory
 returns-in_default-clause-out_of_memory g c = λ _. ([], Consumes-nil _, omega arith)

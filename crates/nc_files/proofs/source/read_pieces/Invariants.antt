@@ -1,7 +1,7 @@
 -- What was read is the code so far, at least a byte for each read.
 use Rattle.std.proofs.Common.{◌≤◌, length}
 use Rattle.std.specs.Io.KnownBytes.{Consumes}
-use Rattle.nc_report.proofs.source.read_pieces.Given as goal
+use Rattle.nc_files.proofs.source.read_pieces.Given as goal
 
 abbrev pub invariant-loop : goal.invariant-loop
 invariant-loop g l =
