@@ -11,8 +11,8 @@ mod halt;
 use clap::error::ErrorKind as ClapKind;
 use halt::Halt;
 use nc_cli::arguments;
-use nc_command::{CheckAsk, ask_check, check_words};
-use nc_files::{Failure, Progress, check_files};
+use nc_command::{ask_check, check_words};
+use nc_files::{Failure, Progress, Request, check_files};
 use nc_output::PipeWriter;
 use std::io::{self, ErrorKind, Input, IsTerminal};
 use std::process::ExitCode;
@@ -34,13 +34,13 @@ where
     let Ok(arguments) = arguments(rt.alloc(), words) else {
         return Err(Halt::Files(Failure::OutOfMemory));
     };
-    let ask: CheckAsk<'_> = match ask_check(rt.alloc(), arguments.as_slice()) {
-        Ok(ask) => ask,
+    let request: Request<'_> = match ask_check(rt.alloc(), arguments.as_slice()) {
+        Ok(request) => request,
         Err(error) => return Err(Halt::Words(error)),
     };
-    let progress = Progress::new(ask.files.len(), is_terminal, is_shared);
+    let progress = Progress::new(request.files.len(), is_terminal, is_shared);
     let mut writer = PipeWriter::new(io::writer(rt));
-    match check_files(rt, &ask, progress, &mut writer) {
+    match check_files(rt, &request, progress, &mut writer) {
         Ok(status) => Ok(status),
         Err(failure) => Err(Halt::Files(failure)),
     }

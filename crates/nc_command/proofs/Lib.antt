@@ -1,2 +1,1 @@
-pub mod Offered
 mod Bases

@@ -1,6 +1,4 @@
-//! The requests that the programs' command lines make.
-
-use nc_output::Style;
+//! The requests that command lines of `nc_replay` make.
 
 /// The work that a command line of `nc_replay` asks for.
 #[derive(Clone, Copy, Debug, Drop, PartialEq, Eq)]
@@ -21,21 +19,4 @@ pub struct ReplayAsk {
     pub explain: bool,
     /// Whether the exit status is 1 if a line was bad.
     pub strict: bool,
-}
-
-/// The request that a command line of `nc_check` makes: to judge the code of files.
-#[derive(Drop)]
-pub struct CheckAsk<'a> {
-    /// The address of the first byte of each file of raw code.
-    pub base: u32,
-    /// Whether files that begin as ELF files do are judged as raw code too.
-    pub raw: bool,
-    /// The size of the region in bundles.
-    pub bundles: u32,
-    /// The number of threads that judge.
-    pub workers: u32,
-    /// How much is written about each file, and in which form.
-    pub style: Style,
-    /// The files, at least one; `-` is standard input.
-    pub files: Vec<&'a str>,
 }

@@ -4,7 +4,6 @@ ghost use Rattle.std.specs.Prelude.{◌≡◌, ◌≤◌, ℕ, List, IfOk, IfSom
 ghost use Rattle.std.specs.Str.Parse.{IsNumeral};
 ghost use Rattle.nc_command.specs.Checking.{EndsInDigits, SpellsBase, IsCheckInRange};
 
-use crate::asked::CheckAsk;
 use crate::options::{BUNDLES, WORKERS};
 use crate::replay::number;
 use clap::builder::ValueParser;
@@ -12,6 +11,7 @@ use clap::error::ErrorKind;
 use clap::{ArgAction, ArgMatches, Error};
 use nc_cli::{FLAG, OPTION, Program, Usage, Word, command_words, fault, matches};
 use nc_decode::MAX_BUNDLES;
+use nc_files::Request;
 use nc_output::{Detail, Format, Style};
 use std::alloc::{AllocError, Global};
 use std::rt::Env;
@@ -164,7 +164,7 @@ fn files_asked<'a>(alloc: Global, found: &ArgMatches<'a>) -> Result<Vec<&'a str>
 }
 
 /// The request that the matches of a command line of `nc_check` make.
-fn asked<'a>(alloc: Global, found: &ArgMatches<'a>) -> Result<CheckAsk<'a>, Error>
+fn request_in<'a>(alloc: Global, found: &ArgMatches<'a>) -> Result<Request<'a>, Error>
     ensures { IfOk result IsCheckInRange }
 {
     let base = base_asked(alloc, found)?;
@@ -173,7 +173,7 @@ fn asked<'a>(alloc: Global, found: &ArgMatches<'a>) -> Result<CheckAsk<'a>, Erro
         format: format_asked(found),
     };
     let files = files_asked(alloc, found)?;
-    Ok(CheckAsk {
+    Ok(Request {
         base,
         raw: found.get_flag("raw"),
         bundles: number(found, "bundles", 2, MAX_BUNDLES),
@@ -185,14 +185,14 @@ fn asked<'a>(alloc: Global, found: &ArgMatches<'a>) -> Result<CheckAsk<'a>, Erro
 
 /// Reads the words of a command line of `nc_check`, which don't begin with the program's own name. Returns the request that they
 /// make, or else a fault of the words, a wish for help or the version, or lack of memory.
-pub fn ask_check<'a>(alloc: Global, words: &'a [&'a str]) -> Result<CheckAsk<'a>, Error>
+pub fn ask_check<'a>(alloc: Global, words: &'a [&'a str]) -> Result<Request<'a>, Error>
     // The numbers are in the ranges of the options, and there is a file.
     ensures { IfOk result IsCheckInRange }
 {
     let found = matches(alloc, program(), words)?;
-    let asked = asked(alloc, &found);
+    let request = request_in(alloc, &found);
     drop(found);
-    asked
+    request
 }
 
 /// The words of the command line of `nc_check`, the program's own name first. If there is no memory for them, the fault has

@@ -9,7 +9,7 @@ use Rattle.nc_output.specs.declared.detail.Format.{Format}
 use Rattle.nc_output.specs.declared.detail.Format.TheVariants.{Text}
 use Rattle.nc_output.specs.declared.detail.Style.{Style}
 use Rattle.nc_report.specs.Report.{HasWritten}
-use Rattle.nc_command.specs.declared.asked.CheckAsk.{CheckAsk}
+use Rattle.nc_files.specs.declared.request.Request.{Request}
 use Rattle.nc_files.specs.Parts.{bases_in, codes_in, names_in, part_name}
 use Rattle.nc_files.specs.Reports.{Judged, judged_in, segment_code, raw_code, ReportsCode, ReportsAll, ReportsRaw, has_note, note_if, explanation, refusal_text}
 use Rattle.nc_files.specs.declared.parts.Part.{Part}
@@ -37,9 +37,10 @@ or_assoc true b c = refl
 or_assoc false b c = refl
 
 -- the report on one more, after the reports on others
-pub reports_more : (ask : CheckAsk) (done : List Judged) (judged : Judged) (refused more : Bool) (text next : List ℕ)
-    → ReportsAll ask done refused text → ReportsCode ask judged more next → ReportsAll ask (done ++ judged ∷ []) (refused || more) (text ++ next)
-reports_more ask [] judged refused more text next (none, empty) h = (
+pub reports_more : (request : Request) (done : List Judged) (judged : Judged) (refused more : Bool) (text next : List ℕ)
+    → ReportsAll request done refused text → ReportsCode request judged more next
+    → ReportsAll request (done ++ judged ∷ []) (refused || more) (text ++ next)
+reports_more request [] judged refused more text next (none, empty) h = (
   more,
   false,
   next,
@@ -49,13 +50,13 @@ reports_more ask [] judged refused more text next (none, empty) h = (
   ap (λ (b : Bool). b || more) none ∙ or-false more,
   ap (λ (z : List ℕ). z ++ next) empty ∙ sym (append-nil next),
 )
-reports_more ask (one ∷ done) judged refused more text next (a, b, first, rest, says, others, is, whole) h = (
+reports_more request (one ∷ done) judged refused more text next (a, b, first, rest, says, others, is, whole) h = (
   a,
   b || more,
   first,
   rest ++ next,
   says,
-  reports_more ask done judged b more rest next others h,
+  reports_more request done judged b more rest next others h,
   ap (λ (z : Bool). z || more) is ∙ or_assoc a b more,
   ap (λ (z : List ℕ). z ++ next) whole ∙ append_assoc first rest next,
 )
@@ -81,27 +82,28 @@ split_more all before after part done is next =
     is ∙ ap (λ (z : List Part). done ++ map judged_in z) next ∙ sym (append_assoc done (judged_in part ∷ []) (map judged_in after))
 
 -- the report on raw code that is refused, which has no note
-pub raw_refused : (ask : CheckAsk) (name code : List ℕ) (refused : Bool) (before after : Option (List ℕ)) → refused ≡ true
-    → HasWritten (ReportsCode ask (raw_code ask name code) refused) before after → HasWritten (ReportsRaw ask name code true) before after
-raw_refused ask name code refused before after is h = record {
+pub raw_refused : (request : Request) (name code : List ℕ) (refused : Bool) (before after : Option (List ℕ)) → refused ≡ true
+    → HasWritten (ReportsCode request (raw_code request name code) refused) before after
+    → HasWritten (ReportsRaw request name code true) before after
+raw_refused request name code refused before after is h = record {
   text = h.text;
   says = record {
     report = h.text;
-    says = subst (λ (b : Bool). ReportsCode ask (raw_code ask name code) b h.text) is h.says;
+    says = subst (λ (b : Bool). ReportsCode request (raw_code request name code) b h.text) is h.says;
     written = sym (append-nil h.text);
   };
   written = h.written;
 }
 
 -- the report on raw code that is accepted, and after it the note, if it has one
-pub raw_accepted : (ask : CheckAsk) (name code : List ℕ) (refused noted : Bool) (before mid after : Option (List ℕ)) → refused ≡ false
-    → noted ≡ has_note ask.style code → HasWritten (ReportsCode ask (raw_code ask name code) refused) before mid
-    → Appends mid after (note_if noted) → HasWritten (ReportsRaw ask name code false) before after
-raw_accepted ask name code refused noted before mid after is tells h more = record {
+pub raw_accepted : (request : Request) (name code : List ℕ) (refused noted : Bool) (before mid after : Option (List ℕ)) → refused ≡ false
+    → noted ≡ has_note request.style code → HasWritten (ReportsCode request (raw_code request name code) refused) before mid
+    → Appends mid after (note_if noted) → HasWritten (ReportsRaw request name code false) before after
+raw_accepted request name code refused noted before mid after is tells h more = record {
   text = h.text ++ note_if noted;
   says = record {
     report = h.text;
-    says = subst (λ (b : Bool). ReportsCode ask (raw_code ask name code) b h.text) is h.says;
+    says = subst (λ (b : Bool). ReportsCode request (raw_code request name code) b h.text) is h.says;
     written = ap (λ (b : Bool). h.text ++ note_if b) tells;
   };
   written = Appends-trans before mid after h.text (note_if noted) h.written more;

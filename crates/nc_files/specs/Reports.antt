@@ -16,7 +16,7 @@ use Rattle.nc_output.specs.declared.detail.Style.{Style}
 use Rattle.nc_report.specs.Forms.{is_hexadecimal}
 use Rattle.nc_report.specs.Objects.{file_object}
 use Rattle.nc_report.specs.Report.{Reports, said_of}
-use Rattle.nc_command.specs.declared.asked.CheckAsk.{CheckAsk}
+use Rattle.nc_files.specs.declared.request.Request.{Request}
 use Rattle.nc_files.specs.Parts.{part_name}
 use Rattle.nc_files.specs.declared.parts.Part.{Part}
 use Rattle.nc_files.specs.declared.working.Report.{Report}
@@ -32,20 +32,20 @@ abbrev pub judged_in : Part → Judged
 judged_in part = record { base = part.base; name = part.source.name.items; code = part.source.code.items }
 
 -- the code is refused or not, and this is the report on it, for the region and in the style that are asked for
-abbrev pub ReportsCode : CheckAsk → Judged → Bool → List ℕ → Type 0
-ReportsCode ask judged refused text =
-    Reports judged.base (limit_after ask.bundles) ask.style judged.name judged.code refused text
+abbrev pub ReportsCode : Request → Judged → Bool → List ℕ → Type 0
+ReportsCode request judged refused text =
+    Reports judged.base (limit_after request.bundles) request.style judged.name judged.code refused text
 
 -- the reports on all of these, in order; it is refused if any of them is
-abbrev pub ReportsAll : CheckAsk → List Judged → Bool → List ℕ → Type 0
-ReportsAll ask [] refused text = (refused ≡ false) × (text ≡ [])
-ReportsAll ask (judged ∷ others) refused text =
-    (one more : Bool) × (first rest : List ℕ) × ReportsCode ask judged one first × ReportsAll ask others more rest
+abbrev pub ReportsAll : Request → List Judged → Bool → List ℕ → Type 0
+ReportsAll request [] refused text = (refused ≡ false) × (text ≡ [])
+ReportsAll request (judged ∷ others) refused text =
+    (one more : Bool) × (first rest : List ℕ) × ReportsCode request judged one first × ReportsAll request others more rest
     × (refused ≡ one || more) × (text ≡ first ++ rest)
 
 -- a file of raw code, at the address that is asked for
-abbrev pub raw_code : CheckAsk → List ℕ → List ℕ → Judged
-raw_code ask name code = record { base = ask.base; name = name; code = code }
+abbrev pub raw_code : Request → List ℕ → List ℕ → Judged
+raw_code request name code = record { base = request.base; name = name; code = code }
 
 -- a segment of an ELF file, at its own address
 abbrev pub segment_code : Format → List ℕ → List ℕ → Segment → Judged
@@ -71,10 +71,10 @@ abbrev pub note_if : Bool → List ℕ
 note_if noted = if noted then hexadecimal_note else []
 
 -- the report on a file of raw code, and after it the note, if it is accepted and has one
-pub record ReportsRaw (ask : CheckAsk) (name code : List ℕ) (refused : Bool) (text : List ℕ) : Type 0 where
+pub record ReportsRaw (request : Request) (name code : List ℕ) (refused : Bool) (text : List ℕ) : Type 0 where
   pub report : List ℕ
-  pub says : ReportsCode ask (raw_code ask name code) refused report
-  pub written : text ≡ report ++ note_if (not refused && has_note ask.style code)
+  pub says : ReportsCode request (raw_code request name code) refused report
+  pub written : text ≡ report ++ note_if (not refused && has_note request.style code)
 
 -- the line that explains a fault; none if only verdicts are written
 abbrev pub explanation : Detail → List ℕ → List ℕ
@@ -96,26 +96,26 @@ pub record RefusesElf (style : Style) (name code text : List ℕ) : Type 0 where
   pub written : text ≡ refusal_text style.format style.detail name meaning
 
 -- the reports on the segments of code of an ELF file, in the order of its program headers; or its refusal as a whole
-abbrev pub ReportsElf : CheckAsk → List ℕ → List ℕ → Bool → List ℕ → Type 0
-ReportsElf ask name code refused text =
-    (IsWellFormed code × ReportsAll ask (map (segment_code ask.style.format name code) (segments_of code)) refused text)
-    ⊎ ((refused ≡ true) × RefusesElf ask.style name code text)
+abbrev pub ReportsElf : Request → List ℕ → List ℕ → Bool → List ℕ → Type 0
+ReportsElf request name code refused text =
+    (IsWellFormed code × ReportsAll request (map (segment_code request.style.format name code) (segments_of code)) refused text)
+    ⊎ ((refused ≡ true) × RefusesElf request.style name code text)
 
 -- the file is judged as raw code: it doesn't begin as ELF files do, or that is asked for
-abbrev pub IsRaw : CheckAsk → List ℕ → Type 0
-IsRaw ask code = (ask.raw ≡ true) ⊎ ¬ IsElf code
+abbrev pub IsRaw : Request → List ℕ → Type 0
+IsRaw request code = (request.raw ≡ true) ⊎ ¬ IsElf code
 
 -- a file of this name and with these bytes is refused or not, and this is the report on it
-abbrev pub ReportsFile : CheckAsk → List ℕ → List ℕ → Bool → List ℕ → Type 0
-ReportsFile ask name code refused text =
-    (IsRaw ask code × ReportsRaw ask name code refused text)
-    ⊎ (((ask.raw ≡ false) × IsElf code) × ReportsElf ask name code refused text)
+abbrev pub ReportsFile : Request → List ℕ → List ℕ → Bool → List ℕ → Type 0
+ReportsFile request name code refused text =
+    (IsRaw request code × ReportsRaw request name code refused text)
+    ⊎ (((request.raw ≡ false) × IsElf code) × ReportsElf request name code refused text)
 
 -- the report is that on a file of this name, for some bytes
-abbrev pub ReportsOn : CheckAsk → List ℕ → Report → Type 0
-ReportsOn ask name report = (code : List ℕ) × ReportsFile ask name code report.is_refused report.text.items
+abbrev pub ReportsOn : Request → List ℕ → Report → Type 0
+ReportsOn request name report = (code : List ℕ) × ReportsFile request name code report.is_refused report.text.items
 
 -- the place is empty, or has the report on the file of this name
-abbrev pub FitsFile : CheckAsk → List ℕ → Option Report → Type 0
-FitsFile ask name None = ⊤
-FitsFile ask name (Some report) = ReportsOn ask name report
+abbrev pub FitsFile : Request → List ℕ → Option Report → Type 0
+FitsFile request name None = ⊤
+FitsFile request name (Some report) = ReportsOn request name report

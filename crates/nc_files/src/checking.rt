@@ -12,8 +12,8 @@ use crate::files::Unread;
 use crate::judging::{Unjudged, Unreported, judge_file};
 use crate::outcome::{Failure, Outcome};
 use crate::progress::Progress;
+use crate::request::Request;
 use crate::working::{Report, judge_files};
-use nc_command::CheckAsk;
 use nc_output::{PipeWriter, write_out};
 use std::alloc::Global;
 use std::io::{Input, Write};
@@ -48,16 +48,16 @@ fn eprint_fault<R: Eprint>(rt: &R, file: &str, unread: Unread) {
 /// Judges a file alone, and prints the report on it as it is made.
 fn judge_alone<R: AllocGlobal + Input + Files + Eprint, W: Write>(
     rt: &R,
-    ask: &CheckAsk<'_>,
+    request: &Request<'_>,
     state: &mut State,
     file: &str,
     writer: &mut PipeWriter<W>,
 ) -> Result<(), Failure>
-    ensures { OnOk result (HasPrinted ask.now (file.entry ∷ []) state.old.outcome state.new.outcome
+    ensures { OnOk result (HasPrinted request.now (file.entry ∷ []) state.old.outcome state.new.outcome
         (W.contents writer.old.writer) (W.contents writer.new.writer)) }
 {
     state.progress.yield_output(rt);
-    match judge_file(rt, ask, file, writer) {
+    match judge_file(rt, request, file, writer) {
         Ok(is_refused) => {
             state.outcome.is_refused |= is_refused;
             Ok(())
@@ -97,38 +97,38 @@ fn print<R: Eprint, W: Write>(
 /// Prints the report on a file, which is in the file's place. A file that no worker has judged is judged here.
 fn print_place<R: AllocGlobal + Input + Files + Eprint, W: Write>(
     rt: &R,
-    ask: &CheckAsk<'_>,
+    request: &Request<'_>,
     state: &mut State,
     file: &str,
     place: &Option<Report>,
     writer: &mut PipeWriter<W>,
 ) -> Result<(), Failure>
-    requires { FitsFile ask.now file.now place.now }
-    ensures { OnOk result (HasPrinted ask.now (file.entry ∷ []) state.old.outcome state.new.outcome
+    requires { FitsFile request.now file.now place.now }
+    ensures { OnOk result (HasPrinted request.now (file.entry ∷ []) state.old.outcome state.new.outcome
         (W.contents writer.old.writer) (W.contents writer.new.writer)) }
 {
     match place {
         Some(report) => print(rt, state, report, writer),
-        None => judge_alone(rt, ask, state, file, writer),
+        None => judge_alone(rt, request, state, file, writer),
     }
 }
 
 /// Prints the reports on the files of a round, in the order of the files.
 fn print_round<R: AllocGlobal + Input + Files + Eprint, W: Write>(
     rt: &R,
-    ask: &CheckAsk<'_>,
+    request: &Request<'_>,
     state: &mut State,
     files: &[&str],
     places: &[Option<Report>],
     writer: &mut PipeWriter<W>,
 ) -> Result<(), Failure>
-    requires { AllZip (λ file place. FitsFile ask.now file.now place) files.now places.now }
-    ensures { OnOk result (HasPrinted ask.now files.now state.old.outcome state.new.outcome
+    requires { AllZip (λ file place. FitsFile request.now file.now place) files.now places.now }
+    ensures { OnOk result (HasPrinted request.now files.now state.old.outcome state.new.outcome
         (W.contents writer.old.writer) (W.contents writer.new.writer)) }
 {
     for number in 0..files.len() {
         match places.get(number) {
-            Some(place) => print_place(rt, ask, state, files[number], place, writer)?,
+            Some(place) => print_place(rt, request, state, files[number], place, writer)?,
             None => unreachable!(),
         }
     }
@@ -138,7 +138,7 @@ fn print_round<R: AllocGlobal + Input + Files + Eprint, W: Write>(
 /// Judges the files of a round, by several workers if there are several files, and prints the reports on them.
 fn judge_round<R: Threads + Sync + AllocGlobal + Input + Files + Eprint, W: Write>(
     rt: &R,
-    ask: &CheckAsk<'_>,
+    request: &Request<'_>,
     state: &mut State,
     files: &[&str],
     writer: &mut PipeWriter<W>,
@@ -147,14 +147,14 @@ where
     R::File: Send + Sync,
     R::Dir: Send + Sync,
     R::Reader: Send + Sync,
-    ensures { OnOk result (HasPrinted ask.now files.now state.old.outcome state.new.outcome
+    ensures { OnOk result (HasPrinted request.now files.now state.old.outcome state.new.outcome
         (W.contents writer.old.writer) (W.contents writer.new.writer)) }
 {
     if files.len() == 1 {
-        return judge_alone(rt, ask, state, files[0], writer);
+        return judge_alone(rt, request, state, files[0], writer);
     }
-    match judge_files(rt, ask, files) {
-        Ok(places) => print_round(rt, ask, state, files, places.as_slice(), writer),
+    match judge_files(rt, request, files) {
+        Ok(places) => print_round(rt, request, state, files, places.as_slice(), writer),
         Err(_) => Err(Failure::OutOfMemory),
     }
 }
@@ -162,7 +162,7 @@ where
 /// Judges the files that are asked for, one round after another.
 fn judge_all<R: Threads + Sync + AllocGlobal + Input + Files + Eprint, W: Write>(
     rt: &R,
-    ask: &CheckAsk<'_>,
+    request: &Request<'_>,
     state: &mut State,
     writer: &mut PipeWriter<W>,
 ) -> Result<(), Failure>
@@ -170,13 +170,13 @@ where
     R::File: Send + Sync,
     R::Dir: Send + Sync,
     R::Reader: Send + Sync,
-    ensures { OnOk result (HasPrinted ask.now ask.now.files.items state.old.outcome state.new.outcome
+    ensures { OnOk result (HasPrinted request.now request.now.files.items state.old.outcome state.new.outcome
         (W.contents writer.old.writer) (W.contents writer.new.writer)) }
 {
-    let round = if ask.workers > 1 { ROUND } else { 1 };
+    let round = if request.workers > 1 { ROUND } else { 1 };
     let mut done: usize = 0;
-    for files in ask.files.chunks(round) {
-        judge_round(rt, ask, state, files, writer)?;
+    for files in request.files.chunks(round) {
+        judge_round(rt, request, state, files, writer)?;
         done = files.len().saturating_add(done);
         state.progress.show(rt, done);
     }
@@ -188,7 +188,7 @@ where
 /// one was refused, otherwise 0. A file that can't be read is named on standard error.
 pub fn check_files<R: Threads + Sync + AllocGlobal + Input + Files + Eprint, W: Write>(
     rt: &R,
-    ask: &CheckAsk<'_>,
+    request: &Request<'_>,
     progress: Progress,
     writer: &mut PipeWriter<W>,
 ) -> Result<u8, Failure>
@@ -199,7 +199,8 @@ where
     // For each file, in the files' order, exactly the report on a file of this name was written; or nothing, and then the status is 2. What
     // bytes a file has, and whether it can be read, is up to its device.
     ensures { IfOk result (λ status. (faulty refused : Bool) × (status ≡ exit_status faulty refused)
-        × HasWritten (PrintsFiles ask.now ask.now.files.items faulty refused) (W.contents writer.old.writer) (W.contents writer.new.writer)) }
+        × HasWritten (PrintsFiles request.now request.now.files.items faulty refused)
+            (W.contents writer.old.writer) (W.contents writer.new.writer)) }
 {
     keep_memory(rt.alloc());
     let mut state = State {
@@ -209,7 +210,7 @@ where
         },
         progress,
     };
-    match judge_all(rt, ask, &mut state, writer) {
+    match judge_all(rt, request, &mut state, writer) {
         Ok(()) => Ok(state.outcome.status()),
         Err(failure) => Err(failure),
     }

@@ -10,7 +10,7 @@ ghost use Rattle.nc_files.specs.Reports.{judged_in, ReportsCode, ReportsAll, Rep
 
 use crate::files::{Unread, read_file};
 use crate::parts::{Part, parts_of};
-use nc_command::CheckAsk;
+use crate::request::Request;
 use nc_elf::{ElfFault, is_elf};
 use nc_output::{Detail, Format, Style, write_out};
 use nc_report::{ReportFault, Source, is_hexadecimal, push_file_object, report};
@@ -39,15 +39,15 @@ pub enum Unjudged {
 /// Judges code and writes the report on it. Returns whether it was refused.
 fn judge_part<W: Write>(
     alloc: Global,
-    ask: &CheckAsk<'_>,
+    request: &Request<'_>,
     part: Part,
     writer: &mut W,
 ) -> Result<bool, Unreported>
-    ensures { IfOk result (λ refused. HasWritten (ReportsCode ask.now (judged_in part) refused)
+    ensures { IfOk result (λ refused. HasWritten (ReportsCode request.now (judged_in part) refused)
         (W.contents writer.old) (W.contents writer.new)) }
 {
     let Part { base, source } = part;
-    match report(alloc, source, base, ask.bundles, ask.style, writer) {
+    match report(alloc, source, base, request.bundles, request.style, writer) {
         Ok(refused) => Ok(refused),
         Err(ReportFault::WriteFailed) => Err(Unreported::WriteFailed),
         // the number of bundles is in range, since the command line was parsed
@@ -58,16 +58,16 @@ fn judge_part<W: Write>(
 /// Judges the parts of an ELF file, in order. Returns whether any of them was refused.
 fn judge_parts<W: Write>(
     alloc: Global,
-    ask: &CheckAsk<'_>,
+    request: &Request<'_>,
     parts: Vec<Part>,
     writer: &mut W,
 ) -> Result<bool, Unreported>
-    ensures { IfOk result (λ refused. HasWritten (ReportsAll ask.now (map judged_in parts.items) refused)
+    ensures { IfOk result (λ refused. HasWritten (ReportsAll request.now (map judged_in parts.items) refused)
         (W.contents writer.old) (W.contents writer.new)) }
 {
     let mut is_refused = false;
     for part in parts {
-        match judge_part(alloc, ask, part, writer) {
+        match judge_part(alloc, request, part, writer) {
             Ok(more) => is_refused |= more,
             Err(unreported) => return Err(unreported),
         }
@@ -123,7 +123,7 @@ fn refusal(alloc: Global, style: Style, name: &[u8], fault: ElfFault) -> Result<
 /// Writes the refusal of an ELF file that has this fault.
 fn refuse<W: Write>(
     alloc: Global,
-    ask: &CheckAsk<'_>,
+    request: &Request<'_>,
     file: &Source,
     fault: ElfFault,
     writer: &mut W,
@@ -131,10 +131,10 @@ fn refuse<W: Write>(
     requires has { HasElfFault file.now.code.items fault }
     requires real { fault ≢ elf.OutOfMemory }
     ensures { IfOk result (λ refused. (refused ≡ true)
-        × HasWritten (RefusesElf ask.now.style file.now.name.items file.now.code.items)
+        × HasWritten (RefusesElf request.now.style file.now.name.items file.now.code.items)
         (W.contents writer.old) (W.contents writer.new)) }
 {
-    let Ok(text) = refusal(alloc, ask.style, file.name.as_slice(), fault) else {
+    let Ok(text) = refusal(alloc, request.style, file.name.as_slice(), fault) else {
         return Err(Unreported::OutOfMemory);
     };
     match write_out(writer, &text) {
@@ -146,17 +146,17 @@ fn refuse<W: Write>(
 /// Judges the code of an ELF file, and writes the report on it. Returns whether any of it was refused.
 fn judge_elf<W: Write>(
     alloc: Global,
-    ask: &CheckAsk<'_>,
+    request: &Request<'_>,
     file: &Source,
     writer: &mut W,
 ) -> Result<bool, Unreported>
-    ensures { IfOk result (λ refused. HasWritten (ReportsElf ask.now file.now.name.items file.now.code.items refused)
+    ensures { IfOk result (λ refused. HasWritten (ReportsElf request.now file.now.name.items file.now.code.items refused)
         (W.contents writer.old) (W.contents writer.new)) }
 {
-    match parts_of(alloc, file, ask.style) {
-        Ok(parts) => judge_parts(alloc, ask, parts, writer),
+    match parts_of(alloc, file, request.style) {
+        Ok(parts) => judge_parts(alloc, request, parts, writer),
         Err(ElfFault::OutOfMemory) => Err(Unreported::OutOfMemory),
-        Err(fault) => refuse(alloc, ask, file, fault, writer),
+        Err(fault) => refuse(alloc, request, file, fault, writer),
     }
 }
 
@@ -194,16 +194,16 @@ fn write_note<W: Write>(is_noted: bool, writer: &mut W) -> Result<(), Unreported
 /// Judges raw code, and writes the report on it, with a note on an accepted file of hexadecimal text. Returns whether it was refused.
 fn judge_raw<W: Write>(
     alloc: Global,
-    ask: &CheckAsk<'_>,
+    request: &Request<'_>,
     source: Source,
     writer: &mut W,
 ) -> Result<bool, Unreported>
-    ensures { IfOk result (λ refused. HasWritten (ReportsRaw ask.now source.name.items source.code.items refused)
+    ensures { IfOk result (λ refused. HasWritten (ReportsRaw request.now source.name.items source.code.items refused)
         (W.contents writer.old) (W.contents writer.new)) }
 {
-    let base = ask.base;
-    let is_noted = has_note(ask.style, source.code.as_slice());
-    let is_refused = match judge_part(alloc, ask, Part { base, source }, writer) {
+    let base = request.base;
+    let is_noted = has_note(request.style, source.code.as_slice());
+    let is_refused = match judge_part(alloc, request, Part { base, source }, writer) {
         Ok(is_refused) => is_refused,
         Err(unreported) => return Err(unreported),
     };
@@ -219,36 +219,36 @@ fn judge_raw<W: Write>(
 /// Judges the code of a file, and writes the report on it. Returns whether any of it was refused.
 fn judge_source<W: Write>(
     alloc: Global,
-    ask: &CheckAsk<'_>,
+    request: &Request<'_>,
     source: Source,
     writer: &mut W,
 ) -> Result<bool, Unreported>
-    ensures { IfOk result (λ refused. HasWritten (ReportsFile ask.now source.name.items source.code.items refused)
+    ensures { IfOk result (λ refused. HasWritten (ReportsFile request.now source.name.items source.code.items refused)
         (W.contents writer.old) (W.contents writer.new)) }
 {
-    if ask.raw || !is_elf(source.code.as_slice()) {
-        judge_raw(alloc, ask, source, writer)
+    if request.raw || !is_elf(source.code.as_slice()) {
+        judge_raw(alloc, request, source, writer)
     } else {
-        judge_elf(alloc, ask, &source, writer)
+        judge_elf(alloc, request, &source, writer)
     }
 }
 
 /// Reads a file, judges its code, and writes the report on it. Returns whether any of it was refused.
 pub fn judge_file<R: AllocGlobal + Input + Files, W: Write>(
     rt: &R,
-    ask: &CheckAsk<'_>,
+    request: &Request<'_>,
     file: &str,
     writer: &mut W,
 ) -> Result<bool, Unjudged>
     // Exactly the report on a file of this name was written, and the result says whether it is refused. What bytes a file has is up
     // to its device.
-    ensures report { IfOk result (λ refused. (code : List ℕ) × HasWritten (ReportsFile ask.now file.now code refused)
+    ensures report { IfOk result (λ refused. (code : List ℕ) × HasWritten (ReportsFile request.now file.now code refused)
         (W.contents writer.old) (W.contents writer.new)) }
     // Nothing is written for a file that can't be read.
     ensures unread { IfErr result (λ unjudged. IsUnread unjudged → W.contents writer.new ≡ W.contents writer.old) }
 {
     match read_file(rt, file) {
-        Ok(source) => match judge_source(rt.alloc(), ask, source, writer) {
+        Ok(source) => match judge_source(rt.alloc(), request, source, writer) {
             Ok(is_refused) => Ok(is_refused),
             Err(unreported) => Err(Unjudged::Unreported(unreported)),
         },

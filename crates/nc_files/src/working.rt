@@ -7,7 +7,7 @@ ghost use Rattle.nc_files.specs.Reports.{ReportsOn, FitsFile};
 
 use crate::buffered::BufferedReport;
 use crate::judging::judge_file;
-use nc_command::CheckAsk;
+use crate::request::Request;
 use std::alloc::{AllocError, Global};
 use std::fs;
 use std::io::Input;
@@ -59,14 +59,14 @@ fn make_workers(alloc: Global, count: usize) -> Result<Vec<Worker>, AllocError>
 /// Judges a file, and keeps the report on it, if there is room for that.
 fn report_on<R: AllocGlobal + Input + Files>(
     rt: &R,
-    ask: &CheckAsk<'_>,
+    request: &Request<'_>,
     file: &str,
     room: usize,
 ) -> Option<Report>
-    ensures { IfSome result (ReportsOn ask.now file.now) }
+    ensures { IfSome result (ReportsOn request.now file.now) }
 {
     let mut buffered = BufferedReport::new(rt.alloc(), room);
-    match judge_file(rt, ask, file, &mut buffered) {
+    match judge_file(rt, request, file, &mut buffered) {
         Ok(is_refused) => Some(Report {
             text: buffered.into_text(),
             is_refused,
@@ -90,16 +90,16 @@ fn is_for_workers<R: Files>(rt: &R, file: &str) -> bool {
 /// Judges a file for a worker, which leaves the file to the caller unless all goes well.
 fn judge_one<R: AllocGlobal + Input + Files>(
     rt: &R,
-    ask: &CheckAsk<'_>,
+    request: &Request<'_>,
     file: &str,
     room: usize,
 ) -> Option<Report>
-    ensures { IfSome result (ReportsOn ask.now file.now) }
+    ensures { IfSome result (ReportsOn request.now file.now) }
 {
     if !is_for_workers(rt, file) {
         return None;
     }
-    report_on(rt, ask, file, room)
+    report_on(rt, request, file, room)
 }
 
 /// Adds a report to those of a worker, and takes its text from the worker's room. If there is no memory for that, the caller judges
@@ -115,16 +115,16 @@ fn keep(worker: &mut Worker, number: usize, report: Report)
 /// Judges the file of this number for a worker, which keeps the report on it.
 fn judge_next<R: AllocGlobal + Input + Files>(
     rt: &R,
-    ask: &CheckAsk<'_>,
+    request: &Request<'_>,
     files: &[&str],
     number: usize,
     worker: &mut Worker,
 )
     requires below { number < length files.now }
-    requires done { AreReports ask.now files.now worker.old.done.items }
-    ensures { AreReports ask.now files.now worker.new.done.items }
+    requires done { AreReports request.now files.now worker.old.done.items }
+    ensures { AreReports request.now files.now worker.new.done.items }
 {
-    if let Some(report) = judge_one(rt, ask, files[number], worker.room) {
+    if let Some(report) = judge_one(rt, request, files[number], worker.room) {
         keep(worker, number, report);
     }
 }
@@ -132,27 +132,27 @@ fn judge_next<R: AllocGlobal + Input + Files>(
 /// The loop of a worker: it judges the next file that no worker has taken, until none is left.
 fn work<R: AllocGlobal + Input + Files>(
     rt: &R,
-    ask: &CheckAsk<'_>,
+    request: &Request<'_>,
     files: &[&str],
     next: &AtomicUsize,
     worker: &mut Worker,
 )
-    requires { AreReports ask.now files.now worker.old.done.items }
-    ensures { AreReports ask.now files.now worker.new.done.items }
+    requires { AreReports request.now files.now worker.old.done.items }
+    ensures { AreReports request.now files.now worker.new.done.items }
 {
     for _ in 0..files.len() {
         let number = next.fetch_add(1, Ordering::SeqCst);
         if number >= files.len() {
             break;
         }
-        judge_next(rt, ask, files, number, worker);
+        judge_next(rt, request, files, number, worker);
     }
 }
 
 /// Judges files by workers.
 fn work_all<R: Threads + Sync + AllocGlobal + Input + Files>(
     rt: &R,
-    ask: &CheckAsk<'_>,
+    request: &Request<'_>,
     files: &[&str],
     workers: &mut [Worker],
 )
@@ -160,8 +160,8 @@ where
     R::File: Send + Sync,
     R::Dir: Send + Sync,
     R::Reader: Send + Sync,
-    requires { All (λ worker. AreReports ask.now files.now worker.done.items) workers.old }
-    ensures { All (λ worker. AreReports ask.now files.now worker.done.items) workers.new }
+    requires { All (λ worker. AreReports request.now files.now worker.done.items) workers.old }
+    ensures { All (λ worker. AreReports request.now files.now worker.done.items) workers.new }
 {
     let next = AtomicUsize::new(0);
     let count = workers.len().max(1);
@@ -170,9 +170,9 @@ where
         workers,
         count,
         &|_number: usize, worker: &mut Worker|
-            requires { AreReports ask.now files.now worker.old.done.items }
-            ensures { AreReports ask.entry.now files.entry.now worker.new.done.items }
-        { work(rt, ask, files, &next, worker) },
+            requires { AreReports request.now files.now worker.old.done.items }
+            ensures { AreReports request.entry.now files.entry.now worker.new.done.items }
+        { work(rt, request, files, &next, worker) },
     );
 }
 
@@ -189,11 +189,11 @@ fn make_places(alloc: Global, count: usize) -> Result<Vec<Option<Report>>, Alloc
 }
 
 /// Puts a report into the place of its file.
-fn put(ask: &CheckAsk<'_>, files: &[&str], done: Done, places: &mut [Option<Report>])
-    requires done { FitsReport ask.now files.now done.number (Some done.report) }
-    requires places { ArePlaces ask.now files.now places.old }
+fn put(request: &Request<'_>, files: &[&str], done: Done, places: &mut [Option<Report>])
+    requires done { FitsReport request.now files.now done.number (Some done.report) }
+    requires places { ArePlaces request.now files.now places.old }
     ensures len { length places.new ≡ length places.old }
-    ensures places { ArePlaces ask.now files.now places.new }
+    ensures places { ArePlaces request.now files.now places.new }
 {
     let Done { number, report } = done;
     if number < places.len() {
@@ -202,26 +202,31 @@ fn put(ask: &CheckAsk<'_>, files: &[&str], done: Done, places: &mut [Option<Repo
 }
 
 /// Puts the reports of a worker into the places of its files.
-fn put_all(ask: &CheckAsk<'_>, files: &[&str], done: Vec<Done>, places: &mut [Option<Report>])
-    requires done { AreReports ask.now files.now done.items }
-    requires places { ArePlaces ask.now files.now places.old }
+fn put_all(request: &Request<'_>, files: &[&str], done: Vec<Done>, places: &mut [Option<Report>])
+    requires done { AreReports request.now files.now done.items }
+    requires places { ArePlaces request.now files.now places.old }
     ensures len { length places.new ≡ length places.old }
-    ensures places { ArePlaces ask.now files.now places.new }
+    ensures places { ArePlaces request.now files.now places.new }
 {
     for one in done {
-        put(ask, files, one, places);
+        put(request, files, one, places);
     }
 }
 
 /// Puts the reports of all workers into the places of their files.
-fn gather(ask: &CheckAsk<'_>, files: &[&str], workers: Vec<Worker>, places: &mut [Option<Report>])
-    requires workers { All (λ worker. AreReports ask.now files.now worker.done.items) workers.items }
-    requires places { ArePlaces ask.now files.now places.old }
+fn gather(
+    request: &Request<'_>,
+    files: &[&str],
+    workers: Vec<Worker>,
+    places: &mut [Option<Report>],
+)
+    requires workers { All (λ worker. AreReports request.now files.now worker.done.items) workers.items }
+    requires places { ArePlaces request.now files.now places.old }
     ensures len { length places.new ≡ length places.old }
-    ensures places { ArePlaces ask.now files.now places.new }
+    ensures places { ArePlaces request.now files.now places.new }
 {
     for worker in workers {
-        put_all(ask, files, worker.done, places);
+        put_all(request, files, worker.done, places);
     }
 }
 
@@ -230,7 +235,7 @@ fn gather(ask: &CheckAsk<'_>, files: &[&str], workers: Vec<Worker>, places: &mut
 /// one after another; a large file; a file that can't be read; and a file whose report is too long.
 pub fn judge_files<R: Threads + Sync + AllocGlobal + Input + Files>(
     rt: &R,
-    ask: &CheckAsk<'_>,
+    request: &Request<'_>,
     files: &[&str],
 ) -> Result<Vec<Option<Report>>, AllocError>
 where
@@ -238,12 +243,12 @@ where
     R::Dir: Send + Sync,
     R::Reader: Send + Sync,
     // There is a place for each file, in the files' order, and what is in it is the report on that file.
-    ensures { IfOk result (λ places. AllZip (λ file place. FitsFile ask.now file.now place) files.now places.items) }
+    ensures { IfOk result (λ places. AllZip (λ file place. FitsFile request.now file.now place) files.now places.items) }
 {
-    let count = (ask.workers as usize).min(files.len());
+    let count = (request.workers as usize).min(files.len());
     let mut workers = make_workers(rt.alloc(), count)?;
     let mut places = make_places(rt.alloc(), files.len())?;
-    work_all(rt, ask, files, &mut workers);
-    gather(ask, files, workers, &mut places);
+    work_all(rt, request, files, &mut workers);
+    gather(request, files, workers, &mut places);
     Ok(places)
 }

@@ -13,6 +13,7 @@ loop-files-preserved g c =
     let (done, all, printed) = c.loop-files.invariant in
     let files = c.in-Some.files.now in (
       done ++ files,
-      all ∙ ap (λ (z : List (Bor (List _))). done ++ z) c.in-Some.ensures.steps.1.0 ∙ sym (append_assoc done files (chunks_rest c.next.new.self)),
-      printed_append c.args.ask.now done files _ _ _ _ _ _ printed c.in_ok-judge_round.ensures,
+      all ∙ ap (λ (z : List (Bor (List _))). done ++ z) c.in-Some.ensures.steps.1.0
+          ∙ sym (append_assoc done files (chunks_rest c.next.new.self)),
+      printed_append c.args.request.now done files _ _ _ _ _ _ printed c.in_ok-judge_round.ensures,
     )

@@ -6,8 +6,8 @@ use Rattle.nc_files.proofs.checking.print_place.Goals as goal
 
 pub returns-in-Some : goal.returns-in-Some
 returns-in-Some g c =
-    let (code, reported) = subst (FitsFile c.args.ask.now c.args.file.now) c.in-Some.is c.requires in
+    let (code, reported) = subst (FitsFile c.args.request.now c.args.file.now) c.in-Some.is c.requires in
     on_ok_weaker c.print.result
-    (λ written. printed_report c.args.ask.now c.args.file code c.in-Some.report.is_refused _ _ _ _
+    (λ written. printed_report c.args.request.now c.args.file code c.in-Some.report.is_refused _ _ _ _
     (record { text = c.in-Some.report.text.items; says = reported; written = written }) c.print.ensures.faulty c.print.ensures.refused)
     c.print.ensures.text

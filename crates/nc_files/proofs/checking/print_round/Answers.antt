@@ -14,22 +14,22 @@ unreachable-requires g c =
       arith,
       c.loop-number-test.true,
       c.in-None.ensures.lookup.3,
-      AllZip-long (λ file place. FitsFile c.args.ask.now file.now place) c.args.files.now c.args.places.now c.requires,
+      AllZip-long (λ file place. FitsFile c.args.request.now file.now place) c.args.files.now c.args.places.now c.requires,
     )
 
 pub print_place-requires : goal.print_place-requires
 print_place-requires g c =
-    zip_at (λ file place. FitsFile c.args.ask.now file.now place) c.args.files.now c.args.places.now c.loop-number.number
+    zip_at (λ file place. FitsFile c.args.request.now file.now place) c.args.files.now c.args.places.now c.loop-number.number
     (record { ref_ptr = (0, 0); now = [] }) c.in-Some.place.now c.requires c.loop-number-test.true c.in-Some.ensures.lookup.1
 
 pub loop-number-preserved : goal.loop-number-preserved
 loop-number-preserved g c =
-    let ask = c.args.ask.now in
+    let request = c.args.request.now in
     let files = c.args.files.now in
     let number = c.loop-number.number in
     let none : Bor (List ℕ) = record { ref_ptr = (0, 0); now = [] } in
     let file = slice_index_or files number none in
-    subst (λ (fs : List (Bor (List ℕ))). HasPrinted ask fs c.args.state.now.outcome c.print_place.new.state.outcome
+    subst (λ (fs : List (Bor (List ℕ))). HasPrinted request fs c.args.state.now.outcome c.print_place.new.state.outcome
     (g.W.Write.contents c.args.writer.now.writer) (g.W.Write.contents c.print_place.new.writer.writer))
     (sym (take_more files number none c.loop-number-test.true))
-    (printed_append ask (take number files) (file ∷ []) _ _ _ _ _ _ c.loop-number.invariant c.in_ok-print_place-in-Some.ensures)
+    (printed_append request (take number files) (file ∷ []) _ _ _ _ _ _ c.loop-number.invariant c.in_ok-print_place-in-Some.ensures)

@@ -5,5 +5,5 @@ use Rattle.nc_files.proofs.checking.print_round.Given as goal
 
 abbrev pub invariant-loop-number : goal.invariant-loop-number
 invariant-loop-number g l =
-    HasPrinted l.ask (take l.number l.files) l.initial.state.outcome l.state.outcome (g.W.Write.contents l.initial.writer.writer)
+    HasPrinted l.request (take l.number l.files) l.initial.state.outcome l.state.outcome (g.W.Write.contents l.initial.writer.writer)
     (g.W.Write.contents l.writer.writer)

@@ -7,14 +7,15 @@ use Rattle.nc_files.proofs.judging.judge_parts.Goals as goal
 
 pub loop-part-preserved : goal.loop-part-preserved
 loop-part-preserved g c =
-    let ask = c.args.ask.now in
+    let request = c.args.request.now in
     let (done, split, written) = c.loop-part.invariant in
     let judged = judged_in c.in-Some.part in
     let refused = c.loop-part.is_refused in (
       done ++ judged ∷ [],
       split_more _ _ _ c.in-Some.part done split c.in-Some.ensures.steps.0,
-      written_more (ReportsAll ask done refused) (ReportsCode ask judged c.in-Ok.more) (ReportsAll ask (done ++ judged ∷ []) (refused || c.in-Ok.more))
-          _ _ _ (λ a b h k. reports_more ask done judged refused c.in-Ok.more a b h k) written c.in-Ok.ensures,
+      written_more (ReportsAll request done refused) (ReportsCode request judged c.in-Ok.more)
+          (ReportsAll request (done ++ judged ∷ []) (refused || c.in-Ok.more))
+          _ _ _ (λ a b h k. reports_more request done judged refused c.in-Ok.more a b h k) written c.in-Ok.ensures,
     )
 
 pub returns : goal.returns

@@ -5,9 +5,11 @@ use Rattle.nc_files.proofs.judging.judge_raw.Goals as goal
 
 pub returns-then-is_refused : goal.returns-then-is_refused
 returns-then-is_refused g c =
-    raw_refused c.args.ask.now c.args.source.name.items c.args.source.code.items c.in-Ok.is_refused _ _ c.if-is_refused.true c.in-Ok.ensures
+    raw_refused c.args.request.now c.args.source.name.items c.args.source.code.items c.in-Ok.is_refused _ _
+    c.if-is_refused.true c.in-Ok.ensures
 
 pub returns-in-Ok-write_note : goal.returns-in-Ok-write_note
 returns-in-Ok-write_note g c =
-    raw_accepted c.args.ask.now c.args.source.name.items c.args.source.code.items c.in-Ok.is_refused c.has_note-is_noted.result _ _ _
-    c.if-is_refused.false (c.has_note-is_noted.ensures ∙ ap (has_note c.args.ask.now.style) c.as_slice.ensures.value) c.in-Ok.ensures c.in-Ok-write_note.ensures
+    raw_accepted c.args.request.now c.args.source.name.items c.args.source.code.items c.in-Ok.is_refused c.has_note-is_noted.result _ _ _
+    c.if-is_refused.false (c.has_note-is_noted.ensures ∙ ap (has_note c.args.request.now.style) c.as_slice.ensures.value)
+    c.in-Ok.ensures c.in-Ok-write_note.ensures

@@ -5,6 +5,6 @@ use Rattle.nc_files.proofs.working.gather.Given as goal
 
 abbrev pub invariant-loop-worker : goal.invariant-loop-worker
 invariant-loop-worker l = record {
-  workers : All (λ worker. AreReports l.ask l.files worker.done.items) (into_iter_items l.worker-iterator);
-  places : ArePlaces l.ask l.files l.places;
+  workers : All (λ worker. AreReports l.request l.files worker.done.items) (into_iter_items l.worker-iterator);
+  places : ArePlaces l.request l.files l.places;
 }

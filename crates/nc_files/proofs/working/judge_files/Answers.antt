@@ -9,7 +9,7 @@ use Rattle.nc_files.proofs.working.judge_files.Goals as goal
 
 pub gather-requires-clause-workers : goal.gather-requires-clause-workers
 gather-requires-clause-workers g c =
-    workers_back c.args.ask.now c.args.files.now c.in_ok-workers.workers.items c.work_all.new.workers c.in_ok-workers.workers.len
+    workers_back c.args.request.now c.args.files.now c.in_ok-workers.workers.items c.work_all.new.workers c.in_ok-workers.workers.len
     c.in_ok-workers.ensures c.work_all.ensures
 
 pub gather-requires-clause-places : goal.gather-requires-clause-places
@@ -22,6 +22,6 @@ returns g c =
     let new = c.gather.new.places in
     let long : length new ≡ length old = c.gather.ensures.len ∙ ap (λ (z : List (Option Report)). length z) c.deref_mut-2.ensures.value in
     let count : c.in_ok-places.places.len ≡ length old = omega (arith, c.in_ok-places.places.ok.0) in
-    subst (λ (z : List (Option Report)). AllZip (λ file place. FitsFile c.args.ask.now file.now place) files z)
+    subst (λ (z : List (Option Report)). AllZip (λ file place. FitsFile c.args.request.now file.now place) files z)
     (sym (take_at new (drop (length new) old) c.in_ok-places.places.len (long ∙ sym count)))
-    (places_fit c.args.ask.now files new (omega (arith, long, count, c.in_ok-places.ensures.len)) c.gather.ensures.places)
+    (places_fit c.args.request.now files new (omega (arith, long, count, c.in_ok-places.ensures.len)) c.gather.ensures.places)

@@ -8,10 +8,10 @@ loop-one-init c = grind (arith, common_steps)
 
 pub put-requires-clause-done : goal.put-requires-clause-done
 put-requires-clause-done c =
-    done_head c.args.ask.now c.args.files.now _ _ c.in-Some.one c.in-Some.ensures.steps.0 c.loop-one.invariant.done
+    done_head c.args.request.now c.args.files.now _ _ c.in-Some.one c.in-Some.ensures.steps.0 c.loop-one.invariant.done
 
 pub loop-one-preserved : goal.loop-one-preserved
 loop-one-preserved c = record {
-  done = done_tail c.args.ask.now c.args.files.now _ _ c.in-Some.one c.in-Some.ensures.steps.0 c.loop-one.invariant.done;
+  done = done_tail c.args.request.now c.args.files.now _ _ c.in-Some.one c.in-Some.ensures.steps.0 c.loop-one.invariant.done;
   places = c.put.ensures.places;
 }

@@ -1,4 +1,4 @@
-use Rattle.nc_command.proofs.check.asked.Goals as goal
+use Rattle.nc_command.proofs.check.request_in.Goals as goal
 use Rattle.std.proofs.Common.{rules}
 
 pub returns : goal.returns
