@@ -1,2 +1,4 @@
 pub mod Checking
 pub mod Range
+pub mod Start
+pub mod Status

@@ -3,8 +3,8 @@
 ghost use Rattle.std.specs.Prelude.{◌≡◌, ◌≤◌, IfOk, IfSome};
 ghost use Rattle.nc_command.specs.Range.{AsksInRange};
 
-use crate::asked::{Ask, ReplayAsk};
 use crate::options::{BUNDLES, WORKERS};
+use crate::requests::{Ask, ReplayRequest};
 use clap::builder::ValueParser;
 use clap::error::ErrorKind;
 use clap::{ArgMatches, Error};
@@ -134,8 +134,8 @@ fn work_in(found: &ArgMatches<'_>) -> Option<Ask>
 }
 
 /// All that a subcommand asks for.
-fn asked_in(found: &ArgMatches<'_>) -> Option<ReplayAsk>
-    ensures { IfSome result (λ asked. AsksInRange asked.work) }
+fn request_in(found: &ArgMatches<'_>) -> Option<ReplayRequest>
+    ensures { IfSome result (λ request. AsksInRange request.work) }
 {
     let work = work_in(found)?;
     let replay = found.subcommand_matches("replay");
@@ -143,7 +143,7 @@ fn asked_in(found: &ArgMatches<'_>) -> Option<ReplayAsk>
         Some(found) => found,
         None => found.subcommand_matches("vet")?,
     };
-    Some(ReplayAsk {
+    Some(ReplayRequest {
         work,
         queries: replay.is_some_and(|found| found.get_flag("queries")),
         explain: flags.get_flag("explain"),
@@ -203,25 +203,25 @@ pub fn ask<'a>(alloc: Global, words: &'a [&'a str]) -> Result<Ask, Error>
     let asked = work_in(&found);
     drop(found);
     match asked {
-        Some(ask) => Ok(ask),
+        Some(work) => Ok(work),
         None => Err(refusal_of_none(alloc, work())),
     }
 }
 
 /// Reads the words of a command line of `nc_replay`, which don't begin with the program's own name. Returns all that they ask for,
 /// or else a fault of the words, a wish for help or the version, or lack of memory.
-pub fn ask_replay<'a>(alloc: Global, words: &'a [&'a str]) -> Result<ReplayAsk, Error>
+pub fn ask_replay<'a>(alloc: Global, words: &'a [&'a str]) -> Result<ReplayRequest, Error>
     // The numbers are in the ranges of the options.
-    ensures { IfOk result (λ asked. AsksInRange asked.work) }
+    ensures { IfOk result (λ request. AsksInRange request.work) }
 {
     let found = match matches(alloc, program(), words) {
         Ok(found) => found,
         Err(error) => return Err(refusal(alloc, program(), words, error)),
     };
-    let asked = asked_in(&found);
+    let request = request_in(&found);
     drop(found);
-    match asked {
-        Some(ask) => Ok(ask),
+    match request {
+        Some(request) => Ok(request),
         None => Err(refusal_of_none(alloc, program())),
     }
 }

@@ -2,12 +2,12 @@
 //!
 //! It has two subcommands. `replay` runs a script: it creates, patches, deletes and reclaims chunks in a code region, walks
 //! through them and shows them. `vet` only vets chunks, several at a time. `ask_replay` of `nc_command` parses the command line, and
-//! `carry_out` of `nc_task` does what it asks for over any reader and writer. `gathering` says whether replies may be written
+//! `carry_out` does what it asks for over any reader and writer. `gathering` says whether replies may be written
 //! together. `explaining` has the reader and the writer that explain bad lines and refusals on standard error.
 #![tactic(auto)]
 
 ghost use Rattle.std.specs.Prelude.{◌≡◌, ◌⊎◌};
-ghost use Rattle.nc_task.specs.Status.{status_of};
+ghost use Rattle.nc_command.specs.Status.{status_of};
 
 mod explaining;
 mod gathering;
@@ -16,10 +16,9 @@ use clap::error::ErrorKind as ClapKind;
 use explaining::{ExplainedInput, ExplainedOutput};
 use gathering::most_held;
 use nc_cli::arguments;
-use nc_command::{ReplayAsk, ask_replay, replay_words};
+use nc_command::{Halt, ReplayRequest, ask_replay, carry_out, replay_words};
 use nc_lines::ReplayFault;
 use nc_output::PipeWriter;
-use nc_task::{Halt, carry_out};
 use std::io::{self, BufReader, ErrorKind, Input, Write};
 use std::process::ExitCode;
 use std::rt::Env;
@@ -29,30 +28,30 @@ use std::thread::Threads;
 /// Does what is asked for over an output that explains refusals. Bad lines are explained if that is asked for.
 fn run_over<R: Threads + Wait + Sync + Eprint + AllocGlobal + Input, W: Write>(
     rt: &R,
-    asked: ReplayAsk,
+    request: ReplayRequest,
     output: &mut ExplainedOutput<'_, '_, W, R>,
     most: usize,
 ) -> Result<(), ReplayFault> {
     let alloc = rt.alloc();
-    if !asked.explain {
-        return carry_out(rt, alloc, asked, &mut rt.reader(), output, most);
+    if !request.explain {
+        return carry_out(rt, alloc, request, &mut rt.reader(), output, most);
     }
     let Ok(reader) = BufReader::new(alloc, rt.reader()) else {
         return Err(ReplayFault::OutOfMemory);
     };
-    let mut input = ExplainedInput::new(rt, alloc, reader, asked);
-    carry_out(rt, alloc, asked, &mut input, output, 0)
+    let mut input = ExplainedInput::new(rt, alloc, reader, request);
+    carry_out(rt, alloc, request, &mut input, output, 0)
 }
 
 /// Does what is asked for, explains bad lines and refusals if that is asked for, and returns the number of bad lines.
 fn run_explained<R: Threads + Wait + Sync + Eprint + AllocGlobal + Input, W: Write>(
     rt: &R,
-    asked: ReplayAsk,
+    request: ReplayRequest,
     writer: &mut W,
     most: usize,
 ) -> Result<u64, ReplayFault> {
-    let mut output = ExplainedOutput::new(rt, rt.alloc(), writer, asked.explain);
-    match run_over(rt, asked, &mut output, most) {
+    let mut output = ExplainedOutput::new(rt, rt.alloc(), writer, request.explain);
+    match run_over(rt, request, &mut output, most) {
         Ok(()) => Ok(output.bad_lines()),
         Err(fault) => Err(fault),
     }
@@ -62,16 +61,16 @@ fn run_explained<R: Threads + Wait + Sync + Eprint + AllocGlobal + Input, W: Wri
 /// lines if they are failures.
 fn run_asked<R: Threads + Wait + Sync + Eprint + AllocGlobal + Input, W: Write>(
     rt: &R,
-    asked: ReplayAsk,
+    request: ReplayRequest,
     writer: &mut W,
     most: usize,
 ) -> Result<u64, ReplayFault> {
-    if !asked.explain && !asked.strict {
-        carry_out(rt, rt.alloc(), asked, &mut rt.reader(), writer, most)?;
+    if !request.explain && !request.strict {
+        carry_out(rt, rt.alloc(), request, &mut rt.reader(), writer, most)?;
         return Ok(0);
     }
-    let bad = run_explained(rt, asked, writer, most)?;
-    Ok(if asked.strict { bad } else { 0 })
+    let bad = run_explained(rt, request, writer, most)?;
+    Ok(if request.strict { bad } else { 0 })
 }
 
 /// Carries out words, as [`run_asked`] does what they ask for.
@@ -81,11 +80,11 @@ fn run_arguments<R: Threads + Wait + Sync + Eprint + AllocGlobal + Input, W: Wri
     writer: &mut W,
     most: usize,
 ) -> Result<u64, Halt> {
-    let asked = match ask_replay(rt.alloc(), words) {
-        Ok(asked) => asked,
+    let request = match ask_replay(rt.alloc(), words) {
+        Ok(request) => request,
         Err(error) => return Err(Halt::Words(error)),
     };
-    match run_asked(rt, asked, writer, most) {
+    match run_asked(rt, request, writer, most) {
         Ok(bad) => Ok(bad),
         Err(fault) => Err(Halt::Fault(fault)),
     }

@@ -1,4 +1,4 @@
-//! Tests of `nc_gens`, `nc_work`, `nc_lines`, `nc_script`, `nc_task` and `nc_report`.
+//! Tests of `nc_gens`, `nc_work`, `nc_lines`, `nc_script`, `nc_command` and `nc_report`.
 
 mod devices;
 mod generations;

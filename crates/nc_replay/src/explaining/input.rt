@@ -5,7 +5,7 @@ ghost use Rattle.std.specs.Io.KnownBytes.{ReadConsumes};
 
 use crate::explaining::following::Following;
 use crate::explaining::mistakes::{Mistake, mistake_in};
-use nc_command::ReplayAsk;
+use nc_command::ReplayRequest;
 use nc_lines::LINE_LIMIT;
 use std::alloc::Global;
 use std::io::{Read, Result};
@@ -14,7 +14,7 @@ use std::io::{Read, Result};
 #[derive(Drop)]
 struct Lines<'r, E> {
     rt: &'r E,
-    asked: ReplayAsk,
+    request: ReplayRequest,
     line: Following,
 }
 
@@ -22,7 +22,7 @@ impl<'r, E: Eprint> Lines<'r, E> {
     /// Explains the line at hand if it is bad, and goes on to the next one. If nothing can be printed, nothing is lost.
     fn explain(&mut self) {
         let mistake = match self.line.kept() {
-            Some(line) => mistake_in(self.asked, line),
+            Some(line) => mistake_in(self.request, line),
             None => None,
         };
         if let Some(Mistake { word, text, digits }) = mistake {
@@ -55,11 +55,16 @@ pub struct ExplainedInput<'r, R, E> {
 
 impl<'r, R: Read, E: Eprint> ExplainedInput<'r, R, E> {
     /// Passes on the bytes of this reader. A read of it should be cheap, as that of a `BufReader` is.
-    pub fn new(rt: &'r E, alloc: Global, reader: R, asked: ReplayAsk) -> ExplainedInput<'r, R, E> {
+    pub fn new(
+        rt: &'r E,
+        alloc: Global,
+        reader: R,
+        request: ReplayRequest,
+    ) -> ExplainedInput<'r, R, E> {
         let line = Following::new(alloc, LINE_LIMIT + 1);
         ExplainedInput {
             reader,
-            lines: Lines { rt, asked, line },
+            lines: Lines { rt, request, line },
         }
     }
 }

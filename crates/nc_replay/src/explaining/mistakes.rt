@@ -1,7 +1,7 @@
 //! What is wrong with a line that gets the reply `bad line`.
 
 use crate::explaining::shapes::{CHUNK, Form, Shape, request_of};
-use nc_command::{Ask, ReplayAsk};
+use nc_command::{Ask, ReplayRequest};
 use nc_lines::LINE_LIMIT;
 
 /// What is wrong with a line: a sentence that may begin with what a word is, and may end with a number of digits.
@@ -188,10 +188,10 @@ fn mistake_in_chunk(line: &[u8]) -> Option<Mistake> {
 }
 
 /// What is wrong with a line for this request, if it gets the reply `bad line`.
-pub(crate) fn mistake_in(asked: ReplayAsk, line: &[u8]) -> Option<Mistake> {
+pub(crate) fn mistake_in(request: ReplayRequest, line: &[u8]) -> Option<Mistake> {
     match mistake_in_bytes_of(line) {
-        None => match asked.work {
-            Ask::Replay { .. } => mistake_in_request(line, asked.queries),
+        None => match request.work {
+            Ask::Replay { .. } => mistake_in_request(line, request.queries),
             Ask::Vet { .. } => mistake_in_chunk(line),
         },
         mistake => mistake,

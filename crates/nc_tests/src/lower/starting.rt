@@ -2,8 +2,7 @@
 
 use crate::hostile::script::{CHUNKS, REPLIES, SCRIPT, VERDICTS};
 use crate::lower::rows::right;
-use nc_command::{Ask, ask};
-use nc_task::{Halt, start};
+use nc_command::{Ask, Halt, ask, start};
 use std::alloc::Global;
 use std::io::{self, Write};
 use std::sync::Wait;

@@ -2,11 +2,12 @@
 
 ghost use Rattle.std.specs.Prelude.{◌≡◌, false};
 ghost use Rattle.nc_command.specs.Range.{AsksInRange};
-ghost use Rattle.nc_command.specs.declared.asked.Ask.{Ask};
-ghost use Rattle.nc_task.specs.Start.{IfWords, IfRun, IsDone};
+ghost use Rattle.nc_command.specs.declared.requests.Ask.{Ask};
+ghost use Rattle.nc_command.specs.Start.{IfWords, IfRun, IsDone};
 
 use crate::halt::Halt;
-use nc_command::{Ask, ReplayAsk, ask};
+use crate::replay::ask;
+use crate::requests::{Ask, ReplayRequest};
 use nc_lines::{ReplayFault, vet_lines};
 use nc_script::{run, run_gathered, run_queries};
 use nc_work::Open;
@@ -16,7 +17,7 @@ use std::sync::Wait;
 use std::thread::Threads;
 
 /// Carries out the words of a command line, which don't begin with the program's own name. It runs a script, or vets lines of chunks
-/// by workers. The words are those that `ask` of `nc_command` takes. Each reply to a script's line is a write of its own.
+/// by workers. The words are those that [`ask`] takes. Each reply to a script's line is a write of its own.
 pub fn start<'a, T: Threads + Wait + Sync, R: Read, W: Write>(
     rt: &T,
     alloc: Global,
@@ -52,15 +53,15 @@ pub fn start<'a, T: Threads + Wait + Sync, R: Read, W: Write>(
 pub fn carry_out<T: Threads + Wait + Sync, R: Read, W: Write>(
     rt: &T,
     alloc: Global,
-    asked: ReplayAsk,
+    request: ReplayRequest,
     reader: &mut R,
     writer: &mut W,
     most: usize,
 ) -> Result<(), ReplayFault>
-    ensures { IsDone asked.queries asked.work R.remaining W.contents reader.old reader.new writer.old writer.new result }
+    ensures { IsDone request.queries request.work R.remaining W.contents reader.old reader.new writer.old writer.new result }
 {
-    match asked.work {
-        Ask::Replay { bundles, seats } if asked.queries => {
+    match request.work {
+        Ask::Replay { bundles, seats } if request.queries => {
             run_queries(alloc, reader, writer, bundles, seats, most)
         }
         Ask::Replay { bundles, seats } => run_gathered(alloc, reader, writer, bundles, seats, most),

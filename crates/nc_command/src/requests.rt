@@ -11,7 +11,7 @@ pub enum Ask {
 
 /// All that a command line of `nc_replay` asks for: its work, and what is done beside it.
 #[derive(Clone, Copy, Debug, Drop, PartialEq, Eq)]
-pub struct ReplayAsk {
+pub struct ReplayRequest {
     pub work: Ask,
     /// Whether a script's `chunk` lines are taken.
     pub queries: bool,

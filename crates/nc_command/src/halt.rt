@@ -1,7 +1,7 @@
 //! Why the work isn't done.
 
 ghost use Rattle.std.specs.Prelude.{◌≡◌};
-ghost use Rattle.nc_task.specs.Status.{status_of};
+ghost use Rattle.nc_command.specs.Status.{status_of};
 
 use clap::error::ErrorKind;
 use nc_lines::ReplayFault;

@@ -1,4 +1,4 @@
-use Rattle.nc_task.proofs.halt.Halt.status.Goals as goal
+use Rattle.nc_command.proofs.halt.Halt.status.Goals as goal
 use Rattle.std.proofs.Common.{rules}
 
 pub returns-in-Fault : goal.returns-in-Fault

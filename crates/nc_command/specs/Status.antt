@@ -3,8 +3,8 @@ use Rattle.std.specs.Prelude.{ℕ}
 use Rattle.clap.specs.Values.{kind_of}
 use Rattle.clap.specs.declared.error.kind.ErrorKind.{ErrorKind}
 use Rattle.clap.specs.declared.error.kind.ErrorKind.TheVariants.{DisplayHelp, DisplayVersion, OutOfMemory}
-use Rattle.nc_task.specs.declared.halt.Halt.{Halt}
-use Rattle.nc_task.specs.declared.halt.Halt.TheVariants.{Words, Fault}
+use Rattle.nc_command.specs.declared.halt.Halt.{Halt}
+use Rattle.nc_command.specs.declared.halt.Halt.TheVariants.{Words, Fault}
 
 -- the exit status for the words of the command line: 0 if they ask for help or the version, 1 if memory ran out, else 2
 abbrev pub status_of_words : ErrorKind → ℕ

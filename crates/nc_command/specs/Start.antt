@@ -3,12 +3,12 @@ use Rattle.std.specs.Prelude.{◌≡◌, ◌≢◌, ◌↔◌, ℕ, Bool, List, 
 use Rattle.std.specs.Io.KnownBytes.{IsAtEnd}
 use Rattle.nc_decode.specs.Bundles.{IsRegionSize, limit_after}
 use Rattle.nc_work.specs.Verdicts.{AreWorkers}
-use Rattle.nc_command.specs.declared.asked.Ask.{Ask}
-use Rattle.nc_command.specs.declared.asked.Ask.TheVariants.{Replay, Vet}
+use Rattle.nc_command.specs.declared.requests.Ask.{Ask}
+use Rattle.nc_command.specs.declared.requests.Ask.TheVariants.{Replay, Vet}
 use Rattle.nc_lines.specs.declared.fault.ReplayFault.{ReplayFault}
 use Rattle.nc_lines.specs.declared.fault.ReplayFault.TheVariants.{WriteFailed, BadSize, BadSeats, BadWorkers}
-use Rattle.nc_task.specs.declared.halt.Halt.{Halt}
-use Rattle.nc_task.specs.declared.halt.Halt.TheVariants.{Words, Fault}
+use Rattle.nc_command.specs.declared.halt.Halt.{Halt}
+use Rattle.nc_command.specs.declared.halt.Halt.TheVariants.{Words, Fault}
 use Rattle.nc_lines.specs.Lines.{lines_of}
 use Rattle.nc_lines.specs.Vetting.{HasVetted, HasBegunVetted}
 use Rattle.nc_script.specs.Run.{HasRun}
