@@ -1,19 +1,19 @@
 //! Files that several workers judge; one worker does all of a file, from its reading on.
 
-ghost use Rattle.std.specs.Prelude.{◌≡◌, ◌<◌, ◌++◌, ◌∷◌, [], ◌⊎◌, All, None, Some, IfOk, IfSome, length, vec_len};
+ghost use Rattle.std.specs.Prelude.{◌<◌, IfOk, IfSome, length};
 ghost use Rattle.std.specs.List.{AllZip};
-ghost use Rattle.nc_files.specs.Places.{FitsReport, AreReports, ArePlaces};
+ghost use Rattle.nc_files.specs.Places.{FitsReport};
 ghost use Rattle.nc_files.specs.Reports.{ReportsOn, FitsFile};
 
 use crate::buffered::BufferedReport;
 use crate::judging::judge_file;
 use crate::request::Request;
-use std::alloc::{AllocError, Global};
+use nc_work::for_places;
+use std::alloc::AllocError;
 use std::fs;
 use std::io::Input;
 use std::rt::Files;
-use std::sync::atomic::{AtomicUsize, Ordering};
-use std::thread::{Threads, for_each_mut};
+use std::thread::Threads;
 
 /// A file with more bytes is left to the caller, so that one such file is in memory at a time.
 const MOST_BYTES: u64 = 8 << 20;
@@ -26,34 +26,6 @@ const ROOM: usize = 4 << 20;
 pub struct Report {
     pub text: Vec<u8>,
     pub is_refused: bool,
-}
-
-/// A file's number, and the report on it.
-#[derive(Drop)]
-struct Done {
-    number: usize,
-    report: Report,
-}
-
-/// The reports that a worker has made, and its room for more.
-#[derive(Drop)]
-struct Worker {
-    done: Vec<Done>,
-    room: usize,
-}
-
-/// Workers that have found nothing yet.
-fn make_workers(alloc: Global, count: usize) -> Result<Vec<Worker>, AllocError>
-    ensures { IfOk result (λ workers. All (λ worker. worker.done.items ≡ []) workers.items) }
-{
-    let mut workers = Vec::with_capacity(alloc, count)?;
-    for _ in 0..count {
-        workers.push(Worker {
-            done: Vec::new(alloc),
-            room: ROOM,
-        })?;
-    }
-    Ok(workers)
 }
 
 /// Judges a file, and keeps the report on it, if there is room for that.
@@ -102,131 +74,23 @@ fn judge_one<R: AllocGlobal + Input + Files>(
     report_on(rt, request, file, room)
 }
 
-/// Adds a report to those of a worker, and takes its text from the worker's room. If there is no memory for that, the caller judges
-/// the file.
-fn keep(worker: &mut Worker, number: usize, report: Report)
-    ensures { (worker.new.done.items ≡ worker.old.done.items ++ record { number = number; report = report } ∷ [])
-        ⊎ (worker.new.done.items ≡ worker.old.done.items) }
-{
-    worker.room = worker.room.saturating_sub(report.text.len());
-    let _ = worker.done.push(Done { number, report });
-}
-
-/// Judges the file of this number for a worker, which keeps the report on it.
+/// Judges the file of this number for a worker, and takes the text of the report from the worker's room.
 fn judge_next<R: AllocGlobal + Input + Files>(
     rt: &R,
     request: &Request<'_>,
     files: &[&str],
     number: usize,
-    worker: &mut Worker,
-)
-    requires below { number < length files.now }
-    requires done { AreReports request.now files.now worker.old.done.items }
-    ensures { AreReports request.now files.now worker.new.done.items }
+    room: &mut usize,
+) -> Option<Report>
+    requires { number < length files.now }
+    ensures { FitsReport request.now files.now number result }
 {
-    if let Some(report) = judge_one(rt, request, files[number], worker.room) {
-        keep(worker, number, report);
-    }
-}
-
-/// The loop of a worker: it judges the next file that no worker has taken, until none is left.
-fn work<R: AllocGlobal + Input + Files>(
-    rt: &R,
-    request: &Request<'_>,
-    files: &[&str],
-    next: &AtomicUsize,
-    worker: &mut Worker,
-)
-    requires { AreReports request.now files.now worker.old.done.items }
-    ensures { AreReports request.now files.now worker.new.done.items }
-{
-    for _ in 0..files.len() {
-        let number = next.fetch_add(1, Ordering::SeqCst);
-        if number >= files.len() {
-            break;
+    match judge_one(rt, request, files[number], *room) {
+        Some(report) => {
+            *room = room.saturating_sub(report.text.len());
+            Some(report)
         }
-        judge_next(rt, request, files, number, worker);
-    }
-}
-
-/// Judges files by workers.
-fn work_all<R: Threads + Sync + AllocGlobal + Input + Files>(
-    rt: &R,
-    request: &Request<'_>,
-    files: &[&str],
-    workers: &mut [Worker],
-)
-where
-    R::File: Send + Sync,
-    R::Dir: Send + Sync,
-    R::Reader: Send + Sync,
-    requires { All (λ worker. AreReports request.now files.now worker.done.items) workers.old }
-    ensures { All (λ worker. AreReports request.now files.now worker.done.items) workers.new }
-{
-    let next = AtomicUsize::new(0);
-    let count = workers.len().max(1);
-    for_each_mut(
-        rt,
-        workers,
-        count,
-        &|_number: usize, worker: &mut Worker|
-            requires { AreReports request.now files.now worker.old.done.items }
-            ensures { AreReports request.entry.now files.entry.now worker.new.done.items }
-        { work(rt, request, files, &next, worker) },
-    );
-}
-
-/// An empty place for each file.
-fn make_places(alloc: Global, count: usize) -> Result<Vec<Option<Report>>, AllocError>
-    ensures len { IfOk result (λ places. vec_len places ≡ count) }
-    ensures none { IfOk result (λ places. All (λ place. place ≡ None) places.items) }
-{
-    let mut places = Vec::with_capacity(alloc, count)?;
-    for _ in 0..count {
-        places.push(None)?;
-    }
-    Ok(places)
-}
-
-/// Puts a report into the place of its file.
-fn put(request: &Request<'_>, files: &[&str], done: Done, places: &mut [Option<Report>])
-    requires done { FitsReport request.now files.now done.number (Some done.report) }
-    requires places { ArePlaces request.now files.now places.old }
-    ensures len { length places.new ≡ length places.old }
-    ensures places { ArePlaces request.now files.now places.new }
-{
-    let Done { number, report } = done;
-    if number < places.len() {
-        places[number] = Some(report);
-    }
-}
-
-/// Puts the reports of a worker into the places of its files.
-fn put_all(request: &Request<'_>, files: &[&str], done: Vec<Done>, places: &mut [Option<Report>])
-    requires done { AreReports request.now files.now done.items }
-    requires places { ArePlaces request.now files.now places.old }
-    ensures len { length places.new ≡ length places.old }
-    ensures places { ArePlaces request.now files.now places.new }
-{
-    for one in done {
-        put(request, files, one, places);
-    }
-}
-
-/// Puts the reports of all workers into the places of their files.
-fn gather(
-    request: &Request<'_>,
-    files: &[&str],
-    workers: Vec<Worker>,
-    places: &mut [Option<Report>],
-)
-    requires workers { All (λ worker. AreReports request.now files.now worker.done.items) workers.items }
-    requires places { ArePlaces request.now files.now places.old }
-    ensures len { length places.new ≡ length places.old }
-    ensures places { ArePlaces request.now files.now places.new }
-{
-    for worker in workers {
-        put_all(request, files, worker.done, places);
+        None => None,
     }
 }
 
@@ -245,10 +109,16 @@ where
     // There is a place for each file, in the files' order, and what is in it is the report on that file.
     ensures { IfOk result (λ places. AllZip (λ file place. FitsFile request.now file.now place) files.now places.items) }
 {
-    let count = (request.workers as usize).min(files.len());
-    let mut workers = make_workers(rt.alloc(), count)?;
-    let mut places = make_places(rt.alloc(), files.len())?;
-    work_all(rt, request, files, &mut workers);
-    gather(request, files, workers, &mut places);
+    let places = for_places(
+        rt,
+        rt.alloc(),
+        files.len(),
+        request.workers as usize,
+        ROOM,
+        &|number: usize, room: &mut usize|
+            requires { number < length files.now }
+            ensures { FitsReport request.entry.now files.entry.now number result }
+        { judge_next(rt, request, files, number, room) },
+    )?;
     Ok(places)
 }

@@ -1,2 +1,2 @@
--- What proofs of the crates above may use of this crate: lemmas on lists of places. The other files are private.
-pub use Rattle.nc_work.proofs.Places.{set_each, none_at, places_hold}
+-- What proofs of the crates above may use of this crate: what a pool has found for its places. The other files are private.
+pub use Rattle.nc_work.proofs.Places.{places_hold}

@@ -19,7 +19,7 @@ set_each P (x ∷ xs) (suc i) y d h p zero = h zero
 set_each P (x ∷ xs) (suc i) y d h p (suc k) = set_each (λ j. P (suc j)) xs i y d (λ j. h (suc j)) p k
 
 -- where each place is empty, so is the one at any number
-pub none_at : {X : Type 0} (places : List (Option X)) → All (λ a. a ≡ None) places → (k : ℕ) → get_or places k None ≡ None
+none_at : {X : Type 0} (places : List (Option X)) → All (λ a. a ≡ None) places → (k : ℕ) → get_or places k None ≡ None
 none_at [] none k = refl
 none_at (a ∷ rest) none zero = none zero None (omega arith)
 none_at (a ∷ rest) none (suc k) = none_at rest (λ j d below. none (suc j) d (omega (arith, below))) k

@@ -1,5 +1,0 @@
-use Rattle.std.specs.Prelude.{◌≡◌, All, None, vec_len}
-use Rattle.nc_files.proofs.working.make_places.Given as goal
-
-abbrev pub invariant-loop : goal.invariant-loop
-invariant-loop l = record { none : All (λ place. place ≡ None) l.places.items; len : vec_len l.places ≡ l.counter }
