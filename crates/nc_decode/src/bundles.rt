@@ -23,6 +23,14 @@ pub fn is_bundle_start(at: u32) -> bool
     at % BUNDLE == 0
 }
 
+/// Whether a direct transfer may go to this address, if it is outside the transfer's chunk: a bundle start below the limit.
+#[inline(always)]
+pub fn is_outside_target(limit: u32, to: u32) -> bool
+    ensures { IsTrue result ↔ (IsBundleStart to × (to < limit)) }
+{
+    is_bundle_start(to) && to < limit
+}
+
 /// The number of bytes from this address to the end of its bundle, from 1 to 32.
 #[inline(always)]
 pub fn bundle_rest(at: u32) -> u32

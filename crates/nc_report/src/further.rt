@@ -7,7 +7,7 @@ ghost use Rattle.nc_report.specs.Further.{is_open, is_begun, may_go, has_bad_tar
 
 use crate::front::front_instruction;
 use crate::judged::Judged;
-use nc_decode::is_bundle_start;
+use nc_decode::is_outside_target;
 use nc_reading::{Class, Seen, next_candidate};
 use nc_vet::VetFault;
 
@@ -45,7 +45,7 @@ fn may_go(judged: &Judged<'_>, classes: &[Class], to: u32) -> bool
     if base <= to && to < base + classes.len() as u32 {
         is_open(class_at(classes, (to - base) as usize))
     } else {
-        is_bundle_start(to) && to < judged.limit
+        is_outside_target(judged.limit, to)
     }
 }
 

@@ -10,7 +10,7 @@ ghost use Rattle.nc_vet.specs.machinery.Lists.{HasAdded, AreBelow, AreListed, Ar
 
 use crate::transfers::{both, judged_from, short_target};
 use byteorder::{ByteOrder, LittleEndian};
-use nc_decode::{BUNDLE, Bundle, is_bundle_start};
+use nc_decode::{BUNDLE, Bundle, is_outside_target};
 use std::alloc::{AllocError, Global};
 
 /// Room for a list of transfers.
@@ -143,7 +143,7 @@ fn is_good_offset(base: u32, limit: u32, starts: &[u32], offset: u32) -> bool
         starts[(offset / BUNDLE) as usize] >> (offset % BUNDLE) & 1 == 1
     } else {
         let to = base.wrapping_add(offset);
-        is_bundle_start(to) && to < limit
+        is_outside_target(limit, to)
     }
 }
 

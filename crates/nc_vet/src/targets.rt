@@ -11,7 +11,7 @@ ghost use Rattle.nc_vet.specs.machinery.Steps.{HasReadAll, HasNoBadTargetAt, Has
 
 use crate::lists::judged_bundles;
 use crate::marks::Marks;
-use nc_decode::{BUNDLE, Instr, Mark, bundle_rest, decode, is_bundle_start, may_transfer};
+use nc_decode::{BUNDLE, Instr, Mark, bundle_rest, decode, is_outside_target, may_transfer};
 use std::alloc::Global;
 
 /// Whether the mark is that of an instruction other than the second half of a pair.
@@ -19,13 +19,6 @@ fn is_plain(mark: Mark) -> bool
     ensures { IsTrue result ↔ (mark ≡ Mark.Plain) }
 {
     matches!(mark, Mark::Plain)
-}
-
-/// Whether a direct transfer may go to this address outside the chunk.
-fn is_good_outside(limit: u32, to: u32) -> bool
-    ensures { IsTrue result ↔ ((to % 32 ≡ 0) × (to < limit)) }
-{
-    is_bundle_start(to) && to < limit
 }
 
 /// Whether a direct transfer may go to this address.
@@ -37,7 +30,7 @@ fn is_good(base: u32, limit: u32, code: &[u8], marks: &Marks, to: u32) -> bool
     if base <= to && ((to - base) as usize) < code.len() {
         is_plain(marks.at(code, (to - base) as usize))
     } else {
-        is_good_outside(limit, to)
+        is_outside_target(limit, to)
     }
 }
 

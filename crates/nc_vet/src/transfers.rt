@@ -6,7 +6,7 @@ ghost use Rattle.nc_decode.specs.Bits.{starts_instruction, is_second};
 ghost use Rattle.nc_vet.specs.machinery.Judged.{short_to, near_to, IsGood, AreGoodShorts, AreGoodNears, AreJudged};
 
 use byteorder::{ByteOrder, LittleEndian};
-use nc_decode::{BUNDLE, Bundle, bundle_at, is_bundle_start};
+use nc_decode::{BUNDLE, Bundle, bundle_at, is_outside_target};
 
 /// Whether an instruction that isn't the second half of a pair begins at byte `k` of a bundle.
 #[inline(always)]
@@ -30,7 +30,7 @@ fn is_good(base: u32, limit: u32, code: &[u8], bundles: &[Bundle], to: u32) -> b
     if ((at / BUNDLE) as usize) < bundles.len() {
         is_plain(bundles[(at / BUNDLE) as usize], at % BUNDLE)
     } else {
-        is_bundle_start(to) && to < limit
+        is_outside_target(limit, to)
     }
 }
 

@@ -16,7 +16,7 @@ ghost use Rattle.nc_region.specs.machinery.PatchSteps.{Begins, Along, RunsAlong,
 
 use crate::fault::ModifyFault;
 use nc_acts::Acts;
-use nc_decode::{BUNDLE, Instr, Mark, decode};
+use nc_decode::{BUNDLE, Instr, Mark, decode, is_outside_target};
 use nc_list::Chunk;
 use nc_text::lowest_place;
 
@@ -203,7 +203,7 @@ fn is_good<A: Acts>(acts: &A, chunk: Chunk, to: u32) -> bool
     if chunk.base <= to && to - chunk.base < chunk.length {
         is_plain(acts.mark(to))
     } else {
-        to % BUNDLE == 0 && to < acts.limit()
+        is_outside_target(acts.limit(), to)
     }
 }
 

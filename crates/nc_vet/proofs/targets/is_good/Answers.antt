@@ -29,9 +29,9 @@ returns-else-base-to c =
     ] in
     record {
       exact = λ pieces is s. (
-        λ t. (let b = c.is_good_outside.ensures.0 t in
+        λ t. (let b = c.is_outside_target.ensures.0 t in
             target_outside c.args.base c.args.limit c.args.to pieces (listed c.args.code.now c.args.marks.now) is s outside b.0 b.1),
-        λ t. c.is_good_outside.ensures.1 (starts_outside c.args.base c.args.limit c.args.to pieces
+        λ t. c.is_outside_target.ensures.1 (starts_outside c.args.base c.args.limit c.args.to pieces
             (listed c.args.code.now c.args.marks.now) is s outside t),
       );
     }

@@ -1,5 +1,5 @@
 use Rattle.std.proofs.Common.{rules}
 use Rattle.nc_vet.proofs.transfers.is_good.Goals as goal
 
-pub returns-then-is_bundle_start : goal.returns-then-is_bundle_start
-returns-then-is_bundle_start c = search rules
+pub returns-else-at-bundles : goal.returns-else-at-bundles
+returns-else-at-bundles c = search rules

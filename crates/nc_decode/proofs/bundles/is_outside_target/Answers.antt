@@ -1,5 +1,5 @@
 use Rattle.std.proofs.Common.{◌≡◌, ◌∙◌, sym, ltb-true, lt-ltb, true, false}
-use Rattle.nc_vet.proofs.targets.is_good_outside.Goals as goal
+use Rattle.nc_decode.proofs.bundles.is_outside_target.Goals as goal
 
 pub returns-then-is_bundle_start : goal.returns-then-is_bundle_start
 returns-then-is_bundle_start c =
