@@ -11,15 +11,8 @@ ghost use Rattle.nc_vet.specs.machinery.Steps.{HasReadAll, HasNoBadTargetAt, Has
 
 use crate::lists::judged_bundles;
 use crate::marks::Marks;
-use nc_decode::{BUNDLE, Instr, Mark, bundle_rest, decode, is_outside_target, may_transfer};
+use nc_decode::{BUNDLE, Instr, bundle_rest, decode, is_outside_target, may_transfer};
 use std::alloc::Global;
-
-/// Whether the mark is that of an instruction other than the second half of a pair.
-fn is_plain(mark: Mark) -> bool
-    ensures { IsTrue result ↔ (mark ≡ Mark.Plain) }
-{
-    matches!(mark, Mark::Plain)
-}
 
 /// Whether a direct transfer may go to this address.
 fn is_good(base: u32, limit: u32, code: &[u8], marks: &Marks, to: u32) -> bool
@@ -28,7 +21,7 @@ fn is_good(base: u32, limit: u32, code: &[u8], marks: &Marks, to: u32) -> bool
         → IsTrue result ↔ IsTarget base limit pieces to }
 {
     if base <= to && ((to - base) as usize) < code.len() {
-        is_plain(marks.at(code, (to - base) as usize))
+        marks.at(code, (to - base) as usize).is_plain()
     } else {
         is_outside_target(limit, to)
     }
@@ -64,7 +57,7 @@ fn has_bad_target_at(base: u32, limit: u32, code: &[u8], marks: &Marks, at: usiz
     if !may_transfer(code[at]) {
         return false;
     }
-    if !is_plain(marks.at(code, at)) {
+    if !marks.at(code, at).is_plain() {
         return false;
     }
     let end = at + bundle_rest(at as u32) as usize;

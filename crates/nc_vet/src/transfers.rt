@@ -10,7 +10,7 @@ use nc_decode::{BUNDLE, Bundle, bundle_at, is_outside_target};
 
 /// Whether an instruction that isn't the second half of a pair begins at byte `k` of a bundle.
 #[inline(always)]
-fn is_plain(bundle: Bundle, k: u32) -> bool
+fn is_entry(bundle: Bundle, k: u32) -> bool
     requires { k < 32 }
     ensures start { IsTrue result → starts_instruction bundle k ≡ true }
     ensures second { IsTrue result → is_second bundle k ≡ false }
@@ -28,7 +28,7 @@ fn is_good(base: u32, limit: u32, code: &[u8], bundles: &[Bundle], to: u32) -> b
 {
     let at = to.wrapping_sub(base);
     if ((at / BUNDLE) as usize) < bundles.len() {
-        is_plain(bundles[(at / BUNDLE) as usize], at % BUNDLE)
+        is_entry(bundles[(at / BUNDLE) as usize], at % BUNDLE)
     } else {
         is_outside_target(limit, to)
     }

@@ -27,12 +27,6 @@ fn is_marked(mark: Mark) -> bool
     !matches!(mark, Mark::Unmarked)
 }
 
-fn is_plain(mark: Mark) -> bool
-    ensures { IsTrue result ↔ (mark ≡ Mark.Plain) }
-{
-    matches!(mark, Mark::Plain)
-}
-
 /// The mark is that of an indirect transfer.
 fn is_after(mark: Mark) -> bool
     ensures { result ≡ is_after mark }
@@ -201,7 +195,7 @@ fn is_good<A: Acts>(acts: &A, chunk: Chunk, to: u32) -> bool
         ↔ IsTarget chunk.base (limit_of (A.marked acts.now).bytes) h.valid.pieces to }
 {
     if chunk.base <= to && to - chunk.base < chunk.length {
-        is_plain(acts.mark(to))
+        acts.mark(to).is_plain()
     } else {
         is_outside_target(acts.limit(), to)
     }
