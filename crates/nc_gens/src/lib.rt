@@ -31,7 +31,7 @@ mod view;
 
 pub use fault::{GensFault, GensFull};
 pub use keeper::LAST_GENERATION;
-pub use opening::MOST_SEATS;
+pub use opening::{MOST_SEATS, are_seats};
 pub use progress::law_of_progress;
 pub use table::{Gens, Keeper, Pass};
 pub use view::{KeeperNumbers, PassNumbers, WordStep};

@@ -1,6 +1,6 @@
 //! Creates a table with its keeper and its passes.
 
-ghost use Rattle.std.specs.Prelude.{◌≡◌, ◌+◌, ◌<◌, ◌≤◌, ◌↔◌, ◌⊎◌, [], All, IfOk, OnOk, IsErrOf, length, replicate};
+ghost use Rattle.std.specs.Prelude.{◌≡◌, ◌+◌, ◌<◌, ◌≤◌, ◌↔◌, ◌⊎◌, [], All, IfOk, OnOk, IsErrOf, IsTrue, length, replicate};
 ghost use Rattle.nc_gens.specs.machinery.Views.{giving_view};
 ghost use Rattle.nc_gens.specs.Seen.{AreSeats, new_passes, first_keeper};
 
@@ -13,6 +13,13 @@ use std::alloc::{AllocError, Global};
 
 /// The largest number of seats in a table.
 pub const MOST_SEATS: usize = 256;
+
+/// Whether a table may have this number of seats.
+pub fn are_seats(seats: u32) -> bool
+    ensures { IsTrue result ↔ AreSeats seats }
+{
+    seats != 0 && seats as usize <= MOST_SEATS
+}
 
 impl Gens {
     /// The table, its keeper, and a pass for each seat, in the seats' order. The generation, every word and every `since` begin at 0.
@@ -30,7 +37,7 @@ impl Gens {
         ensures count { IfOk result (λ r. length r.2.items ≡ seats) }
         ensures tables { IfOk result (λ r. (r.1.table ≡ r.0) × All (λ p. p.table ≡ r.0) r.2.items) }
     {
-        if seats == 0 || seats as usize > MOST_SEATS {
+        if !are_seats(seats) {
             return Err(GensFault::BadSeats);
         }
         open(alloc, seats as usize).map_err(|_| GensFault::OutOfMemory)
