@@ -1,7 +1,7 @@
 //! The constants of bundles and regions, for every crate.
 
 ghost use Rattle.std.specs.Prelude.{◌≡◌, ◌+◌, ◌*◌, ◌%◌, ◌-◌, ◌≤◌, ◌<◌, ◌↔◌, IsTrue};
-ghost use Rattle.nc_decode.specs.Bundles.{IsBundleStart, IsLawfulLimit, IsRegionSize};
+ghost use Rattle.nc_decode.specs.Bundles.{IsBundleStart, IsLawfulLimit, IsRegionSize, limit_after};
 
 /// The number of bytes in a bundle. No permitted instruction crosses the end of one.
 pub const BUNDLE: u32 = 32;
@@ -47,11 +47,17 @@ pub fn is_region_size(bundles: u32) -> bool
     MIN_BUNDLES <= bundles && bundles <= MAX_BUNDLES
 }
 
+/// The limit of a region of this number of bundles.
+pub fn limit_after(bundles: u32) -> u32
+    requires { IsRegionSize bundles }
+    ensures { result ≡ limit_after bundles }
+{
+    START + BUNDLE * bundles
+}
+
 /// Whether a region may end at this address.
 pub fn is_lawful_limit(limit: u32) -> bool
     ensures { IsTrue result ↔ IsLawfulLimit limit }
 {
-    is_bundle_start(limit)
-        && START + MIN_BUNDLES * BUNDLE <= limit
-        && limit <= START + MAX_BUNDLES * BUNDLE
+    is_bundle_start(limit) && limit_after(MIN_BUNDLES) <= limit && limit <= limit_after(MAX_BUNDLES)
 }

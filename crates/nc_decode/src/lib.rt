@@ -47,7 +47,7 @@ pub use automaton::{AFTER_MASK, AFTER_NEAR, AFTER_PAIR, AFTER_SHORT, DEAD, END, 
 pub use bundle::{Bundle, bundle_at};
 pub use bundles::{
     BUNDLE, MAX_BUNDLES, MIN_BUNDLES, START, bundle_rest, is_bundle_start, is_lawful_limit,
-    is_outside_target, is_region_size,
+    is_outside_target, is_region_size, limit_after,
 };
 pub use decoding::decode;
 pub use instruction::{DecodeFault, Flow, Instr, Mark, STOP, mark_bit};

@@ -1,10 +1,10 @@
 //! A region: a text, changed by acts, and the list of its chunks.
 
-ghost use Rattle.std.specs.Prelude.{◌≡◌, ◌+◌, ◌*◌, ◌↔◌, ◌++◌, List, length, [], None, OnOk, OnErr, IfOk, IfErr, IfSome, IsNone, Contains, slice_get};
+ghost use Rattle.std.specs.Prelude.{◌≡◌, ◌↔◌, ◌++◌, List, length, [], None, OnOk, OnErr, IfOk, IfErr, IfSome, IsNone, Contains, slice_get};
 ghost use Rattle.nc_text.specs.Machine.{IsConfined};
 ghost use Rattle.nc_text.specs.Marks.{mark_at};
 ghost use Rattle.nc_text.specs.Places.{InRegion, byte_at, limit_of};
-ghost use Rattle.nc_decode.specs.Bundles.{IsLawfulLimit};
+ghost use Rattle.nc_decode.specs.Bundles.{IsLawfulLimit, limit_after};
 ghost use Rattle.nc_text.specs.MarkedText.{unused_text};
 ghost use Rattle.nc_text.specs.Ready.{unmade_pages};
 ghost use Rattle.nc_list.specs.declared.chunk.ChunkState.{ChunkState};
@@ -78,13 +78,13 @@ impl<'g> RegionOf<Plain<'g>> {
     ) -> Result<Region<'g>, (Keeper, RegionFault)>
         requires { keeper.table ≡ gens.now }
         // The size is refused exactly if it is unlawful.
-        ensures lawful { OnOk result (IsLawfulLimit (0x10000 + 32 * bundles)) }
-        ensures size { IfErr result (λ e. (e.1 ≡ RegionFault.BadSize) ↔ ¬ IsLawfulLimit (0x10000 + 32 * bundles)) }
+        ensures lawful { OnOk result (IsLawfulLimit (limit_after bundles)) }
+        ensures size { IfErr result (λ e. (e.1 ≡ RegionFault.BadSize) ↔ ¬ IsLawfulLimit (limit_after bundles)) }
         ensures given_back { IfErr result (λ e. e.0 ≡ keeper) }
         ensures region { IfOk result (λ r. r
             ≡ record {
-              marked = unused_text (0x10000 + 32 * bundles);
-              made = unmade_pages (0x10000 + 32 * bundles);
+              marked = unused_text (limit_after bundles);
+              made = unmade_pages (limit_after bundles);
               chunks = [];
               keeper = keeper;
               logged = [];

@@ -1,9 +1,9 @@
 //! A text: the bytes of a region and their marks.
 
-ghost use Rattle.std.specs.Prelude.{◌≡◌, ◌+◌, ◌%◌, ◌-◌, ◌*◌, ◌≤◌, ◌<◌, ℕ, true, false, List, length, replicate, slice_index};
+ghost use Rattle.std.specs.Prelude.{◌≡◌, ◌+◌, ◌%◌, ◌-◌, ◌≤◌, ◌<◌, ℕ, true, false, List, length, replicate, slice_index};
 ghost use Rattle.std.specs.Prelude.{IfOk, IfErr, IsTrue, All, ◌↔◌, ◌⊎◌};
 ghost use Rattle.std.specs.Int.{bit_at};
-ghost use Rattle.nc_decode.specs.Bundles.{IsBundleStart, IsLawfulLimit};
+ghost use Rattle.nc_decode.specs.Bundles.{IsBundleStart, IsLawfulLimit, limit_after};
 ghost use Rattle.nc_decode.specs.Bits.{mark_bit, marks_in};
 ghost use Rattle.nc_text.specs.Marks.{IsClosed, mark_at};
 ghost use Rattle.nc_text.specs.Places.{InRegion, SpanInRegion, byte_at, limit_of};
@@ -73,9 +73,9 @@ impl Text {
     ///
     /// `BadSize` exactly if that limit isn't lawful, before any allocation; `OutOfMemory` only if an allocation was refused.
     pub fn new(alloc: Global, bundles: u32) -> Result<Self, TextFault>
-        ensures size { (result ≡ Err TextFault.BadSize) ↔ ¬ IsLawfulLimit (0x10000 + 32 * bundles) }
-        ensures marked { IfOk result (λ t. t.marked ≡ unused_text (0x10000 + 32 * bundles)) }
-        ensures made { IfOk result (λ t. t.made ≡ unmade_pages (0x10000 + 32 * bundles)) }
+        ensures size { (result ≡ Err TextFault.BadSize) ↔ ¬ IsLawfulLimit (limit_after bundles) }
+        ensures marked { IfOk result (λ t. t.marked ≡ unused_text (limit_after bundles)) }
+        ensures made { IfOk result (λ t. t.made ≡ unmade_pages (limit_after bundles)) }
         ensures whole { IfOk result (λ t. IsText t.marked) }
     {
         if bundles < 2 || bundles > MAX_BUNDLES {
