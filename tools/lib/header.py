@@ -163,8 +163,8 @@ FUNCTION = re.compile(r'^pub extern "C" fn (\w+)\(([^()]*)\)(?: -> (\w+))?(?: \{
 CLAUSE = re.compile(r"^    (ensures|requires)(?: (\w+))? \{", re.M)
 STRUCT = re.compile(r"^#\[repr\(C\)\]\n(?:#[^\n]*\n)*pub struct (\w+) \{\n(.*?)^\}", re.M | re.S)
 MEMBER = re.compile(r"^    (?:pub )?(\w+): (.+),$", re.M)
-CONSTANT = re.compile(r"^(?:pub(?:\(crate\))? )?const ([A-Z_]+): u\d+ = (0x[0-9A-F_]+|[\d_]+);", re.M)
-EQUATION = re.compile(r"^(?!register_)(\w+_number) (.*\b[A-Z]\w*.*?)\)? = (\d+)(?: \+ \w+)?$", re.M)
+CONSTANT = re.compile(r"^(?:pub(?:\(crate\))? )?const ([A-Z0-9_]+): u\d+ = (0x[0-9A-F_]+|[\d_]+);", re.M)
+EQUATION = re.compile(r"^(?!register_)(\w+_number) (.*\b[A-Z]\w*.*?)\)? = (\d+|[A-Z0-9_]+)(?: \+ \w+)?$", re.M)
 ACT = re.compile(r"^(act_of|entry_of|run_of) \(?([A-Z]\w+).* = record \{ kind = (\d+);", re.M)
 
 SCALARS = {"u8": "uint8_t", "u32": "uint32_t", "i32": "int32_t", "u64": "uint64_t", "usize": "size_t", "*mut u8": "void *"}
@@ -174,7 +174,8 @@ NOWHERE = "Global"  # has no size, so C doesn't pass it
 WORDS = {"new": "new_bytes", "register": "reg"}
 LENGTHS = {"code": "len", "bytes": "len", "new": "new_len"}
 
-# Where the numbers are: constants, and the equations by which a contract names a fault, a flow, an end, a mark or a kind of act.
+# Where the numbers are: constants, and the equations by which a contract names a fault, a flow, an end, a mark or a kind of act, with a
+# number or a constant.
 CONSTANTS = ["nc_decode/src/bundles.rt", "nc_decode/src/instruction.rt", "nc_host_acts/src/entries.rt", "nc_host/src/*.rt"]
 EQUATIONS = ["nc_host/specs/*.antt", "nc_host_acts/specs/*.antt"]
 PREFIXES = {"flow_number": "NC_FLOW_", "end_number": "NC_END_", "refused_patch_number": "NC_PATCH_", "elf_number": "NC_ELF_",
@@ -182,8 +183,8 @@ PREFIXES = {"flow_number": "NC_FLOW_", "end_number": "NC_END_", "refused_patch_n
 
 # Numbers that have another name in C, and kinds of acts that no call writes.
 OTHER_NAMES = {
-    "NOTHING": "NO_HANDLE", "TAKEN": "HANDLE_TAKEN", "UNDERWAY": "UNDER_WAY", "NO_MEMORY": "OUT_OF_MEMORY",
-    "NONE_LEFT": "NO_SEAT", "GENS_FULL": "FULL", "AFTER": "MASKED", "MARK_SPAN": "MARK", "SERIALIZED": "SERIALIZE", "ELF64": "64_BITS",
+    "UNDERWAY": "UNDER_WAY", "NONE_LEFT": "NO_SEAT", "GENS_FULL": "FULL", "AFTER": "MASKED", "MARK_SPAN": "MARK",
+    "SERIALIZED": "SERIALIZE", "ELF64": "64_BITS",
 }
 UNWRITTEN = {"UnmarkSpan", "Look"}
 
@@ -217,17 +218,20 @@ class Crates:
             self.calls[name] = call
 
     def read_numbers(self) -> None:
+        constants: dict[str, int] = {}
         for pattern in CONSTANTS:
             for path in sorted(CRATES.glob(pattern)):
                 for name, value in CONSTANT.findall(path.read_text(encoding="utf-8")):
-                    self.add(name, int(value.replace("_", ""), 0), path)
+                    constants[name] = int(value.replace("_", ""), 0)
+                    self.add(name, constants[name], path)
         for pattern in EQUATIONS:
             for path in sorted(CRATES.glob(pattern)):
                 text = path.read_text(encoding="utf-8")
                 for function, case, value in EQUATION.findall(text) + ACT.findall(text):
                     case = re.findall(r"[A-Z]\w*", case)[-1]
                     if case not in UNWRITTEN:
-                        self.add(snake(case), int(value), path, PREFIXES.get(function, "NC_"))
+                        number = int(value) if value.isdigit() else constants[value]
+                        self.add(snake(case), number, path, PREFIXES.get(function, "NC_"))
 
     def add(self, name: str, value: int, path: object, prefix: str = "NC_") -> None:
         if name == "VERSION":

@@ -18,6 +18,8 @@ use Rattle.nc_host_handles.specs.declared.fault.RetireFault.TheVariants as retir
 use Rattle.nc_host_handles.specs.declared.vetted_handle.VettedHandle.{VettedHandle}
 use Rattle.nc_host_handles.specs.RegionHandle.{RegionHandleState}
 use Rattle.nc_host_handles.specs.Pending.{ChangesPages}
+use Rattle.nc_host.specs.declared.fault_numbers.TheConstants.{OUT_OF_MEMORY, NO_ROOM, NO_HANDLE, BAD_SEATS, BAD_SIZE, NO_SEAT, UNDER_WAY}
+use Rattle.nc_host.specs.declared.fault_numbers.TheConstants.{WRONG_LIMIT, OCCUPIED, NO_CHUNK, FULL}
 use Rattle.nc_host.specs.Shown.{refused_patch_number}
 
 -- the handle had a value and has one, and the relation holds between the two
@@ -28,31 +30,31 @@ pub record IsDone {X : Type 0} (old new : Option X) (step : X → X → Type 0) 
   pub has : new ≡ Some after
   pub did : step before after
 
--- the fault is 32 and the handle has nothing; or it is the number of a refusal that its value may get, with the count
--- that the refusal needs
+-- the fault is NO_HANDLE and the handle has nothing; or it is the number of a refusal that its value may get, with the
+-- count that the refusal needs
 abbrev pub IsNumberedRefusal : {X F : Type 0} → Option X → (X → F → Type 0) → (F → ℕ) → (F → ℕ) → (fault count : ℕ) → Type 0
 IsNumberedRefusal {X} {F} handle may number wanted fault count =
-    ((handle ≡ None) × (fault ≡ 32) × (count ≡ 0))
+    ((handle ≡ None) × (fault ≡ NO_HANDLE) × (count ≡ 0))
     ⊎ ((x : X) × (f : F) × (handle ≡ Some x) × may x f × (fault ≡ number f) × (count ≡ wanted f))
 
 -- the number of a refused `new`
 abbrev pub new_number : NewFault → ℕ
-new_number new.BadSeats = 34
-new_number new.BadSize = 35
-new_number new.OutOfMemory = 8
+new_number new.BadSeats = BAD_SEATS
+new_number new.BadSize = BAD_SIZE
+new_number new.OutOfMemory = OUT_OF_MEMORY
 
 -- the number of a refusal to give a seat
 abbrev pub seat_number : SeatFault → ℕ
-seat_number seat.NoneLeft = 36
-seat_number seat.OutOfMemory = 8
+seat_number seat.NoneLeft = NO_SEAT
+seat_number seat.OutOfMemory = OUT_OF_MEMORY
 
 -- the number of a refused creation
 abbrev pub load_number : LoadFault → ℕ
-load_number load.Underway = 37
-load_number (load.NoRoom wanted) = 9
-load_number (load.Refused WrongLimit) = 39
-load_number (load.Refused Occupied) = 40
-load_number (load.Refused OutOfMemory) = 8
+load_number load.Underway = UNDER_WAY
+load_number (load.NoRoom wanted) = NO_ROOM
+load_number (load.Refused WrongLimit) = WRONG_LIMIT
+load_number (load.Refused Occupied) = OCCUPIED
+load_number (load.Refused OutOfMemory) = OUT_OF_MEMORY
 
 -- the number of acts of a creation that is refused for no room; otherwise 0
 abbrev pub load_wanted : LoadFault → ℕ
@@ -62,8 +64,8 @@ load_wanted (load.Refused fault) = 0
 
 -- the number of a refused patch
 abbrev pub patch_number : PatchFault → ℕ
-patch_number patch.Underway = 37
-patch_number (patch.NoRoom wanted) = 9
+patch_number patch.Underway = UNDER_WAY
+patch_number (patch.NoRoom wanted) = NO_ROOM
 patch_number (patch.Refused fault) = refused_patch_number fault
 
 -- the largest number of acts of a patch that is refused for no room; otherwise 0
@@ -74,10 +76,10 @@ patch_wanted (patch.Refused fault) = 0
 
 -- the number of a deletion that doesn't begin
 abbrev pub retire_number : RetireFault → ℕ
-retire_number retire.Underway = 37
-retire_number (retire.NoRoom wanted) = 9
-retire_number (retire.Refused NoChunk) = 41
-retire_number (retire.Refused GensFull) = 42
+retire_number retire.Underway = UNDER_WAY
+retire_number (retire.NoRoom wanted) = NO_ROOM
+retire_number (retire.Refused NoChunk) = NO_CHUNK
+retire_number (retire.Refused GensFull) = FULL
 
 -- the number of acts of a deletion that is refused for no room; otherwise 0
 abbrev pub retire_wanted : RetireFault → ℕ

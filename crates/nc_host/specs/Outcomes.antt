@@ -4,6 +4,7 @@ use Rattle.nc_decode.specs.declared.instruction.Mark.{Mark}
 use Rattle.nc_vet.specs.declared.fault.VetFault.{VetFault}
 use Rattle.nc_vet.specs.Chunk.{IsValid}
 use Rattle.nc_vet.specs.Faults.{HasFault}
+use Rattle.nc_host.specs.declared.fault_numbers.TheConstants.{NO_ROOM}
 use Rattle.nc_host.specs.Shown.{fault_number, fault_place}
 
 -- the code is a valid chunk at this base for this limit, with these marks
@@ -16,9 +17,9 @@ IsChunkFault base limit code fault at =
     (f : VetFault) × HasFault base limit code f × (fault ≡ fault_number f) × (at ≡ fault_place f)
 
 -- the outcome of a call that vets a chunk and then writes elements into a buffer: fault 0 for a valid chunk with enough
--- room; 9 for a valid chunk without; else the chunk's fault, 1 to 8, with its address
+-- room; NO_ROOM for a valid chunk without; else the chunk's fault, 1 to 8, with its address
 abbrev pub IsOutcome : (base limit : ℕ) → List ℕ → (wanted room : ℕ) → (fault at : ℕ) → Type 0
 IsOutcome base limit code wanted room fault at =
     ((fault ≡ 0) × (at ≡ 0) × (wanted ≤ room) × ((marks : List Mark) × IsAccepted base limit code marks))
-    ⊎ (((fault ≡ 9) × (at ≡ 0) × (room < wanted) × ((marks : List Mark) × IsAccepted base limit code marks))
+    ⊎ (((fault ≡ NO_ROOM) × (at ≡ 0) × (room < wanted) × ((marks : List Mark) × IsAccepted base limit code marks))
     ⊎ IsChunkFault base limit code fault at)

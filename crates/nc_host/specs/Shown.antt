@@ -10,6 +10,9 @@ use Rattle.nc_vet.specs.declared.fault.VetFault.TheVariants.{BadBase, BadLength,
 use Rattle.nc_vet.specs.declared.fault.VetFault.TheVariants.{OutOfMemory}
 use Rattle.nc_region.specs.declared.fault.ModifyFault.{ModifyFault}
 use Rattle.nc_region.specs.declared.fault.ModifyFault.TheVariants as patch
+use Rattle.nc_host.specs.declared.fault_numbers.TheConstants.{BAD_BASE, BAD_LENGTH, OUT_OF_RANGE, NOT_PERMITTED, CROSSES, BARE, BAD_TARGET}
+use Rattle.nc_host.specs.declared.fault_numbers.TheConstants.{OUT_OF_MEMORY, PATCH_BAD_SPAN, PATCH_NOT_LIVE, PATCH_NOT_PERMITTED}
+use Rattle.nc_host.specs.declared.fault_numbers.TheConstants.{PATCH_BOUNDARIES, PATCH_PAIR_TOUCHED, PATCH_BAD_TARGET}
 use Rattle.nc_host.specs.declared.lent_answers.NcInstruction.{NcInstruction}
 
 -- the number of a flow
@@ -50,14 +53,14 @@ mark_number (After register) = 16 + register
 
 -- the number of a chunk's fault
 abbrev pub fault_number : VetFault → ℕ
-fault_number BadBase = 1
-fault_number BadLength = 2
-fault_number OutOfRange = 3
-fault_number (NotPermitted at) = 4
-fault_number (Crosses at) = 5
-fault_number (Bare at) = 6
-fault_number (BadTarget at) = 7
-fault_number OutOfMemory = 8
+fault_number BadBase = BAD_BASE
+fault_number BadLength = BAD_LENGTH
+fault_number OutOfRange = OUT_OF_RANGE
+fault_number (NotPermitted at) = NOT_PERMITTED
+fault_number (Crosses at) = CROSSES
+fault_number (Bare at) = BARE
+fault_number (BadTarget at) = BAD_TARGET
+fault_number OutOfMemory = OUT_OF_MEMORY
 
 -- the address of a chunk's fault, or 0 for a fault without one
 abbrev pub fault_place : VetFault → ℕ
@@ -69,9 +72,9 @@ fault_place _ = 0
 
 -- the number of a patch's fault
 abbrev pub refused_patch_number : ModifyFault → ℕ
-refused_patch_number patch.BadSpan = 16
-refused_patch_number patch.NotLive = 17
-refused_patch_number patch.NotPermitted = 18
-refused_patch_number patch.Boundaries = 19
-refused_patch_number patch.PairTouched = 20
-refused_patch_number patch.BadTarget = 21
+refused_patch_number patch.BadSpan = PATCH_BAD_SPAN
+refused_patch_number patch.NotLive = PATCH_NOT_LIVE
+refused_patch_number patch.NotPermitted = PATCH_NOT_PERMITTED
+refused_patch_number patch.Boundaries = PATCH_BOUNDARIES
+refused_patch_number patch.PairTouched = PATCH_PAIR_TOUCHED
+refused_patch_number patch.BadTarget = PATCH_BAD_TARGET

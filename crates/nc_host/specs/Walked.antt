@@ -4,6 +4,7 @@ use Rattle.nc_region.specs.declared.trace.End.{End}
 use Rattle.nc_region.specs.declared.trace.End.TheVariants.{Stop, Trampoline, Beyond, More}
 use Rattle.nc_region.specs.Trace.{IsTrace, IsOnlyTrace, IsSafeWalk, IsWalkStart}
 use Rattle.nc_host_acts.specs.Shown.{over}
+use Rattle.nc_host.specs.declared.fault_numbers.TheConstants.{OUT_OF_MEMORY, NO_ROOM, NO_START}
 use Rattle.nc_host.specs.declared.region_answers.NcWalk.{NcWalk}
 
 -- the number of an end
@@ -33,18 +34,18 @@ pub record IsShownWalk (text : List ℕ) (start : ℕ) (choices : List ℕ) (rep
   pub numbers : reported ≡ walk_of (length places) end
   pub written : new ≡ over places old
 
--- there is a walk over more places than the buffer holds; fault 9 is reported, with the number of its places
+-- there is a walk over more places than the buffer holds; NO_ROOM is reported, with the number of its places
 pub record IsLongWalk (text : List ℕ) (start : ℕ) (choices : List ℕ) (room : ℕ) (reported : NcWalk) : Type 0 where
   pub places : List ℕ
   pub end : End
   pub begins : IsWalkStart text start
   pub trace : IsTrace text start choices places end
   pub longer : room < length places
-  pub numbers : reported ≡ record { count = length places; fault = 9; end = 0 }
+  pub numbers : reported ≡ record { count = length places; fault = NO_ROOM; end = 0 }
 
--- when a walk is refused: 44 if no walk may begin there; 8, lack of memory, only if one may; 9, with the number of places,
--- if the buffer holds fewer
+-- when a walk is refused: NO_START if no walk may begin there; OUT_OF_MEMORY only if one may; NO_ROOM, with the number of
+-- places, if the buffer holds fewer
 abbrev pub MayRefuseShownWalk : List ℕ → ℕ → List ℕ → ℕ → NcWalk → Type 0
 MayRefuseShownWalk text start choices room reported =
-    ((reported ≡ no_walk 44) × ¬ IsWalkStart text start)
-    ⊎ (((reported ≡ no_walk 8) × IsWalkStart text start) ⊎ IsLongWalk text start choices room reported)
+    ((reported ≡ no_walk NO_START) × ¬ IsWalkStart text start)
+    ⊎ (((reported ≡ no_walk OUT_OF_MEMORY) × IsWalkStart text start) ⊎ IsLongWalk text start choices room reported)

@@ -39,9 +39,3 @@ pub struct NcSegments {
     /// The number of the program header, counted from 0, whose segment has the fault; else 0.
     pub header: u32,
 }
-
-/// The buffer is too short.
-pub(crate) const NO_ROOM: u32 = 9;
-
-/// The allocator gave no memory.
-pub(crate) const NO_MEMORY: u32 = 8;

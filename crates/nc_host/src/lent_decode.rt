@@ -3,16 +3,12 @@
 ghost use Rattle.std.specs.Prelude.{◌≡◌, ◌↔◌, ◌⊎◌};
 ghost use Rattle.nc_decode.specs.declared.instruction.Instr.{Instr};
 ghost use Rattle.nc_decode.specs.Spelling.{IsAtFront, IsProperFront};
+ghost use Rattle.nc_host.specs.declared.fault_numbers.TheConstants.{CUT_SHORT, NOT_PERMITTED};
 ghost use Rattle.nc_host.specs.Shown.{flow_number, register_number, instruction_of, no_instruction};
 
+use crate::fault_numbers::{CUT_SHORT, NOT_PERMITTED};
 use crate::lent_answers::NcInstruction;
 use nc_decode::{DecodeFault, Flow, Instr, decode};
-
-/// No permitted instruction begins with the bytes.
-const NOT_PERMITTED: u32 = 4;
-
-/// The bytes are a proper prefix of a permitted instruction's bytes.
-const CUT_SHORT: u32 = 10;
 
 /// The number of a flow.
 fn flow_number(flow: Flow) -> u32
@@ -67,19 +63,19 @@ fn no_instruction(fault: u32) -> NcInstruction
     }
 }
 
-/// The instruction with which the bytes begin, or why there is none: 4 if no permitted instruction begins like them, 10 if they
-/// are a proper prefix of a permitted instruction's bytes, as no bytes at all are.
+/// The instruction with which the bytes begin, or why there is none: `NOT_PERMITTED` if no permitted instruction begins like them,
+/// `CUT_SHORT` if they are a proper prefix of a permitted instruction's bytes, as no bytes at all are.
 ///
 /// It says nothing about addresses: bundles, pairs and targets are judged by `nc_host_vet`. It takes no memory.
 #[unsafe(no_mangle)]
 pub extern "C" fn nc_host_decode(code: &[u8]) -> NcInstruction
     // The bytes begin with a whole instruction, and the result describes it.
     ensures found { (i : Instr) → (result ≡ instruction_of i) ↔ IsAtFront code.now i }
-    ensures cut_short { (result ≡ no_instruction 10) ↔ IsProperFront code.now }
-    ensures not_permitted { (result ≡ no_instruction 4)
+    ensures cut_short { (result ≡ no_instruction CUT_SHORT) ↔ IsProperFront code.now }
+    ensures not_permitted { (result ≡ no_instruction NOT_PERMITTED)
         ↔ (((i : Instr) → ¬ IsAtFront code.now i) × ¬ IsProperFront code.now) }
     // The result is one of the three.
-    ensures faults { (result.fault ≡ 0) ⊎ ((result ≡ no_instruction 10) ⊎ (result ≡ no_instruction 4)) }
+    ensures faults { (result.fault ≡ 0) ⊎ ((result ≡ no_instruction CUT_SHORT) ⊎ (result ≡ no_instruction NOT_PERMITTED)) }
 {
     match decode(code) {
         Ok(instr) => instruction_of(instr),

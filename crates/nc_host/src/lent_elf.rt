@@ -8,7 +8,12 @@ ghost use Rattle.nc_elf.specs.Segments.{IsLoadable, IsLoadedBelow, IsWellFormed,
 ghost use Rattle.nc_host_acts.specs.Shown.{over};
 ghost use Rattle.nc_host.specs.Files.{elf_header, elf_number, refused_file, segment_number};
 
-use crate::lent_answers::{NO_MEMORY, NO_ROOM, NcSegments};
+use crate::fault_numbers::{
+    ELF_64_BITS, ELF_BAD_TABLE, ELF_BEYOND_FILE, ELF_BEYOND_MEMORY, ELF_NO_CODE, ELF_NOT_ELF,
+    ELF_OTHER_FORMAT, ELF_OTHER_MACHINE, ELF_OTHER_TYPE, ELF_OUT_OF_ORDER, ELF_SHORT_HEADER,
+    ELF_UNFILLED_CODE, ELF_UNLINKED, ELF_WRAPS, ELF_WRITABLE_CODE, NO_ROOM, OUT_OF_MEMORY,
+};
+use crate::lent_answers::NcSegments;
 use nc_elf::{ElfFault, LoadedFault, NcSegment, SegmentFault, loaded_segments};
 
 /// The number of the fault of a loaded segment.
@@ -16,12 +21,12 @@ fn segment_number(fault: SegmentFault) -> u32
     ensures { result ≡ segment_number fault }
 {
     match fault {
-        SegmentFault::BeyondFile => 56,
-        SegmentFault::BeyondMemory => 57,
-        SegmentFault::Wraps => 58,
-        SegmentFault::OutOfOrder => 59,
-        SegmentFault::WritableCode => 60,
-        SegmentFault::UnfilledCode => 61,
+        SegmentFault::BeyondFile => ELF_BEYOND_FILE,
+        SegmentFault::BeyondMemory => ELF_BEYOND_MEMORY,
+        SegmentFault::Wraps => ELF_WRAPS,
+        SegmentFault::OutOfOrder => ELF_OUT_OF_ORDER,
+        SegmentFault::WritableCode => ELF_WRITABLE_CODE,
+        SegmentFault::UnfilledCode => ELF_UNFILLED_CODE,
     }
 }
 
@@ -30,17 +35,17 @@ fn elf_number(fault: ElfFault) -> u32
     ensures { result ≡ elf_number fault }
 {
     match fault {
-        ElfFault::NotElf => 48,
-        ElfFault::ShortHeader => 49,
-        ElfFault::Elf64 => 50,
-        ElfFault::OtherFormat => 51,
-        ElfFault::OtherMachine => 52,
-        ElfFault::Unlinked => 53,
-        ElfFault::OtherType => 54,
-        ElfFault::BadTable => 55,
+        ElfFault::NotElf => ELF_NOT_ELF,
+        ElfFault::ShortHeader => ELF_SHORT_HEADER,
+        ElfFault::Elf64 => ELF_64_BITS,
+        ElfFault::OtherFormat => ELF_OTHER_FORMAT,
+        ElfFault::OtherMachine => ELF_OTHER_MACHINE,
+        ElfFault::Unlinked => ELF_UNLINKED,
+        ElfFault::OtherType => ELF_OTHER_TYPE,
+        ElfFault::BadTable => ELF_BAD_TABLE,
         ElfFault::BadSegment { number: _, fault } => segment_number(fault),
-        ElfFault::NoCode => 62,
-        ElfFault::OutOfMemory => NO_MEMORY,
+        ElfFault::NoCode => ELF_NO_CODE,
+        ElfFault::OutOfMemory => OUT_OF_MEMORY,
     }
 }
 

@@ -5,6 +5,7 @@ ghost use Rattle.nc_decode.specs.declared.instruction.Mark.{Mark};
 ghost use Rattle.nc_text.specs.Machine.{IsConfined};
 ghost use Rattle.nc_text.specs.MarkedText.{unused_text, with_chunk, with_span};
 ghost use Rattle.nc_text.specs.Places.{limit_of};
+ghost use Rattle.nc_host.specs.declared.fault_numbers.TheConstants.{OUT_OF_MEMORY};
 ghost use Rattle.nc_host.specs.Outcomes.{IsAccepted, IsChunkFault, IsOutcome};
 
 use crate::lent_answers::NcVerdict;
@@ -65,7 +66,7 @@ pub extern "C" fn nc_host_image(
     ensures untouched { 0 < result.fault → image.new ≡ image.old }
     // A valid chunk is refused only for lack of memory.
     ensures valid { (marks : List Mark) → IsAccepted base (limit_of image.old) code.now marks
-        → (result.fault ≡ 0) ⊎ (result.fault ≡ 8) }
+        → (result.fault ≡ 0) ⊎ (result.fault ≡ OUT_OF_MEMORY) }
 {
     if let Err(verdict) = judge_in(alloc, base, code, image.len()) {
         return verdict;

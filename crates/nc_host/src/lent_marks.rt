@@ -5,6 +5,7 @@ ghost use Rattle.nc_decode.specs.declared.instruction.Mark.{Mark};
 ghost use Rattle.nc_text.specs.MarkedText.{NamesRegister};
 ghost use Rattle.nc_vet.specs.Listed.{listed};
 ghost use Rattle.nc_host_acts.specs.Shown.{over};
+ghost use Rattle.nc_host.specs.declared.fault_numbers.TheConstants.{NO_ROOM, OUT_OF_MEMORY};
 ghost use Rattle.nc_host.specs.Shown.{mark_number};
 ghost use Rattle.nc_host.specs.Outcomes.{IsAccepted, IsOutcome};
 
@@ -41,7 +42,7 @@ fn write_marks(buffer: &mut [u8], code: &[u8], marks: &Marks)
 /// Vets a chunk in place, and writes its marks, one byte for each of its bytes. A mark is 0 if control is never there, 1 at the start
 /// of an instruction, and 16 plus the number of the register at an indirect transfer, which directly follows its mask.
 ///
-/// If the buffer is shorter than the code of a valid chunk, the fault is 9. A refusal leaves the buffer as it was.
+/// If the buffer is shorter than the code of a valid chunk, the fault is `NO_ROOM`. A refusal leaves the buffer as it was.
 #[unsafe(no_mangle)]
 pub extern "C" fn nc_host_marks(
     alloc: Global,
@@ -57,7 +58,7 @@ pub extern "C" fn nc_host_marks(
     ensures untouched { 0 < result.fault → marks.new ≡ marks.old }
     // A valid chunk is refused only for lack of memory, or of room.
     ensures valid { (m : List Mark) → IsAccepted base limit code.now m
-        → (result.fault ≡ 0) ⊎ ((result.fault ≡ 8) ⊎ (result.fault ≡ 9)) }
+        → (result.fault ≡ 0) ⊎ ((result.fault ≡ OUT_OF_MEMORY) ⊎ (result.fault ≡ NO_ROOM)) }
 {
     match admit(alloc, base, limit, code, code.len(), marks.len()) {
         Ok(own) => {

@@ -3,10 +3,15 @@
 ghost use Rattle.std.specs.Prelude.{◌≡◌, ◌<◌, ◌≤◌, ◌⊎◌, List, IfOk, IfErr};
 ghost use Rattle.nc_decode.specs.declared.instruction.Mark.{Mark};
 ghost use Rattle.nc_vet.specs.Listed.{listed};
+ghost use Rattle.nc_host.specs.declared.fault_numbers.TheConstants.{NO_ROOM, OUT_OF_MEMORY};
 ghost use Rattle.nc_host.specs.Shown.{fault_number, fault_place};
 ghost use Rattle.nc_host.specs.Outcomes.{IsAccepted, IsOutcome};
 
-use crate::lent_answers::{NO_ROOM, NcVerdict};
+use crate::fault_numbers::{
+    BAD_BASE, BAD_LENGTH, BAD_TARGET, BARE, CROSSES, NO_ROOM, NOT_PERMITTED, OUT_OF_MEMORY,
+    OUT_OF_RANGE,
+};
+use crate::lent_answers::NcVerdict;
 use nc_vet::{Marks, VetFault, judge};
 use std::alloc::Global;
 
@@ -15,14 +20,14 @@ pub(crate) fn verdict_of(fault: VetFault) -> NcVerdict
     ensures { result ≡ record { fault = fault_number fault; at = fault_place fault } }
 {
     let (fault, at) = match fault {
-        VetFault::BadBase => (1, 0),
-        VetFault::BadLength => (2, 0),
-        VetFault::OutOfRange => (3, 0),
-        VetFault::NotPermitted { at } => (4, at),
-        VetFault::Crosses { at } => (5, at),
-        VetFault::Bare { at } => (6, at),
-        VetFault::BadTarget { at } => (7, at),
-        VetFault::OutOfMemory => (8, 0),
+        VetFault::BadBase => (BAD_BASE, 0),
+        VetFault::BadLength => (BAD_LENGTH, 0),
+        VetFault::OutOfRange => (OUT_OF_RANGE, 0),
+        VetFault::NotPermitted { at } => (NOT_PERMITTED, at),
+        VetFault::Crosses { at } => (CROSSES, at),
+        VetFault::Bare { at } => (BARE, at),
+        VetFault::BadTarget { at } => (BAD_TARGET, at),
+        VetFault::OutOfMemory => (OUT_OF_MEMORY, 0),
     };
     NcVerdict { fault, at }
 }
@@ -39,7 +44,7 @@ pub(crate) fn admit(
     ensures valid { IfOk result (λ marks. IsAccepted base limit code.now (listed code.now marks) × (wanted ≤ room)) }
     ensures fault { IfErr result (λ v. (0 < v.fault) × IsOutcome base limit code.now wanted room v.fault v.at) }
     ensures exact { (marks : List Mark) → IsAccepted base limit code.now marks
-        → IfErr result (λ v. (v.fault ≡ 8) ⊎ ((v.fault ≡ 9) × (room < wanted))) }
+        → IfErr result (λ v. (v.fault ≡ OUT_OF_MEMORY) ⊎ ((v.fault ≡ NO_ROOM) × (room < wanted))) }
 {
     match judge(alloc, base, limit, code) {
         Ok(marks) if wanted <= room => Ok(marks),
@@ -59,7 +64,7 @@ pub extern "C" fn nc_host_vet(alloc: Global, base: u32, limit: u32, code: &[u8])
     ensures outcome { IsOutcome base limit code.now 0 0 result.fault result.at }
     // A valid chunk is refused only for lack of memory.
     ensures valid { (marks : List Mark) → IsAccepted base limit code.now marks
-        → (result.fault ≡ 0) ⊎ (result.fault ≡ 8) }
+        → (result.fault ≡ 0) ⊎ (result.fault ≡ OUT_OF_MEMORY) }
 {
     match admit(alloc, base, limit, code, 0, 0) {
         Ok(_marks) => NcVerdict { fault: 0, at: 0 },

@@ -29,10 +29,11 @@
 //!
 //! A file whose name begins with `lent` has a call on lent bytes, and one that begins with `region` has calls on a region. `vetted` has
 //! those on a handle of a vetted chunk, `seat` those on a seat, and `version` has [`nc_host_version`]. `lent_answers` and
-//! `region_answers` have the structs that calls return, and `numbers` the numbers of refusals. `vet_copy` is no call: it makes the copy
-//! that a creation and a handle keep.
+//! `region_answers` have the structs that calls return, `fault_numbers` the numbers of faults, and `numbers` those of refusals. `vet_copy`
+//! is no call: it makes the copy that a creation and a handle keep.
 #![tactic(auto)]
 
+mod fault_numbers;
 mod lent_answers;
 mod lent_decode;
 mod lent_elf;

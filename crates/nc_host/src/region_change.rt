@@ -10,10 +10,12 @@ ghost use Rattle.nc_host_handles.specs.Pending.{ReportsPending};
 ghost use Rattle.nc_host_handles.specs.Lent.{IsReported};
 ghost use Rattle.nc_host_handles.specs.declared.fault.LoadFault.{LoadFault};
 ghost use Rattle.nc_host_handles.specs.declared.fault.PatchFault.{PatchFault};
+ghost use Rattle.nc_host.specs.declared.fault_numbers.TheConstants.{NO_HANDLE, OUT_OF_MEMORY};
 ghost use Rattle.nc_host.specs.Handles.{IsChunkFor, IsDone, IsNumberedRefusal, IsSameButPages, load_number, load_wanted, patch_number, patch_wanted};
 ghost use Rattle.nc_host.specs.Outcomes.{IsChunkFault};
 
-use crate::numbers::{NOTHING, load_numbers, patch_numbers};
+use crate::fault_numbers::NO_HANDLE;
+use crate::numbers::{load_numbers, patch_numbers};
 use crate::region_answers::{NcChange, no_change};
 use crate::vet_copy::vet_copy;
 use nc_host_handles::{NcAct, NcRegion, RegionHandle};
@@ -27,7 +29,7 @@ pub(crate) fn load(handle: &mut RegionHandle, vetted: Vetted, acts: &mut [NcAct]
     ensures pending { result.fault ≡ 0 → ReportsPending handle.old handle.new vetted acts.old acts.new result.count }
     ensures untouched { 0 < result.fault → acts.new ≡ acts.old }
     ensures unchanged { 0 < result.fault → (handle.new ≡ handle.old)
-        ⊎ ((result.fault ≡ 8) × IsSameButPages vetted.base (length vetted.code) handle.old handle.new) }
+        ⊎ ((result.fault ≡ OUT_OF_MEMORY) × IsSameButPages vetted.base (length vetted.code) handle.old handle.new) }
     ensures at { result.at ≡ 0 }
     ensures refused { 0 < result.fault → (f : LoadFault) × MayRefuseLoad handle.old vetted (length acts.old) f
         × (result.fault ≡ load_number f) × (result.count ≡ load_wanted f) }
@@ -55,7 +57,7 @@ fn vet_and_load(
         × ReportsPending handle.old handle.new v acts.old acts.new result.count }
     ensures untouched { 0 < result.fault → acts.new ≡ acts.old }
     ensures unchanged { 0 < result.fault → (handle.new ≡ handle.old)
-        ⊎ ((result.fault ≡ 8) × IsSameButPages base (length code.now) handle.old handle.new) }
+        ⊎ ((result.fault ≡ OUT_OF_MEMORY) × IsSameButPages base (length code.now) handle.old handle.new) }
     ensures at { result.fault ≡ 0 → result.at ≡ 0 }
     ensures refused { 0 < result.fault → ((result.count ≡ 0)
         × IsChunkFault base (limit_of handle.old.region.marked.bytes) code.now result.fault result.at)
@@ -94,17 +96,17 @@ pub extern "C" fn nc_region_create(
         × (v.code ≡ code.now) × ReportsPending old new v acts.old acts.new result.count) }
     ensures untouched { 0 < result.fault → acts.new ≡ acts.old }
     ensures unchanged { 0 < result.fault → (region.new.value ≡ region.old.value)
-        ⊎ ((result.fault ≡ 8) × IsDone region.old.value region.new.value (IsSameButPages base (length code.now))) }
+        ⊎ ((result.fault ≡ OUT_OF_MEMORY) × IsDone region.old.value region.new.value (IsSameButPages base (length code.now))) }
     ensures at { result.fault ≡ 0 → result.at ≡ 0 }
     // Each refusal is returned when it is due: there is no region, the chunk has a fault, or the region refuses it.
-    ensures refused { 0 < result.fault → ((region.old.value ≡ None) × (result ≡ record { fault = 32; at = 0; count = 0 }))
+    ensures refused { 0 < result.fault → ((region.old.value ≡ None) × (result ≡ record { fault = NO_HANDLE; at = 0; count = 0 }))
         ⊎ ((h : RegionHandleState) × (region.old.value ≡ Some h) × (
         ((result.count ≡ 0) × IsChunkFault base (limit_of h.region.marked.bytes) code.now result.fault result.at)
         ⊎ ((result.at ≡ 0) × ((v : MarkedChunk) × IsChunkFor h base code.now v
         × ((f : LoadFault) × MayRefuseLoad h v (length acts.old) f × (result.fault ≡ load_number f) × (result.count ≡ load_wanted f)))))) }
 {
     let Some(mut handle) = region.take(alloc) else {
-        return no_change(NOTHING, 0);
+        return no_change(NO_HANDLE, 0);
     };
     let change = vet_and_load(alloc, &mut handle, base, code, acts);
     *region = NcRegion::of(handle);
@@ -166,7 +168,7 @@ pub extern "C" fn nc_region_patch(
         patch_number patch_wanted result.fault result.count }
 {
     let Some(mut handle) = region.take(alloc) else {
-        return no_change(NOTHING, 0);
+        return no_change(NO_HANDLE, 0);
     };
     let change = patch(&mut handle, at, bytes, acts);
     *region = NcRegion::of(handle);

@@ -8,9 +8,11 @@ ghost use Rattle.nc_host_handles.specs.RegionHandle.{RegionHandleState, HasBegun
 ghost use Rattle.nc_host_handles.specs.Pending.{ReportsPending, DoesItself};
 ghost use Rattle.nc_host_handles.specs.Lent.{IsReported};
 ghost use Rattle.nc_host_handles.specs.declared.fault.RetireFault.{RetireFault};
+ghost use Rattle.nc_host.specs.declared.fault_numbers.TheConstants.{NOT_BEGUN, NO_HANDLE, UNDER_WAY};
 ghost use Rattle.nc_host.specs.Handles.{IsDone, IsNumberedRefusal, retire_number, retire_wanted};
 
-use crate::numbers::{NOT_BEGUN, NOTHING, UNDERWAY, retire_numbers};
+use crate::fault_numbers::{NO_HANDLE, NOT_BEGUN, UNDER_WAY};
+use crate::numbers::retire_numbers;
 use crate::region_answers::{NcChange, NcCount, NcStamp, no_change};
 use nc_host_handles::{NcAct, NcRegion, RegionHandle};
 use std::alloc::Global;
@@ -61,7 +63,7 @@ pub extern "C" fn nc_region_begin_delete(
         retire_number retire_wanted result.fault result.count }
 {
     let Some(mut handle) = region.take(alloc) else {
-        return no_change(NOTHING, 0);
+        return no_change(NO_HANDLE, 0);
     };
     let change = begin(&mut handle, base, acts);
     *region = NcRegion::of(handle);
@@ -76,13 +78,13 @@ pub extern "C" fn nc_region_end_delete(alloc: Global, region: &mut NcRegion) -> 
     // Only the stamp is pending, which the library has drawn itself.
     ensures pending { (seats : ℕ) → result.fault ≡ 0 → IsDone region.old.value region.new.value (DoesItself seats) }
     ensures unchanged { 0 < result.fault → (result.stamp ≡ 0) × (region.new.value ≡ region.old.value) }
-    ensures refused { 0 < result.fault → ((result.fault ≡ 32) × (region.old.value ≡ None))
-        ⊎ ((result.fault ≡ 38) × ((h : RegionHandleState) × (region.old.value ≡ Some h) × (h.begun ≡ None))) }
+    ensures refused { 0 < result.fault → ((result.fault ≡ NO_HANDLE) × (region.old.value ≡ None))
+        ⊎ ((result.fault ≡ NOT_BEGUN) × ((h : RegionHandleState) × (region.old.value ≡ Some h) × (h.begun ≡ None))) }
 {
     let Some(mut handle) = region.take(alloc) else {
         return NcStamp {
             stamp: 0,
-            fault: NOTHING,
+            fault: NO_HANDLE,
         };
     };
     let ended = handle.end_delete();
@@ -105,12 +107,12 @@ pub extern "C" fn nc_region_reclaim(alloc: Global, region: &mut NcRegion) -> NcC
     ensures pending { (seats : ℕ) → result.fault ≡ 0 → IsDone region.old.value region.new.value
         (λ old new. (met : RegionHandleState) × DoesItself seats old met × DoesItself seats met new) }
     ensures unchanged { 0 < result.fault → (result.count ≡ 0) × (region.new.value ≡ region.old.value) }
-    ensures refused { 0 < result.fault → ((result.fault ≡ 32) × (region.old.value ≡ None))
-        ⊎ ((result.fault ≡ 37) × ((h : RegionHandleState) × (region.old.value ≡ Some h) × IsSome h.begun)) }
+    ensures refused { 0 < result.fault → ((result.fault ≡ NO_HANDLE) × (region.old.value ≡ None))
+        ⊎ ((result.fault ≡ UNDER_WAY) × ((h : RegionHandleState) × (region.old.value ≡ Some h) × IsSome h.begun)) }
 {
     let Some(mut handle) = region.take(alloc) else {
         return NcCount {
-            fault: NOTHING,
+            fault: NO_HANDLE,
             count: 0,
         };
     };
@@ -119,7 +121,7 @@ pub extern "C" fn nc_region_reclaim(alloc: Global, region: &mut NcRegion) -> NcC
     match freed {
         Some(count) => NcCount { fault: 0, count },
         None => NcCount {
-            fault: UNDERWAY,
+            fault: UNDER_WAY,
             count: 0,
         },
     }

@@ -6,10 +6,11 @@ ghost use Rattle.nc_vet.specs.Faults.{HasGoodSpan};
 ghost use Rattle.nc_list.specs.declared.chunk.Chunk.{Chunk};
 ghost use Rattle.nc_region.specs.Region.{IsAboveAll, IsNextChunk};
 ghost use Rattle.nc_host_handles.specs.RegionHandle.{RegionHandleState};
+ghost use Rattle.nc_host.specs.declared.fault_numbers.TheConstants.{NO_CHUNK, NO_HANDLE, NO_PLACE};
 ghost use Rattle.nc_host.specs.Shown.{mark_number};
 ghost use Rattle.nc_host.specs.Looks.{shown_chunk, no_chunk, shown_place, no_place};
 
-use crate::numbers::{NO_CHUNK, NO_PLACE, NOTHING};
+use crate::fault_numbers::{NO_CHUNK, NO_HANDLE, NO_PLACE};
 use crate::region_answers::{NcChunk, NcPlace, NcStamp, no_chunk, no_place};
 use nc_decode::Mark;
 use nc_host_handles::{NcRegion, RegionHandle};
@@ -39,11 +40,11 @@ pub extern "C" fn nc_region_chunk(alloc: Global, region: &mut NcRegion, index: u
     ensures same { region.new.value ≡ region.old.value }
     ensures chunk { result.fault ≡ 0 → (h : RegionHandleState) × (region.old.value ≡ Some h)
         × ((c : Chunk) × (slice_get h.region.chunks index ≡ Some c) × (result ≡ shown_chunk c)) }
-    ensures refused { 0 < result.fault → ((result ≡ no_chunk 32) × (region.old.value ≡ None))
-        ⊎ ((result ≡ no_chunk 41) × ((h : RegionHandleState) × (region.old.value ≡ Some h) × (slice_get h.region.chunks index ≡ None))) }
+    ensures refused { 0 < result.fault → ((result ≡ no_chunk NO_HANDLE) × (region.old.value ≡ None))
+        ⊎ ((result ≡ no_chunk NO_CHUNK) × ((h : RegionHandleState) × (region.old.value ≡ Some h) × (slice_get h.region.chunks index ≡ None))) }
 {
     let Some(handle) = region.take(alloc) else {
-        return no_chunk(NOTHING);
+        return no_chunk(NO_HANDLE);
     };
     let chunk = handle.chunk(index);
     *region = NcRegion::of(handle);
@@ -62,11 +63,11 @@ pub extern "C" fn nc_region_chunk_at(alloc: Global, region: &mut NcRegion, at: u
         × ((c : Chunk) × IsNextChunk h.region.chunks at c × (result ≡ shown_chunk c)) }
     ensures placed { result.fault ≡ 0 → (h : RegionHandleState) × (region.old.value ≡ Some h)
         × HasGoodSpan result.base (limit_of h.region.marked.bytes) result.length }
-    ensures refused { 0 < result.fault → ((result ≡ no_chunk 32) × (region.old.value ≡ None))
-        ⊎ ((result ≡ no_chunk 41) × ((h : RegionHandleState) × (region.old.value ≡ Some h) × IsAboveAll at h.region.chunks)) }
+    ensures refused { 0 < result.fault → ((result ≡ no_chunk NO_HANDLE) × (region.old.value ≡ None))
+        ⊎ ((result ≡ no_chunk NO_CHUNK) × ((h : RegionHandleState) × (region.old.value ≡ Some h) × IsAboveAll at h.region.chunks)) }
 {
     let Some(handle) = region.take(alloc) else {
-        return no_chunk(NOTHING);
+        return no_chunk(NO_HANDLE);
     };
     let chunk = handle.chunk_at(at);
     *region = NcRegion::of(handle);
@@ -90,7 +91,7 @@ fn mark_number(mark: Mark) -> u32
 /// The byte and the mark at a place, if it is in the region.
 fn look_at(handle: &RegionHandle, at: u32) -> NcPlace
     ensures { ((result ≡ shown_place handle.now.region at) × InRegion handle.now.region.marked.bytes at)
-        ⊎ ((result ≡ no_place 43) × ¬ InRegion handle.now.region.marked.bytes at) }
+        ⊎ ((result ≡ no_place NO_PLACE) × ¬ InRegion handle.now.region.marked.bytes at) }
 {
     match (handle.byte(at), handle.mark(at)) {
         (Some(byte), Some(mark)) => NcPlace {
@@ -108,11 +109,11 @@ pub extern "C" fn nc_region_place(alloc: Global, region: &mut NcRegion, at: u32)
     ensures same { region.new.value ≡ region.old.value }
     ensures place { result.fault ≡ 0 → (h : RegionHandleState) × (region.old.value ≡ Some h)
         × (result ≡ shown_place h.region at) × InRegion h.region.marked.bytes at }
-    ensures refused { 0 < result.fault → ((result ≡ no_place 32) × (region.old.value ≡ None))
-        ⊎ ((result ≡ no_place 43) × ((h : RegionHandleState) × (region.old.value ≡ Some h) × ¬ InRegion h.region.marked.bytes at)) }
+    ensures refused { 0 < result.fault → ((result ≡ no_place NO_HANDLE) × (region.old.value ≡ None))
+        ⊎ ((result ≡ no_place NO_PLACE) × ((h : RegionHandleState) × (region.old.value ≡ Some h) × ¬ InRegion h.region.marked.bytes at)) }
 {
     let Some(handle) = region.take(alloc) else {
-        return no_place(NOTHING);
+        return no_place(NO_HANDLE);
     };
     let place = look_at(&handle, at);
     *region = NcRegion::of(handle);
@@ -125,12 +126,12 @@ pub extern "C" fn nc_region_generation(alloc: Global, region: &mut NcRegion) -> 
     ensures same { region.new.value ≡ region.old.value }
     ensures generation { result.fault ≡ 0 → (h : RegionHandleState) × (region.old.value ≡ Some h)
         × (result.stamp ≡ h.region.keeper.numbers.generation) }
-    ensures refused { 0 < result.fault → (result ≡ record { stamp = 0; fault = 32 }) × (region.old.value ≡ None) }
+    ensures refused { 0 < result.fault → (result ≡ record { stamp = 0; fault = NO_HANDLE }) × (region.old.value ≡ None) }
 {
     let Some(handle) = region.take(alloc) else {
         return NcStamp {
             stamp: 0,
-            fault: NOTHING,
+            fault: NO_HANDLE,
         };
     };
     let stamp = handle.generation();

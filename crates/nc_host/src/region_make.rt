@@ -5,9 +5,11 @@ ghost use Rattle.nc_gens.specs.Seen.{PassState};
 ghost use Rattle.nc_host_handles.specs.RegionHandle.{RegionHandleState, IsFirst, MayRefuseNew, MayRefuseSeat, HasGiven};
 ghost use Rattle.nc_host_handles.specs.declared.fault.NewFault.{NewFault};
 ghost use Rattle.nc_host_handles.specs.declared.fault.SeatFault.{SeatFault};
+ghost use Rattle.nc_host.specs.declared.fault_numbers.TheConstants.{HANDLE_TAKEN, NO_HANDLE};
 ghost use Rattle.nc_host.specs.Handles.{IsDone, new_number, seat_number};
 
-use crate::numbers::{NOTHING, TAKEN, new_number, seat_number};
+use crate::fault_numbers::{HANDLE_TAKEN, NO_HANDLE};
+use crate::numbers::{new_number, seat_number};
 use nc_host_handles::{NcRegion, NcSeat, NewFault, RegionHandle};
 use std::alloc::Global;
 
@@ -37,12 +39,12 @@ pub extern "C" fn nc_region_new(
     ensures made { result ≡ 0 → (region.old.value ≡ None) × ((h : RegionHandleState) × (region.new.value ≡ Some h) × IsFirst bundles seats h) }
     ensures unchanged { 0 < result → region.new.value ≡ region.old.value }
     // A handle that isn't empty is refused; else each refusal is returned when it is due.
-    ensures refused { 0 < result → ((result ≡ 33) × ((h : RegionHandleState) × (region.old.value ≡ Some h)))
+    ensures refused { 0 < result → ((result ≡ HANDLE_TAKEN) × ((h : RegionHandleState) × (region.old.value ≡ Some h)))
         ⊎ ((region.old.value ≡ None) × ((f : NewFault) × MayRefuseNew bundles seats f × (result ≡ new_number f))) }
 {
     if let Some(kept) = region.take(alloc) {
         *region = NcRegion::of(kept);
-        return TAKEN;
+        return HANDLE_TAKEN;
     }
     match make(alloc, bundles, seats) {
         Ok(boxed) => {
@@ -69,17 +71,17 @@ pub extern "C" fn nc_region_seat(alloc: Global, region: &mut NcRegion, seat: &mu
     ensures unchanged { 0 < result → (region.new.value ≡ region.old.value) × (seat.new.value ≡ seat.old.value) }
     // A seat's handle that isn't empty is refused; else an empty region's handle is; else no seat is left, or there is no memory
     // for one.
-    ensures refused { 0 < result → ((result ≡ 33) × ((pass : PassState) × (seat.old.value ≡ Some pass)))
-        ⊎ ((seat.old.value ≡ None) × (((result ≡ 32) × (region.old.value ≡ None))
+    ensures refused { 0 < result → ((result ≡ HANDLE_TAKEN) × ((pass : PassState) × (seat.old.value ≡ Some pass)))
+        ⊎ ((seat.old.value ≡ None) × (((result ≡ NO_HANDLE) × (region.old.value ≡ None))
         ⊎ ((h : RegionHandleState) × (region.old.value ≡ Some h)
         × ((f : SeatFault) × MayRefuseSeat h f × (result ≡ seat_number f))))) }
 {
     if let Some(kept) = seat.take(alloc) {
         *seat = NcSeat::of(kept);
-        return TAKEN;
+        return HANDLE_TAKEN;
     }
     let Some(mut handle) = region.take(alloc) else {
-        return NOTHING;
+        return NO_HANDLE;
     };
     let given = handle.seat(alloc);
     *region = NcRegion::of(handle);

@@ -4,11 +4,11 @@ ghost use Rattle.std.specs.Prelude.{◌≡◌, ◌<◌, Some, IfOk, IfErr, lengt
 ghost use Rattle.nc_list.specs.declared.chunk.Chunk.{Chunk};
 ghost use Rattle.nc_host_handles.specs.RegionHandle.{RegionHandleState, IsLiveAt};
 ghost use Rattle.nc_host_handles.specs.RunCalls.{AreCreationRuns, AreDeletionRuns, MayRefuseCreationRuns, MayRefuseDeletionRuns};
+ghost use Rattle.nc_host.specs.declared.fault_numbers.TheConstants.{NOT_BEGUN, NO_CHUNK};
 ghost use Rattle.nc_host.specs.Handles.{IsNumberedRefusal};
 ghost use Rattle.nc_host.specs.Running.{runs_number, runs_wanted};
 
-use crate::lent_answers::NO_ROOM;
-use crate::numbers::{NO_CHUNK, NOT_BEGUN, NOTHING};
+use crate::fault_numbers::{NO_CHUNK, NO_HANDLE, NO_ROOM, NOT_BEGUN};
 use crate::region_answers::{NcChange, no_change};
 use nc_host_handles::{NcAct, NcRegion, RunsFault};
 use std::alloc::Global;
@@ -41,10 +41,10 @@ pub extern "C" fn nc_region_creation_runs(
     ensures at { result.at ≡ 0 }
     // Each refusal is returned exactly when it is due.
     ensures refused { 0 < result.fault → IsNumberedRefusal region.old.value (λ h f. MayRefuseCreationRuns h base (length acts.old) f)
-        (runs_number 41) runs_wanted result.fault result.count }
+        (runs_number NO_CHUNK) runs_wanted result.fault result.count }
 {
     let Some(handle) = region.take(alloc) else {
-        return no_change(NOTHING, 0);
+        return no_change(NO_HANDLE, 0);
     };
     let reported = handle.creation_runs(base, acts);
     *region = NcRegion::of(handle);
@@ -66,10 +66,10 @@ pub extern "C" fn nc_region_deletion_runs(
     ensures at { result.at ≡ 0 }
     // Each refusal is returned exactly when it is due.
     ensures refused { 0 < result.fault → IsNumberedRefusal region.old.value (λ h f. MayRefuseDeletionRuns h (length acts.old) f)
-        (runs_number 38) runs_wanted result.fault result.count }
+        (runs_number NOT_BEGUN) runs_wanted result.fault result.count }
 {
     let Some(handle) = region.take(alloc) else {
-        return no_change(NOTHING, 0);
+        return no_change(NO_HANDLE, 0);
     };
     let reported = handle.deletion_runs(acts);
     *region = NcRegion::of(handle);

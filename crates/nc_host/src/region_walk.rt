@@ -3,10 +3,10 @@
 ghost use Rattle.std.specs.Prelude.{◌≡◌, ◌<◌, ◌≤◌, ◌⊎◌, None, Some, length};
 ghost use Rattle.nc_host_acts.specs.Shown.{over};
 ghost use Rattle.nc_host_handles.specs.RegionHandle.{RegionHandleState};
+ghost use Rattle.nc_host.specs.declared.fault_numbers.TheConstants.{NO_HANDLE};
 ghost use Rattle.nc_host.specs.Walked.{end_number, no_walk, IsShownWalk, MayRefuseShownWalk};
 
-use crate::lent_answers::{NO_MEMORY, NO_ROOM};
-use crate::numbers::{NO_START, NOTHING};
+use crate::fault_numbers::{NO_HANDLE, NO_ROOM, NO_START, OUT_OF_MEMORY};
 use crate::region_answers::{NcWalk, no_walk};
 use nc_host_handles::{NcRegion, RegionHandle};
 use nc_region::{End, WalkFault};
@@ -43,7 +43,7 @@ fn walk_into(handle: &RegionHandle, start: u32, choices: &[u32], places: &mut [u
     let trace = match handle.walk(start, choices) {
         Ok(trace) => trace,
         Err(WalkFault::NotBundle) => return no_walk(NO_START),
-        Err(WalkFault::OutOfMemory) => return no_walk(NO_MEMORY),
+        Err(WalkFault::OutOfMemory) => return no_walk(OUT_OF_MEMORY),
     };
     let count = trace.places.len();
     if count > places.len() {
@@ -74,12 +74,12 @@ pub extern "C" fn nc_region_walk(
     ensures same { region.new.value ≡ region.old.value }
     ensures reported { result.fault ≡ 0 → (h : RegionHandleState) × (region.old.value ≡ Some h)
         × IsShownWalk h.region.marked.bytes start choices.now result places.old places.new }
-    ensures refused { 0 < result.fault → (places.new ≡ places.old) × (((result ≡ no_walk 32) × (region.old.value ≡ None))
+    ensures refused { 0 < result.fault → (places.new ≡ places.old) × (((result ≡ no_walk NO_HANDLE) × (region.old.value ≡ None))
         ⊎ ((h : RegionHandleState) × (region.old.value ≡ Some h)
         × MayRefuseShownWalk h.region.marked.bytes start choices.now (length places.old) result)) }
 {
     let Some(handle) = region.take(alloc) else {
-        return no_walk(NOTHING);
+        return no_walk(NO_HANDLE);
     };
     let reported = walk_into(&handle, start, choices, places);
     *region = NcRegion::of(handle);

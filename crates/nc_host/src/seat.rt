@@ -2,9 +2,10 @@
 
 ghost use Rattle.std.specs.Prelude.{◌≡◌, ◌<◌, None};
 ghost use Rattle.nc_gens.specs.Seen.{HasCheckedIn};
+ghost use Rattle.nc_host.specs.declared.fault_numbers.TheConstants.{NO_HANDLE};
 ghost use Rattle.nc_host.specs.Handles.{IsDone};
 
-use crate::numbers::NOTHING;
+use crate::fault_numbers::NO_HANDLE;
 use nc_host_handles::NcSeat;
 use std::alloc::Global;
 
@@ -12,10 +13,10 @@ use std::alloc::Global;
 #[unsafe(no_mangle)]
 pub extern "C" fn nc_seat_check_in(alloc: Global, seat: &mut NcSeat) -> u32
     ensures checked_in { result ≡ 0 → IsDone seat.old.value seat.new.value HasCheckedIn }
-    ensures nothing { 0 < result → (result ≡ 32) × (seat.old.value ≡ None) × (seat.new.value ≡ None) }
+    ensures nothing { 0 < result → (result ≡ NO_HANDLE) × (seat.old.value ≡ None) × (seat.new.value ≡ None) }
 {
     let Some(mut handle) = seat.take(alloc) else {
-        return NOTHING;
+        return NO_HANDLE;
     };
     handle.check_in();
     *seat = NcSeat::of(handle);

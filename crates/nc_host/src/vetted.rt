@@ -8,12 +8,14 @@ ghost use Rattle.nc_host_handles.specs.Pending.{ReportsPending};
 ghost use Rattle.nc_host_handles.specs.Lent.{IsReported};
 ghost use Rattle.nc_host_handles.specs.declared.fault.LoadFault.{LoadFault};
 ghost use Rattle.nc_host_handles.specs.declared.vetted_handle.VettedHandle.{VettedHandle};
+ghost use Rattle.nc_host.specs.declared.fault_numbers.TheConstants.{HANDLE_TAKEN, NO_HANDLE, OUT_OF_MEMORY};
 ghost use Rattle.nc_host.specs.Handles.{HoldsVetted, IsDone, IsSameButPages, IsVetted, load_number, load_wanted};
 ghost use Rattle.nc_host.specs.Outcomes.{IsChunkFault};
 
+use crate::fault_numbers::{HANDLE_TAKEN, NO_HANDLE};
 use crate::lent_answers::NcVerdict;
 use crate::lent_vet::verdict_of;
-use crate::numbers::{NOTHING, TAKEN, load_numbers};
+use crate::numbers::load_numbers;
 use crate::region_answers::{NcChange, no_change};
 use crate::vet_copy::vet_copy;
 use nc_host_handles::{NcAct, NcRegion, NcVetted, RegionHandle, VettedHandle};
@@ -56,13 +58,13 @@ pub extern "C" fn nc_vetted_new(
     ensures unchanged { 0 < result.fault → vetted.new.value ≡ vetted.old.value }
     ensures at { result.fault ≡ 0 → result.at ≡ 0 }
     // A handle that isn't empty is refused; else the fault is one that the chunk has.
-    ensures refused { 0 < result.fault → ((result ≡ record { fault = 33; at = 0 }) × ((k : VettedHandle) × (vetted.old.value ≡ Some k)))
+    ensures refused { 0 < result.fault → ((result ≡ record { fault = HANDLE_TAKEN; at = 0 }) × ((k : VettedHandle) × (vetted.old.value ≡ Some k)))
         ⊎ ((vetted.old.value ≡ None) × IsChunkFault base limit code.now result.fault result.at) }
 {
     if let Some(kept) = vetted.take(alloc) {
         *vetted = NcVetted::of(kept);
         return NcVerdict {
-            fault: TAKEN,
+            fault: HANDLE_TAKEN,
             at: 0,
         };
     }
@@ -90,15 +92,15 @@ fn load_kept(handle: &mut RegionHandle, kept: &mut VettedHandle, acts: &mut [NcA
     ensures pending { result.fault ≡ 0 → (v : MarkedChunk) × (kept.old.chunk ≡ Some v)
         × ReportsPending handle.old handle.new v acts.old acts.new result.count }
     ensures untouched { 0 < result.fault → (acts.new ≡ acts.old) × (kept.new ≡ kept.old) }
-    ensures unchanged { 0 < result.fault → (handle.new ≡ handle.old) ⊎ ((result.fault ≡ 8)
+    ensures unchanged { 0 < result.fault → (handle.new ≡ handle.old) ⊎ ((result.fault ≡ OUT_OF_MEMORY)
         × ((v : MarkedChunk) × (kept.old.chunk ≡ Some v) × IsSameButPages v.base (length v.code) handle.old handle.new)) }
     ensures at { result.at ≡ 0 }
-    ensures refused { 0 < result.fault → ((result.fault ≡ 32) × (result.count ≡ 0) × (kept.old.chunk ≡ None))
+    ensures refused { 0 < result.fault → ((result.fault ≡ NO_HANDLE) × (result.count ≡ 0) × (kept.old.chunk ≡ None))
         ⊎ ((v : MarkedChunk) × (kept.old.chunk ≡ Some v) × ((f : LoadFault) × MayRefuseLoad handle.old v (length acts.old) f
         × (result.fault ≡ load_number f) × (result.count ≡ load_wanted f))) }
 {
     let Some(vetted) = kept.chunk.take() else {
-        return no_change(NOTHING, 0);
+        return no_change(NO_HANDLE, 0);
     };
     match handle.create(vetted, acts) {
         Ok(count) => no_change(0, count),
@@ -127,22 +129,22 @@ pub extern "C" fn nc_region_load(
     ensures pending { result.fault ≡ 0 → (k : VettedHandle) × (vetted.old.value ≡ Some k) × ((v : MarkedChunk) × (k.chunk ≡ Some v)
         × IsDone region.old.value region.new.value (λ old new. ReportsPending old new v acts.old acts.new result.count)) }
     ensures untouched { 0 < result.fault → (acts.new ≡ acts.old) × (vetted.new.value ≡ vetted.old.value) }
-    ensures unchanged { 0 < result.fault → (region.new.value ≡ region.old.value) ⊎ ((result.fault ≡ 8)
+    ensures unchanged { 0 < result.fault → (region.new.value ≡ region.old.value) ⊎ ((result.fault ≡ OUT_OF_MEMORY)
         × ((k : VettedHandle) × (vetted.old.value ≡ Some k) × ((v : MarkedChunk) × (k.chunk ≡ Some v)
         × IsDone region.old.value region.new.value (IsSameButPages v.base (length v.code))))) }
     ensures at { result.at ≡ 0 }
     // Each refusal is returned when it is due: there is no chunk or no region, or the region refuses the chunk.
-    ensures refused { 0 < result.fault → ((result.fault ≡ 32) × (result.count ≡ 0) × ((vetted.old.value ≡ None) ⊎ ((region.old.value ≡ None)
+    ensures refused { 0 < result.fault → ((result.fault ≡ NO_HANDLE) × (result.count ≡ 0) × ((vetted.old.value ≡ None) ⊎ ((region.old.value ≡ None)
         ⊎ ((k : VettedHandle) × (vetted.old.value ≡ Some k) × (k.chunk ≡ None))))) ⊎ ((h : RegionHandleState) × (k : VettedHandle) × (v : MarkedChunk)
         × (region.old.value ≡ Some h) × (vetted.old.value ≡ Some k) × (k.chunk ≡ Some v)
         × ((f : LoadFault) × MayRefuseLoad h v (length acts.old) f × (result.fault ≡ load_number f) × (result.count ≡ load_wanted f))) }
 {
     let Some(mut kept) = vetted.take(alloc) else {
-        return no_change(NOTHING, 0);
+        return no_change(NO_HANDLE, 0);
     };
     let Some(mut handle) = region.take(alloc) else {
         *vetted = NcVetted::of(kept);
-        return no_change(NOTHING, 0);
+        return no_change(NO_HANDLE, 0);
     };
     let change = load_kept(&mut handle, &mut kept, acts);
     *region = NcRegion::of(handle);
