@@ -9,7 +9,7 @@ ghost use Rattle.nc_host_handles.specs.declared.fault.NewFault.{NewFault};
 
 use crate::fault::NewFault;
 use nc_decode::is_region_size;
-use nc_gens::{Gens, MOST_SEATS, Pass};
+use nc_gens::{Gens, Pass, are_seats};
 use nc_region::{Chunk, PlainOf, RegionOf};
 use nc_text::Text;
 use std::alloc::Global;
@@ -89,7 +89,7 @@ impl RegionHandle {
         ensures bad_size { IsErrOf result NewFault.BadSize ↔ (AreSeats seats × ¬ IsLawfulLimit (0x10000 + 32 * bundles)) }
         ensures refused { IfErr result (MayRefuseNew bundles seats) }
     {
-        if seats == 0 || seats as usize > MOST_SEATS {
+        if !are_seats(seats) {
             return Err(NewFault::BadSeats);
         }
         if !is_region_size(bundles) {

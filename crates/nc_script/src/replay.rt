@@ -9,7 +9,7 @@ ghost use Rattle.nc_script.specs.Run.{HasRun};
 use crate::seats::Seats;
 use crate::session::Session;
 use nc_decode::is_region_size;
-use nc_gens::{Gens, MOST_SEATS};
+use nc_gens::{Gens, are_seats};
 use nc_lines::{ReplayFault, reply_gathered};
 use nc_region::Region;
 use std::alloc::Global;
@@ -103,7 +103,7 @@ fn run_in<R: Read, W: Write>(
     if !is_region_size(bundles) {
         return Err(ReplayFault::BadSize);
     }
-    if seats == 0 || seats as usize > MOST_SEATS {
+    if !are_seats(seats) {
         return Err(ReplayFault::BadSeats);
     }
     run_new(alloc, reader, writer, bundles, seats, manner)

@@ -26,8 +26,8 @@ returns-then-not-is_region_size g c = record {
   out_of_memory = λ e. absurd cc;
 }
 
-pub returns-then-seats-eq0 : goal.returns-then-seats-eq0
-returns-then-seats-eq0 g c = record {
+pub returns-then-not-are_seats : goal.returns-then-not-are_seats
+returns-then-not-are_seats g c = record {
   bad_size = search rules;
   bad_seats = search rules;
   no_workers = λ e. cc;
