@@ -30,8 +30,8 @@
 //! That the memory holds the same bytes is argued, since each put is made in both. `rt ci` always refuses C, so `tools/try/mapped` proves
 //! and runs the example in a copy of the repository, with `RT_ALLOW_C`.
 
-ghost use Rattle.std.specs.Prelude.{◌≡◌, ◌+◌, ◌*◌, ◌↔◌, OnOk, IfOk, IfErr};
-ghost use Rattle.nc_decode.specs.Bundles.{IsLawfulLimit};
+ghost use Rattle.std.specs.Prelude.{◌≡◌, ◌↔◌, OnOk, IfOk, IfErr};
+ghost use Rattle.nc_decode.specs.Bundles.{IsLawfulLimit, limit_after};
 ghost use Rattle.nc_text.specs.MarkedText.{unused_text};
 
 use nc_decode::{BUNDLE, Mark, START, STOP};
@@ -61,11 +61,11 @@ impl<'g> Image<'g> {
         keeper: Keeper,
     ) -> Result<Image<'g>, RegionFault>
         requires { keeper.table ≡ gens.now }
-        ensures made { IfOk result (λ i. i.plain.marked ≡ unused_text (0x10000 + 32 * bundles)) }
+        ensures made { IfOk result (λ i. i.plain.marked ≡ unused_text (limit_after bundles)) }
         ensures keeper { IfOk result (λ i. i.plain.keeper ≡ keeper) }
         // The size is refused exactly if it is unlawful.
-        ensures lawful { OnOk result (IsLawfulLimit (0x10000 + 32 * bundles)) }
-        ensures size { IfErr result (λ e. (e ≡ RegionFault.BadSize) ↔ ¬ IsLawfulLimit (0x10000 + 32 * bundles)) }
+        ensures lawful { OnOk result (IsLawfulLimit (limit_after bundles)) }
+        ensures size { IfErr result (λ e. (e ≡ RegionFault.BadSize) ↔ ¬ IsLawfulLimit (limit_after bundles)) }
     {
         match Text::new(alloc, bundles) {
             Ok(text) => Image::over(alloc, bundles, Plain::new(text, gens, keeper)),
@@ -76,7 +76,7 @@ impl<'g> Image<'g> {
 
     /// A new text, and memory of this many bundles.
     fn over(alloc: Global, bundles: u32, plain: Plain<'g>) -> Result<Image<'g>, RegionFault>
-        requires { plain.marked ≡ unused_text (0x10000 + 32 * bundles) }
+        requires { plain.marked ≡ unused_text (limit_after bundles) }
         ensures plain { IfOk result (λ i. i.plain ≡ plain.entry) }
         ensures fault { IfErr result (λ e. e ≡ RegionFault.OutOfMemory) }
     {

@@ -1,6 +1,6 @@
 -- The contracts' view of a region that owns everything it needs, and when its calls are refused.
 use Rattle.std.specs.Prelude.{◌≡◌, ◌≢◌, ℕ, ◌+◌, ◌*◌, ◌^◌, ◌<◌, ◌≤◌, List, [], ◌∷◌, ◌++◌, Option, Some, None, Contains, IfSome, IsSome, All, length, map, slice_index}
-use Rattle.nc_decode.specs.Bundles.{IsLawfulLimit}
+use Rattle.nc_decode.specs.Bundles.{IsLawfulLimit, limit_after}
 use Rattle.nc_gens.specs.declared.view.WordStep.{WordStep}
 use Rattle.nc_gens.specs.Trail.{seat_word}
 use Rattle.nc_gens.specs.Progress.{IsBeforeLook}
@@ -48,9 +48,9 @@ CanEnd begun r = IfSome begun (λ c. IsLiveAt r.chunks c.base c × (r.keeper.num
 -- logged, no pass given out
 pub record IsFirst (bundles seats : ℕ) (h : RegionHandleState) : Type 0 where
   pub numbers : AreSeats seats
-  pub lawful : IsLawfulLimit (0x10000 + 32 * bundles)
-  pub marked : h.region.marked ≡ unused_text (0x10000 + 32 * bundles)
-  pub made : h.region.made ≡ unmade_pages (0x10000 + 32 * bundles)
+  pub lawful : IsLawfulLimit (limit_after bundles)
+  pub marked : h.region.marked ≡ unused_text (limit_after bundles)
+  pub made : h.region.made ≡ unmade_pages (limit_after bundles)
   pub chunks : h.region.chunks ≡ []
   pub keeper : h.region.keeper ≡ first_keeper h.region.keeper.table seats
   pub logged : h.region.logged ≡ []
@@ -61,8 +61,8 @@ pub record IsFirst (bundles seats : ℕ) (h : RegionHandleState) : Type 0 where
 -- lawful, and memory ran out
 abbrev pub MayRefuseNew : ℕ → ℕ → NewFault → Type 0
 MayRefuseNew bundles seats BadSeats = ¬ AreSeats seats
-MayRefuseNew bundles seats BadSize = AreSeats seats × ¬ IsLawfulLimit (0x10000 + 32 * bundles)
-MayRefuseNew bundles seats OutOfMemory = AreSeats seats × IsLawfulLimit (0x10000 + 32 * bundles)
+MayRefuseNew bundles seats BadSize = AreSeats seats × ¬ IsLawfulLimit (limit_after bundles)
+MayRefuseNew bundles seats OutOfMemory = AreSeats seats × IsLawfulLimit (limit_after bundles)
 
 -- when `seat` returns each refusal: no seat is left; or one is, and memory ran out
 abbrev pub MayRefuseSeat : RegionHandleState → SeatFault → Type 0

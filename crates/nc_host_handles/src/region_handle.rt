@@ -1,8 +1,8 @@
 //! A region that owns everything it needs.
 
-ghost use Rattle.std.specs.Prelude.{◌≡◌, ◌+◌, ◌*◌, ◌↔◌, None, IfOk, IfErr, IfSome, IsErrOf};
+ghost use Rattle.std.specs.Prelude.{◌≡◌, ◌↔◌, None, IfOk, IfErr, IfSome, IsErrOf};
 ghost use Rattle.std.specs.Arc.{arc_value};
-ghost use Rattle.nc_decode.specs.Bundles.{IsLawfulLimit};
+ghost use Rattle.nc_decode.specs.Bundles.{IsLawfulLimit, limit_after};
 ghost use Rattle.nc_gens.specs.Seen.{AreSeats};
 ghost use Rattle.nc_host_handles.specs.RegionHandle.{IsFirst, MayRefuseNew};
 ghost use Rattle.nc_host_handles.specs.declared.fault.NewFault.{NewFault};
@@ -45,7 +45,7 @@ impl Model for RegionHandle {
 /// A new region of this lawful size with this lawful number of seats, if there is memory.
 fn first(alloc: Global, bundles: u32, seats: u32) -> Option<RegionHandle>
     requires seats { AreSeats seats }
-    requires lawful { IsLawfulLimit (0x10000 + 32 * bundles) }
+    requires lawful { IsLawfulLimit (limit_after bundles) }
     ensures { IfSome result (IsFirst bundles seats) }
 {
     let Ok(text) = Text::new(alloc, bundles) else {
@@ -86,7 +86,7 @@ impl RegionHandle {
         ensures made { IfOk result (IsFirst bundles seats) }
         // The first two refusals are returned exactly when they are due, and the third only when neither is.
         ensures bad_seats { IsErrOf result NewFault.BadSeats ↔ ¬ AreSeats seats }
-        ensures bad_size { IsErrOf result NewFault.BadSize ↔ (AreSeats seats × ¬ IsLawfulLimit (0x10000 + 32 * bundles)) }
+        ensures bad_size { IsErrOf result NewFault.BadSize ↔ (AreSeats seats × ¬ IsLawfulLimit (limit_after bundles)) }
         ensures refused { IfErr result (MayRefuseNew bundles seats) }
     {
         if !are_seats(seats) {

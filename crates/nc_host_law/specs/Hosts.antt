@@ -1,5 +1,6 @@
 -- A host in C, step by step: its memory, its calls by a handle of a region, and the threads that run that memory.
-use Rattle.std.specs.Prelude.{◌≡◌, ℕ, ◌+◌, ◌*◌, ⊤, false, List, [], ◌∷◌, ◌++◌, All}
+use Rattle.std.specs.Prelude.{◌≡◌, ℕ, ⊤, false, List, [], ◌∷◌, ◌++◌, All}
+use Rattle.nc_decode.specs.Bundles.{limit_after}
 use Rattle.nc_gens.specs.declared.view.WordStep.{WordStep}
 use Rattle.nc_gens.specs.Trail.{BeginsWith}
 use Rattle.nc_region.specs.schedules.World.{World, first_world}
@@ -54,6 +55,6 @@ IsInOrder old new = ¬ All IsNoLook old.pending → All IsNoLook new.pending →
 -- A state that a host can reach from a new region of a handle: nothing is pending, and its memory is a region's without any
 -- chunk; then steps, each of which is in order.
 pub data IsReached (bundles seats : ℕ) : Host → Type 0 where
-  First : {host : Host} → IsFirst bundles seats host.handle → host.world ≡ first_world (0x10000 + 32 * bundles) seats
+  First : {host : Host} → IsFirst bundles seats host.handle → host.world ≡ first_world (limit_after bundles) seats
       → host.steps ≡ [] → host.pending ≡ [] → host.announced ≡ [] → IsReached bundles seats host
   Then : {old new : Host} → IsReached bundles seats old → IsHostStep seats old new → IsInOrder old new → IsReached bundles seats new

@@ -1,6 +1,7 @@
 //! Each turn of a history is one that a host can take.
 
-ghost use Rattle.std.specs.Prelude.{◌≡◌, ◌+◌, ◌*◌, ℕ, List, [], ◌∷◌, ◌++◌, None, Some, length};
+ghost use Rattle.std.specs.Prelude.{◌≡◌, ℕ, List, [], ◌∷◌, ◌++◌, None, Some, length};
+ghost use Rattle.nc_decode.specs.Bundles.{limit_after};
 ghost use Rattle.nc_vet.specs.Chunk.{MarkedChunk, IsValid};
 ghost use Rattle.nc_region.specs.schedules.World.{first_world, seat_at};
 ghost use Rattle.nc_region.specs.schedules.Events.{Event, world_after};
@@ -22,8 +23,8 @@ ghost use Rattle.nc_host_law.specs.Turns.{new_host, GoesOn};
 /// chunk's span. What `law_of_hosts` says of such a host isn't vacuous. The function does nothing when called.
 pub fn law_of_turns()
     ensures turns { (bundles seats : ℕ) (host : Host) (before events later : List Event) (turn : Turn) → IsReached bundles seats host
-        → host.pending ≡ [] → host.handle.begun ≡ None → host.world ≡ world_after (first_world (0x10000 + 32 * bundles) seats) before
-        → host.steps ≡ word_steps before → IsTurn (0x10000 + 32 * bundles) seats before host.handle.region turn → turn.events ≡ events ++ later
+        → host.pending ≡ [] → host.handle.begun ≡ None → host.world ≡ world_after (first_world (limit_after bundles) seats) before
+        → host.steps ≡ word_steps before → IsTurn (limit_after bundles) seats before host.handle.region turn → turn.events ≡ events ++ later
         → GoesOn bundles seats host (record {
           handle = record host.handle { region = turn.region };
           world = world_after host.world events;
@@ -31,7 +32,7 @@ pub fn law_of_turns()
           pending = writers later;
           announced = writers turn.events;
         }) }
-    ensures lives { (bundles : ℕ) (first : RegionHandleState) (v : MarkedChunk) → IsValid v → v.limit ≡ 0x10000 + 32 * bundles
+    ensures lives { (bundles : ℕ) (first : RegionHandleState) (v : MarkedChunk) → IsValid v → v.limit ≡ limit_after bundles
         → IsFirst bundles 1 first → (created deleted last : Host) × GoesOn bundles 1 (new_host bundles 1 first) created
         × IsCreated first.region created.handle.region v × GoesOn bundles 1 created deleted
         × IsDeleted created.handle.region deleted.handle.region v.base 1 × ((seat_at deleted.world 0).inside ≡ Some (start_of v))

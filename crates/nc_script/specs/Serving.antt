@@ -1,6 +1,7 @@
 -- The reply of a script to a line, and the state after it.
-use Rattle.std.specs.Prelude.{◌≡◌, ◌≢◌, ℕ, Bool, ◌*◌, ◌+◌, ◌^◌, ◌<◌, ◌⊎◌, List, [], length, map, replicate, MatchOption, Some, codes, slice_get}
+use Rattle.std.specs.Prelude.{◌≡◌, ◌≢◌, ℕ, Bool, ◌+◌, ◌^◌, ◌<◌, ◌⊎◌, List, [], length, map, replicate, MatchOption, Some, codes, slice_get}
 use Rattle.std.specs.Prelude.{slice_set}
+use Rattle.nc_decode.specs.Bundles.{limit_after}
 use Rattle.nc_vet.specs.Faults.{HasFault}
 use Rattle.nc_vet.specs.declared.fault.VetFault.{VetFault}
 use Rattle.nc_vet.specs.declared.fault.VetFault.TheVariants.{OutOfMemory}
@@ -147,7 +148,7 @@ pub record IsOnlyReply (queries : Bool) (old : Script) (line reply : List ℕ) (
 -- the initial state: there is no chunk, no seat has left, and all numbers are 0
 abbrev pub new_script : ℕ → ℕ → Script
 new_script bundles seats = record {
-  limit = 0x10000 + 32 * bundles;
+  limit = limit_after bundles;
   chunks = [];
   generation = 0;
   seats = replicate seats (Staying 0);
