@@ -176,7 +176,7 @@ LENGTHS = {"code": "len", "bytes": "len", "new": "new_len"}
 
 # Where the numbers are: constants, and the equations by which a contract names a fault, a flow, an end, a mark or a kind of act, with a
 # number or a constant.
-CONSTANTS = ["nc_decode/src/bundles.rt", "nc_decode/src/instruction.rt", "nc_host_acts/src/entries.rt", "nc_host/src/*.rt"]
+CONSTANTS = ["nc_decode/src/bundles.rt", "nc_decode/src/instruction.rt", "nc_host_acts/src/act.rt", "nc_host/src/*.rt"]
 EQUATIONS = ["nc_host/specs/*.antt", "nc_host_acts/specs/*.antt"]
 PREFIXES = {"flow_number": "NC_FLOW_", "end_number": "NC_END_", "refused_patch_number": "NC_PATCH_", "elf_number": "NC_ELF_",
             "segment_number": "NC_ELF_"}

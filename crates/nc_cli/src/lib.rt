@@ -5,10 +5,8 @@
 //! pass. The proof of how a command line is built takes long, so it is in a crate of its own.
 #![tactic(auto)]
 
-mod building;
+mod parsing;
 mod table;
-mod words;
 
-pub use building::{fault, matches};
+pub use parsing::{arguments, command_words, fault, matches};
 pub use table::{FLAG, OPTION, Program, Usage, Word};
-pub use words::{arguments, command_words};

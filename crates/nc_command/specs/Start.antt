@@ -3,8 +3,8 @@ use Rattle.std.specs.Prelude.{◌≡◌, ◌≢◌, ◌↔◌, ℕ, Bool, List, 
 use Rattle.std.specs.Io.KnownBytes.{IsAtEnd}
 use Rattle.nc_decode.specs.Bundles.{IsRegionSize, limit_after}
 use Rattle.nc_work.specs.Verdicts.{AreWorkers}
-use Rattle.nc_command.specs.declared.requests.Ask.{Ask}
-use Rattle.nc_command.specs.declared.requests.Ask.TheVariants.{Replay, Vet}
+use Rattle.nc_command.specs.declared.carrying.Ask.{Ask}
+use Rattle.nc_command.specs.declared.carrying.Ask.TheVariants.{Replay, Vet}
 use Rattle.nc_lines.specs.declared.fault.ReplayFault.{ReplayFault}
 use Rattle.nc_lines.specs.declared.fault.ReplayFault.TheVariants.{WriteFailed, BadSize, BadSeats, BadWorkers}
 use Rattle.nc_command.specs.declared.halt.Halt.{Halt}

@@ -1,13 +1,12 @@
-//! Work carried out over any reader and writer.
+//! The work that a command line of `nc_replay` asks for, carried out over any reader and writer.
 
 ghost use Rattle.std.specs.Prelude.{◌≡◌, false};
 ghost use Rattle.nc_command.specs.Range.{AsksInRange};
-ghost use Rattle.nc_command.specs.declared.requests.Ask.{Ask};
+ghost use Rattle.nc_command.specs.declared.carrying.Ask.{Ask};
 ghost use Rattle.nc_command.specs.Start.{IfWords, IfRun, IsDone};
 
 use crate::halt::Halt;
 use crate::replay::ask;
-use crate::requests::{Ask, ReplayRequest};
 use nc_lines::{ReplayFault, vet_lines};
 use nc_script::{run, run_gathered, run_queries};
 use nc_work::Open;
@@ -15,6 +14,27 @@ use std::alloc::Global;
 use std::io::{Read, Write};
 use std::sync::Wait;
 use std::thread::Threads;
+
+/// The work that a command line of `nc_replay` asks for.
+#[derive(Clone, Copy, Debug, Drop, PartialEq, Eq)]
+pub enum Ask {
+    /// Runs a script.
+    Replay { bundles: u32, seats: u32 },
+    /// Vets lines of chunks.
+    Vet { bundles: u32, workers: u32 },
+}
+
+/// All that a command line of `nc_replay` asks for: its work, and what is done beside it.
+#[derive(Clone, Copy, Debug, Drop, PartialEq, Eq)]
+pub struct ReplayRequest {
+    pub work: Ask,
+    /// Whether a script's `chunk` lines are taken.
+    pub queries: bool,
+    /// Whether each bad line and each refusal is explained on standard error.
+    pub explain: bool,
+    /// Whether the exit status is 1 if a line was bad.
+    pub strict: bool,
+}
 
 /// Carries out the words of a command line, which don't begin with the program's own name. It runs a script, or vets lines of chunks
 /// by workers. The words are those that [`ask`] takes. Each reply to a script's line is a write of its own.

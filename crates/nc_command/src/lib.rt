@@ -13,10 +13,8 @@ mod check;
 mod halt;
 mod options;
 mod replay;
-mod requests;
 
-pub use carrying::{carry_out, start};
+pub use carrying::{Ask, ReplayRequest, carry_out, start};
 pub use check::{ask_check, check_words};
 pub use halt::Halt;
 pub use replay::{ask, ask_replay, replay_words};
-pub use requests::{Ask, ReplayRequest};

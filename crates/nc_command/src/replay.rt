@@ -1,10 +1,10 @@
-//! The command line of `nc_replay`, and the request that its words make.
+//! The command line of `nc_replay`.
 
 ghost use Rattle.std.specs.Prelude.{◌≡◌, ◌≤◌, IfOk, IfSome};
 ghost use Rattle.nc_command.specs.Range.{AsksInRange};
 
+use crate::carrying::{Ask, ReplayRequest};
 use crate::options::{BUNDLES, WORKERS};
-use crate::requests::{Ask, ReplayRequest};
 use clap::builder::ValueParser;
 use clap::error::ErrorKind;
 use clap::{ArgMatches, Error};

@@ -3,7 +3,7 @@ use Rattle.std.specs.Prelude.{ℕ, ◌+◌, ◌*◌, ◌^◌, ◌<◌, ◌≤◌
 use Rattle.std.specs.List.{range_with_len}
 use Rattle.nc_elf.specs.declared.program.ProgramHeader.{ProgramHeader}
 use Rattle.nc_elf.specs.declared.loaded.NcSegment.{NcSegment}
-use Rattle.nc_elf.specs.declared.segment.Segment.{Segment}
+use Rattle.nc_elf.specs.declared.listing.Segment.{Segment}
 use Rattle.nc_elf.specs.Header.{u32_at, e_phoff, e_phnum, HasTable}
 
 -- the i-th program header, counted from 0

@@ -33,7 +33,7 @@
 //! ```
 //!
 //! `header` and `program` read the ELF header and the program headers, and `checks` has the checks, with the faults of `fault`.
-//! `listing` lists the segments of code (`segment`), and `loaded` writes all loaded ones. `symbols` lists the symbols: `sections` finds
+//! `listing` lists the segments of code, and `loaded` writes all loaded ones. `symbols` lists the symbols: `sections` finds
 //! the symbol table, and `entries` reads its entries and their names. `numbers` reads a number in the file.
 #![tactic(auto)]
 
@@ -46,12 +46,10 @@ mod loaded;
 mod numbers;
 mod program;
 mod sections;
-mod segment;
 mod symbols;
 
 pub use fault::{ElfFault, LoadedFault, SegmentFault};
 pub use header::is_elf;
-pub use listing::code_segments;
+pub use listing::{Segment, code_segments};
 pub use loaded::{NcSegment, loaded_segments};
-pub use segment::Segment;
 pub use symbols::{Symbol, code_symbols};

@@ -1,16 +1,37 @@
-//! The list of a file's segments of code.
+//! A segment of code, and the list of those of a file.
 
-ghost use Rattle.std.specs.Prelude.{◌≡◌, ◌≢◌, ◌↔◌, IfOk, IfErr, OnOk, All, AllPairs};
+ghost use Rattle.std.specs.Prelude.{◌≡◌, ◌≢◌, ◌↔◌, IfOk, IfErr, OnOk, All, AllPairs, ◌+◌, ◌≤◌, length};
 ghost use Rattle.nc_elf.specs.declared.fault.ElfFault.{ElfFault};
 ghost use Rattle.nc_elf.specs.Header.{HasTable};
-ghost use Rattle.nc_elf.specs.Segments.{segments_of, IsWellFormed, IsPlaced, EndsBefore};
+ghost use Rattle.nc_elf.specs.Segments.{segments_of, IsWellFormed, IsPlaced, EndsBefore, bytes_of};
 ghost use Rattle.nc_elf.specs.Faults.{HasElfFault};
 
 use crate::checks::check;
 use crate::fault::ElfFault;
 use crate::program::{header_count, program_header};
-use crate::segment::Segment;
 use std::alloc::{AllocError, Global};
+
+/// The position of a segment's bytes in memory and in the file.
+#[derive(Clone, Copy, Debug, Drop, PartialEq, Eq)]
+pub struct Segment {
+    /// The address of the first byte.
+    pub address: u32,
+    /// The offset of the first byte in the file.
+    pub offset: u32,
+    /// The number of bytes.
+    pub len: u32,
+}
+
+impl Segment {
+    /// The segment's bytes, as a slice of its file.
+    pub fn bytes<'a>(self, file: &'a [u8]) -> &'a [u8]
+        requires { self.offset + self.len ≤ length file.now }
+        ensures { result.now ≡ bytes_of file.now self }
+    {
+        let start = self.offset as usize;
+        &file[start..start + self.len as usize]
+    }
+}
 
 /// The segments of code that the program headers name.
 fn list_segments(alloc: Global, file: &[u8]) -> Result<Vec<Segment>, AllocError>

@@ -5,9 +5,9 @@ ghost use Rattle.nc_elf.specs.Header.{e_phnum, HasTable};
 ghost use Rattle.nc_elf.specs.Segments.{program_header, is_load, is_executable, is_writable, is_code, is_present, segment_of, loaded_of, IsInFile};
 
 use crate::header::{E_PHNUM, E_PHOFF};
+use crate::listing::Segment;
 use crate::loaded::NcSegment;
 use crate::numbers::{u16_at, u32_at};
-use crate::segment::Segment;
 
 /// The length of a program header.
 pub(crate) const PROGRAM_HEADER_LEN: usize = 32;

@@ -4,7 +4,7 @@ use Rattle.std.specs.Prelude.{◌||◌, codes}
 use Rattle.std.specs.Io.KnownBytes.{Appends}
 use Rattle.std.proofs.KnownBytes.{Appends-trans}
 use Rattle.nc_elf.specs.Segments.{bytes_of}
-use Rattle.nc_elf.specs.declared.segment.Segment.{Segment}
+use Rattle.nc_elf.specs.declared.listing.Segment.{Segment}
 use Rattle.nc_output.specs.declared.detail.Format.{Format}
 use Rattle.nc_output.specs.declared.detail.Format.TheVariants.{Text}
 use Rattle.nc_output.specs.declared.detail.Style.{Style}

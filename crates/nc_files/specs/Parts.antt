@@ -1,6 +1,6 @@
 -- The parts of a file that are judged.
 use Rattle.std.specs.Prelude.{◌≡◌, ℕ, ◌+◌, Bool, ◌&&◌, nat_le, nat_lt, List, [], ◌++◌, map, filter, codes}
-use Rattle.nc_elf.specs.declared.segment.Segment.{Segment}
+use Rattle.nc_elf.specs.declared.listing.Segment.{Segment}
 use Rattle.nc_elf.specs.declared.symbols.Symbol.{Symbol}
 use Rattle.nc_elf.specs.Segments.{segments_of}
 use Rattle.nc_elf.specs.Symbols.{AreCodeSymbols, name_of}

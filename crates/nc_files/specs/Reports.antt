@@ -6,7 +6,7 @@ use Rattle.nc_elf.specs.Header.{IsElf}
 use Rattle.nc_elf.specs.Segments.{IsWellFormed, bytes_of, segments_of}
 use Rattle.nc_elf.specs.declared.fault.ElfFault.{ElfFault}
 use Rattle.nc_elf.specs.declared.fault.ElfFault.TheVariants.{OutOfMemory}
-use Rattle.nc_elf.specs.declared.segment.Segment.{Segment}
+use Rattle.nc_elf.specs.declared.listing.Segment.{Segment}
 use Rattle.nc_output.specs.Verdicts.{with_line_end, refused_words}
 use Rattle.nc_output.specs.declared.detail.Detail.{Detail}
 use Rattle.nc_output.specs.declared.detail.Detail.TheVariants.{Brief}

@@ -200,7 +200,7 @@ where
     // bytes a file has, and whether it can be read, is up to its device.
     ensures { IfOk result (λ status. (faulty refused : Bool) × (status ≡ exit_status faulty refused)
         × HasWritten (PrintsFiles request.now request.now.files.items faulty refused)
-            (W.contents writer.old.writer) (W.contents writer.new.writer)) }
+        (W.contents writer.old.writer) (W.contents writer.new.writer)) }
 {
     keep_memory(rt.alloc());
     let mut state = State {

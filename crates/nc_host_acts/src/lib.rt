@@ -9,13 +9,12 @@
 //! replace instructions by others of the same lengths. Each leaves the rest of the buffer as it was. None refuses or takes memory: its
 //! caller lends enough room.
 //!
-//! `chunk` is the trait, `act` and `entries` are single elements, `putting` writes creations and deletions, `runs` writes them as runs, and
+//! `chunk` is the trait, `act` is a single element, `putting` writes creations and deletions, `runs` writes them as runs, and
 //! `replacing` writes patches.
 #![tactic(auto)]
 
 mod act;
 mod chunk;
-mod entries;
 mod putting;
 mod replacing;
 mod runs;

@@ -9,9 +9,8 @@ ghost use Rattle.nc_host_acts.specs.Standing.{AreMarksAt};
 ghost use Rattle.nc_host_acts.specs.Written.{HoldsLog};
 ghost use Rattle.nc_host_acts.specs.machinery.Writing.{HasPutUpTo, starts_if, mark_if, marks_if, is_among};
 
-use crate::act::NcAct;
+use crate::act::{NcAct, bump, mark_span, put, serialize, write};
 use crate::chunk::ReadChunk;
-use crate::entries::{bump, mark_span, put, serialize, write};
 use nc_decode::STOP;
 use nc_text::lowest_place;
 

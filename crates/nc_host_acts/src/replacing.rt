@@ -7,8 +7,7 @@ ghost use Rattle.nc_host_acts.specs.Standing.{AreBytesAt};
 ghost use Rattle.nc_host_acts.specs.Written.{AddsEntries};
 ghost use Rattle.nc_host_acts.specs.machinery.Writing.{HasPutUpTo};
 
-use crate::act::NcAct;
-use crate::entries::{put, serialize, write};
+use crate::act::{NcAct, put, serialize, write};
 use nc_decode::{STOP, decode};
 
 /// Whether the code has these bytes from this place on.

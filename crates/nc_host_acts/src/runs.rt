@@ -8,9 +8,8 @@ ghost use Rattle.nc_host_acts.specs.Runs.{HasRuns, run_of, runs_where, runs_of_c
 ghost use Rattle.nc_host_acts.specs.Standing.{AreMarksAt};
 ghost use Rattle.nc_host_acts.specs.machinery.Running.{AddsRuns, HasBits, bytes_for, picks, run_at};
 
-use crate::act::NcAct;
+use crate::act::{NcAct, bump, mark_span, serialize, write};
 use crate::chunk::ReadChunk;
-use crate::entries::{bump, mark_span, serialize, write};
 
 /// The places of a bundle that a run may include.
 #[derive(Clone, Copy, Drop)]

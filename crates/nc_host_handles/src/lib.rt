@@ -13,8 +13,8 @@
 //!
 //! `region_handle`, `seat_handle` and `vetted_handle` are the three values. `region_calls` has the changes of a region, `run_calls`
 //! their acts as runs, and `queries` what reads it. `seats` gives out seats, and `attending` checks in for those that haven't been
-//! given out. `span` and `window` read a region's bytes for the writers of acts. `region_pointer`, `seat_pointer` and `vetted_pointer`
-//! are what C holds: `parts` has a box as its pointer, and `sent` makes the prover check that a value may go to another thread. `fault`
+//! given out. `span` reads a region's bytes for the writers of acts. `region_pointer`, `seat_pointer` and `vetted_pointer`
+//! are what C holds: `parts` has a box as its pointer, and makes the prover check that a value may go to another thread. `fault`
 //! says why a call is refused.
 #![tactic(auto)]
 
@@ -29,11 +29,9 @@ mod run_calls;
 mod seat_handle;
 mod seat_pointer;
 mod seats;
-mod sent;
 mod span;
 mod vetted_handle;
 mod vetted_pointer;
-mod window;
 
 pub use fault::{LoadFault, NewFault, PatchFault, RetireFault, RunsFault, SeatFault};
 pub use nc_host_acts::NcAct;

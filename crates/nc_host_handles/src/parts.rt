@@ -1,4 +1,4 @@
-//! A box as its pointer.
+//! A box as its pointer, and values that a host may move to another thread.
 
 ghost use Rattle.std.specs.Prelude.{◌≡◌};
 ghost use Rattle.std.specs.Box.Ownership.{box_owns};
@@ -35,4 +35,11 @@ impl<T, A: Allocator> Parts<T, A> {
         let Parts { ptr, alloc } = self;
         unsafe { Box::from_raw(alloc, ptr) }
     }
+}
+
+/// The value itself: the bound makes the prover check that it may be moved to another thread.
+pub(crate) fn sent<T: Send>(value: T) -> T
+    ensures { result ≡ value }
+{
+    value
 }

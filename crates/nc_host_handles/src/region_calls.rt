@@ -1,26 +1,27 @@
 //! The calls that change a region that owns everything it needs, with the acts of each change.
 
-ghost use Rattle.std.specs.Prelude.{◌≡◌, ◌+◌, ◌*◌, ◌^◌, ◌<◌, ◌≤◌, ◌↔◌, ℕ, List, IfOk, IfErr, IfSome, IsNone, IsTrue, OnOk, OnErr, OnSome, None, length};
+ghost use Rattle.std.specs.Prelude.{◌≡◌, ◌+◌, ◌*◌, ◌^◌, ◌<◌, ◌≤◌, ◌↔◌, ℕ, List, IfOk, IfErr, IfSome, IsNone, IsTrue, OnOk, OnErr, OnSome, None, length, slice_index};
 ghost use Rattle.nc_text.specs.Places.{limit_of};
 ghost use Rattle.nc_vet.specs.Chunk.{MarkedChunk, Piece};
 ghost use Rattle.nc_vet.specs.Faults.{HasGoodSpan};
 ghost use Rattle.nc_acts.specs.Log.{Logs, log_of_create, log_of_delete};
 ghost use Rattle.nc_region.specs.Patch.{AreBytesOf, IsPatched, IsPatch, log_of_patch};
-ghost use Rattle.nc_region.specs.Region.{IsCreated, Meets};
+ghost use Rattle.nc_region.specs.Region.{IsCreated, Meets, IsRegion};
 ghost use Rattle.nc_histories.specs.Calls.{no_details};
 ghost use Rattle.nc_histories.specs.Histories.{LogsCall};
 ghost use Rattle.nc_host_acts.specs.Standing.{AreBytesAt};
 ghost use Rattle.nc_host_handles.specs.RegionHandle.{IsLiveAt, IsShort, IsShortForPatch, HasBegunDeletion, HasEndedDeletion, IsNotLoaded, MayRefuseBegin, MayRefuseLoad, MayRefuseHandlePatch};
 ghost use Rattle.nc_host_handles.specs.Pending.{ReportsPending, DoesItself};
 ghost use Rattle.nc_host_handles.specs.Lent.{IsReported, bytes_of_span};
+ghost use Rattle.nc_host_handles.specs.machinery.Window.{HoldsText};
 
 use crate::fault::{LoadFault, PatchFault, RetireFault};
-use crate::region_handle::RegionHandle;
+use crate::region_handle::{HandleActs, RegionHandle};
 use crate::span::Span;
-use crate::window::read_window;
+use nc_decode::START;
 use nc_gens::LAST_GENERATION;
 use nc_host_acts::{NcAct, write_creation, write_deletion, write_patch};
-use nc_region::{Acts, Chunk, DeleteFault};
+use nc_region::{Acts, Chunk, DeleteFault, RegionOf};
 use nc_vet::Vetted;
 
 /// Whether a buffer is lent and has less room than this.
@@ -280,4 +281,24 @@ impl RegionHandle {
         };
         Ok((chunk, report_deletion(acts, &span)))
     }
+}
+
+/// The region's first `count` bytes from an address on, and then 0; also 0 after its end, and all 0 where the address is
+/// outside.
+pub(crate) fn read_window(region: &RegionOf<HandleActs>, at: u32, count: u32) -> [u8; 32]
+    requires { count ≤ 32 }
+    ensures read { HoldsText region.now.marked.bytes at result count }
+    ensures region { IsRegion region.now.marked region.now.chunks }
+{
+    let mut bytes = [0; 32];
+    let limit = region.limit();
+    if at < START || at >= limit {
+        return bytes;
+    }
+    for i in 0..count {
+        if i < limit - at {
+            bytes[i as usize] = region.byte(at + i);
+        }
+    }
+    bytes
 }

@@ -4,9 +4,8 @@ ghost use Rattle.std.specs.Prelude.{◌≡◌, Option, Some, None, IfSome, IsNon
 ghost use Rattle.nc_host_handles.specs.machinery.RegionPointer.{may_own, may_coded};
 ghost use Rattle.nc_host_handles.specs.RegionHandle.{RegionHandleState};
 
-use crate::parts::Parts;
+use crate::parts::{Parts, sent};
 use crate::region_handle::RegionHandle;
-use crate::sent::sent;
 use std::alloc::Global;
 use std::marker::Model;
 use std::mem::replace;

@@ -4,9 +4,8 @@ ghost use Rattle.std.specs.Prelude.{◌≡◌, Option, Some, None, IfSome, IsNon
 ghost use Rattle.nc_host_handles.specs.machinery.SeatPointer.{may_own, may_coded};
 ghost use Rattle.nc_gens.specs.Seen.{PassState};
 
-use crate::parts::Parts;
+use crate::parts::{Parts, sent};
 use crate::seat_handle::SeatHandle;
-use crate::sent::sent;
 use std::alloc::Global;
 use std::marker::Model;
 use std::mem::replace;

@@ -4,8 +4,7 @@ ghost use Rattle.std.specs.Prelude.{◌≡◌, Option, Some, None, IfSome, IsNon
 ghost use Rattle.nc_host_handles.specs.machinery.VettedPointer.{may_own, may_coded};
 ghost use Rattle.nc_host_handles.specs.declared.vetted_handle.VettedHandle.{VettedHandle};
 
-use crate::parts::Parts;
-use crate::sent::sent;
+use crate::parts::{Parts, sent};
 use crate::vetted_handle::VettedHandle;
 use std::alloc::Global;
 use std::marker::Model;

@@ -6,7 +6,7 @@ use Rattle.hex.specs.Hex.{hex_digit_value, digit_or_error, pair_value, ◌>>=◌
 use Rattle.hex.specs.declared.error.FromHexError.{FromHexError}
 use Rattle.nc_decode.proofs.Offered.{each_below, each_below-at}
 use Rattle.nc_lines.specs.machinery.Digits.{digit_entry, AreDigitValues}
-use Rattle.nc_lines.specs.declared.digits.TheConstants.{VALUES}
+use Rattle.nc_lines.specs.declared.words.TheConstants.{VALUES}
 
 -- the test of an entry of the table
 abbrev is_entered : ℕ → Bool

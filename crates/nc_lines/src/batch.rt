@@ -3,7 +3,7 @@
 ghost use Rattle.std.specs.Prelude.{◌≡◌, [], IfOk};
 ghost use Rattle.nc_lines.specs.machinery.Batch.{Gathers};
 
-use crate::responder::Responder;
+use crate::stream::Responder;
 use crate::words::placed_in_line;
 use nc_work::Job;
 use std::alloc::{AllocError, Global};

@@ -5,17 +5,15 @@
 //! [`words_of`], [`address_of`] and [`placed_of`] parse the words of a line; [`first_address_of`] and [`placed_at`] parse a text without a
 //! list of its words.
 //!
-//! `stream` reads the pieces, and `lines` cuts them into lines. `responder` is the trait, and `replies` holds replies back. `vetting`
-//! is [`vet_lines`]: `batch` gathers the lines, and `verdicts` writes the verdicts as replies. `words` parses the words of a line, and
-//! `digits` the bytes in them. `fault` says why a run ended early.
+//! `stream` has the trait and reads the pieces, `lines` cuts them into lines, and `replies` holds replies back. `vetting` is
+//! [`vet_lines`]: `batch` gathers the lines, and `verdicts` writes the verdicts as replies. `words` parses the words of a line, and the
+//! bytes in them. `fault` says why a run ended early.
 #![tactic(auto)]
 
 mod batch;
-mod digits;
 mod fault;
 mod lines;
 mod replies;
-mod responder;
 mod stream;
 mod verdicts;
 mod vetting;
@@ -23,7 +21,6 @@ mod words;
 
 pub use fault::ReplayFault;
 pub use lines::LINE_LIMIT;
-pub use responder::Responder;
-pub use stream::{reply_gathered, reply_to_all};
+pub use stream::{Responder, reply_gathered, reply_to_all};
 pub use vetting::vet_lines;
 pub use words::{address_of, first_address_of, placed_at, placed_of, words_of};

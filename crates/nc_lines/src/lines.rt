@@ -7,7 +7,7 @@ ghost use Rattle.nc_lines.specs.machinery.Progress.{RepliesToKept, IsOpen, Keeps
 
 use crate::fault::ReplayFault;
 use crate::replies::Replies;
-use crate::responder::Responder;
+use crate::stream::Responder;
 use memchr::memchr;
 use std::alloc::AllocError;
 use std::io::Write;

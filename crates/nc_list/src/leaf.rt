@@ -7,8 +7,8 @@ ghost use Rattle.nc_list.specs.Parts.{BeginTo, BeginAbove};
 
 use crate::chunk::Chunk;
 use crate::entry::Entry;
+use crate::list::Place;
 use crate::part::Part;
-use crate::place::Place;
 use std::alloc::{AllocError, Global};
 use std::marker::Model;
 

@@ -15,9 +15,9 @@
 //! A chunk takes 16 bytes. Two neighbouring leaves have more than 48 chunks in room for 128, and two neighbouring rows more than
 //! 96 leaves in room for 256. So a list takes at most 48 bytes for each chunk once it has more chunks than one leaf.
 //!
-//! `list` is [`ChunkList`], and `chunk` what it lists. `row`, `leaf` and `entry` are the levels of the tree, down to a chunk in 16
+//! `list` is [`ChunkList`] and [`Place`], and `chunk` what it lists. `row`, `leaf` and `entry` are the levels of the tree, down to a chunk in 16
 //! bytes. `part` is what rows and leaves have in common, `parts` are those of a row, and `starts` counts the chunks before each of
-//! them. `place` is where a search ended.
+//! them.
 #![tactic(auto)]
 
 mod chunk;
@@ -26,11 +26,9 @@ mod leaf;
 mod list;
 mod part;
 mod parts;
-mod place;
 mod row;
 mod starts;
 
 pub use chunk::{Chunk, ChunkState};
 pub use entry::Entry;
-pub use list::ChunkList;
-pub use place::Place;
+pub use list::{ChunkList, Place};

@@ -8,7 +8,7 @@ ghost use Rattle.nc_list.specs.Parts.{IsPut, AreParted};
 
 use crate::chunk::Chunk;
 use crate::entry::Entry;
-use crate::place::Place;
+use crate::list::Place;
 use std::alloc::{AllocError, Global};
 
 /// Chunks by ascending base.

@@ -4,9 +4,9 @@ ghost use Rattle.std.specs.Prelude.{◌≡◌, ◌+◌, ◌<◌, ◌≤◌, ◌^
 
 use crate::chunk::Chunk;
 use crate::entry::Entry;
+use crate::list::Place;
 use crate::part::Part;
 use crate::parts::{close_up, oldest_of, part_for_new, part_near, raised, take_one};
-use crate::place::Place;
 use crate::starts::{join_starts, lower, part_with, raise, split_starts};
 use std::alloc::{AllocError, Global};
 use std::marker::Model;

@@ -6,19 +6,17 @@
 //! much is written about a file, and in which form.
 //!
 //! `verdict` has the words of refusals, `shown` lines without control bytes, and `strings` the insides of JSON strings. `writing` is
-//! [`write_out`], `pipe_writer` is [`PipeWriter`], and `detail` is [`Style`].
+//! [`write_out`] and [`PipeWriter`], and `detail` is [`Style`].
 #![tactic(auto)]
 
 mod detail;
-mod pipe_writer;
 mod shown;
 mod strings;
 mod verdict;
 mod writing;
 
 pub use detail::{Detail, Format, Style};
-pub use pipe_writer::PipeWriter;
 pub use shown::push_detail;
 pub use strings::push_between;
 pub use verdict::{fault_name, place_of, push_address, push_byte, push_fault, push_name};
-pub use writing::{WriteFailed, write_out};
+pub use writing::{PipeWriter, WriteFailed, write_out};

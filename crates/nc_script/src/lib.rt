@@ -5,8 +5,7 @@
 //! [`run_gathered`] writes replies together, and [`run_queries`] also takes `chunk` lines.
 //!
 //! `replay` has these calls. `session` replies to a line, by the calls of a region and those on its threads' seats (`seats`). `request`
-//! parses the request that a line makes, and `query` replies to those that change nothing. `reply` writes the texts of replies, and
-//! `words` reads single words.
+//! parses the request that a line makes, `query` replies to those that change nothing, and `reply` writes the texts of replies.
 #![tactic(auto)]
 
 mod query;
@@ -15,6 +14,5 @@ mod reply;
 mod request;
 mod seats;
 mod session;
-mod words;
 
 pub use replay::{law_of_replies, run, run_gathered, run_queries};

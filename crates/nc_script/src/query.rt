@@ -8,7 +8,7 @@ ghost use Rattle.nc_script.specs.Script.{ScriptSeat};
 ghost use Rattle.nc_script.specs.machinery.Session.{FollowsIn, script_chunk, script_of};
 
 use crate::reply::push_chunk;
-use crate::words::is_word;
+use crate::request::is_word;
 use nc_region::{Acts, RegionOf};
 use std::alloc::{AllocError, Global};
 

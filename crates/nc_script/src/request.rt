@@ -1,17 +1,16 @@
 //! The request that a line makes.
 
-ghost use Rattle.std.specs.Prelude.{◌≡◌, ◌≤◌, ◌&&◌, Bool, IfOk, [], ◌∷◌, codes};
+ghost use Rattle.std.specs.Prelude.{◌≡◌, ◌≤◌, ◌&&◌, Bool, IfOk, [], ◌∷◌, codes, ◌*◌, ◌<◌, ℕ, IfSome};
 ghost use Rattle.std.specs.Option.{option_copied, option_map};
 ghost use Rattle.nc_lines.specs.Lines.{words_in};
 ghost use Rattle.nc_lines.specs.Words.{words_after};
-ghost use Rattle.nc_script.specs.Requests.{request_in, create_in, modify_in, delete_in, of_seat_in, walk_in};
-ghost use Rattle.nc_script.specs.Requests.{addresses_in, chunk_at_in};
+ghost use Rattle.nc_script.specs.Requests.{request_in, create_in, modify_in, delete_in, of_seat_in, walk_in, addresses_in, chunk_at_in, digit_in, next_digit, seat_in};
 ghost use Rattle.nc_script.specs.Queries as spelling;
 ghost use Rattle.nc_script.specs.Requests as spec;
 ghost use Rattle.nc_script.specs.machinery.Shown.{shown};
+ghost use Rattle.nc_script.specs.Queries.{is_word};
 
 use crate::query::{Query, query_of};
-use crate::words::{is_word, seat_of};
 use memchr::memchr;
 use nc_lines::{LINE_LIMIT, address_of, first_address_of, placed_at};
 use std::alloc::{AllocError, Global};
@@ -224,4 +223,47 @@ fn request_with(
         return Ok(chunk_of(text));
     }
     Ok(None)
+}
+
+/// Whether a word has this spelling.
+#[inline(always)]
+pub(crate) fn is_word(word: &[u8], spelling: &[u8]) -> bool
+    ensures { result ≡ is_word word.now spelling.now }
+{
+    word == spelling
+}
+
+/// The value of a decimal digit.
+fn digit_of(byte: u8) -> Option<u32>
+    ensures value { result ≡ digit_in byte }
+    ensures small { IfSome result (λ digit. digit < 10) }
+{
+    if b'0' <= byte && byte <= b'9' {
+        Some(u32::from(byte - b'0'))
+    } else {
+        None
+    }
+}
+
+/// The value of decimal digits, from the value of all but the last one, and the last one.
+fn next_digit(value: Option<u32>, byte: u8) -> Option<u32>
+    requires { IfSome value (λ high. high < 100) }
+    ensures value { result ≡ next_digit value byte }
+    ensures small { (n : ℕ) → IfSome value (λ high. high < n) → IfSome result (λ all. all < 10 * n) }
+{
+    let high = value?;
+    let low = digit_of(byte)?;
+    Some(10 * high + low)
+}
+
+/// The seat that a word denotes: one to three decimal digits.
+pub(crate) fn seat_of(word: &[u8]) -> Option<u32>
+    ensures { result ≡ seat_in word.now }
+{
+    match word {
+        [a] => digit_of(*a),
+        [a, b] => next_digit(digit_of(*a), *b),
+        [a, b, c] => next_digit(next_digit(digit_of(*a), *b), *c),
+        _ => None,
+    }
 }

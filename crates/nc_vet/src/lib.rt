@@ -29,8 +29,8 @@
 //!
 //! `vetting` has the order of the rules, `vetted` and `fault` its two results, and `law` the laws. A chunk is read by bundles first:
 //! `lanes` runs the automaton over eight of them in lock step, and `lane` over one, two or four. From the first bundle at whose end no
-//! instruction ends, `reading` goes on instruction by instruction, and finds the fault. `marks` keeps the marks, as bits where all
-//! bundles were read. `targets` finds the first bad target: by the bits, if they are kept, it passes over bundles without one
+//! instruction ends, `reading` goes on instruction by instruction, and finds the fault. The marks are kept as bits where all bundles
+//! were read (`vetted`). `targets` finds the first bad target: by the bits, if they are kept, it passes over bundles without one
 //! (`transfers`), and in many bundles first lists their transfers (`lists`).
 #![tactic(auto)]
 
@@ -39,7 +39,6 @@ mod lane;
 mod lanes;
 mod law;
 mod lists;
-mod marks;
 mod reading;
 mod targets;
 mod transfers;
@@ -49,7 +48,6 @@ mod vetting;
 pub use fault::VetFault;
 pub use lane::{States, run_four, run_one};
 pub use law::{law_of_profiles, law_of_verdicts};
-pub use marks::Marks;
 pub use nc_decode::{Bundle, Mark};
-pub use vetted::Vetted;
+pub use vetted::{Marks, Vetted};
 pub use vetting::{judge, vet};

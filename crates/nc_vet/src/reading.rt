@@ -9,7 +9,7 @@ ghost use Rattle.nc_vet.specs.machinery.Steps.{MayFollow, NoneMayFollow, masked_
 
 use crate::fault::VetFault;
 use crate::lanes::read_bundles;
-use crate::marks::Marks;
+use crate::vetted::Marks;
 use nc_decode::{BUNDLE, DecodeFault, Instr, Mark, bundle_rest, decode};
 use std::alloc::{AllocError, Global};
 

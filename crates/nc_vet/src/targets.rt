@@ -10,7 +10,7 @@ ghost use Rattle.nc_vet.specs.machinery.Running.{AreBitsTold};
 ghost use Rattle.nc_vet.specs.machinery.Steps.{HasReadAll, HasNoBadTargetAt, HasBadTargetAt, HasJudged, HasJudgedAll};
 
 use crate::lists::judged_bundles;
-use crate::marks::Marks;
+use crate::vetted::Marks;
 use nc_decode::{BUNDLE, Instr, bundle_rest, decode, is_outside_target, may_transfer};
 use std::alloc::Global;
 

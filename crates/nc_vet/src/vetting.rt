@@ -8,10 +8,9 @@ ghost use Rattle.nc_vet.specs.Listed.{listed};
 ghost use Rattle.nc_vet.specs.Verdict.{IsVerdict};
 
 use crate::fault::VetFault;
-use crate::marks::Marks;
 use crate::reading::read;
 use crate::targets::bad_target;
-use crate::vetted::Vetted;
+use crate::vetted::{Marks, Vetted};
 use nc_decode::{BUNDLE, START, is_bundle_start, is_lawful_limit};
 use std::alloc::Global;
 

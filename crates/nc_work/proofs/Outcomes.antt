@@ -4,7 +4,7 @@ use Rattle.std.proofs.Common.{None, sym, subst, ◌∙◌}
 use Rattle.std.specs.Prelude.{slice_get, Result}
 use Rattle.std.specs.Option.{ForSome}
 use Rattle.std.proofs.lemmas.Option.{slice_get_read, get_or_from_slice_get, same_Some}
-use Rattle.nc_vet.specs.declared.marks.Marks.{Marks}
+use Rattle.nc_vet.specs.declared.vetted.Marks.{Marks}
 use Rattle.nc_vet.specs.declared.fault.VetFault.{VetFault}
 use Rattle.nc_work.specs.declared.job.Job.{Job}
 use Rattle.nc_work.specs.Outcomes.{IsOutcomeOf, FitsJob, AreOutcomes}

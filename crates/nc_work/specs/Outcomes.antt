@@ -1,6 +1,6 @@
 -- Machinery, cited by no public contract: the outcomes of jobs, and their places.
 use Rattle.std.specs.Prelude.{◌≡◌, ℕ, List, slice_get, slice_index_or, Option, Some, None, Result, Ok, Err, ⊤}
-use Rattle.nc_vet.specs.declared.marks.Marks.{Marks}
+use Rattle.nc_vet.specs.declared.vetted.Marks.{Marks}
 use Rattle.nc_vet.specs.Listed.{listed}
 use Rattle.nc_vet.specs.declared.fault.VetFault.{VetFault}
 use Rattle.nc_vet.specs.Chunk.{IsValid}

@@ -2,7 +2,7 @@
 use Rattle.std.specs.Prelude.{ℕ, ◌≤◌, ◌^◌, ◌↔◌, List, map, filter}
 use Rattle.std.specs.List.{range_with_len}
 use Rattle.nc_elf.specs.declared.loaded.NcSegment.{NcSegment}
-use Rattle.nc_elf.specs.declared.segment.Segment.{Segment}
+use Rattle.nc_elf.specs.declared.listing.Segment.{Segment}
 use Rattle.nc_elf.specs.declared.sections.SymbolSections.{SymbolSections}
 use Rattle.nc_elf.specs.declared.symbols.Symbol.{Symbol}
 use Rattle.nc_elf.specs.Segments.{program_header, is_code, segment_of, is_present, loaded_of, EndBy}

@@ -6,8 +6,8 @@ use Rattle.nc_decode.specs.declared.automaton.TheConstants.{END, AFTER_SHORT, AF
 use Rattle.nc_decode.specs.Automaton.{next_state}
 use Rattle.nc_decode.specs.declared.bundle.Bundle.{Bundle}
 use Rattle.nc_vet.specs.States.{states_after}
-use Rattle.nc_vet.specs.declared.marks.Marks.{Marks}
-use Rattle.nc_vet.specs.declared.marks.Marks.TheVariants.{Bits, Each}
+use Rattle.nc_vet.specs.declared.vetted.Marks.{Marks}
+use Rattle.nc_vet.specs.declared.vetted.Marks.TheVariants.{Bits, Each}
 use Rattle.nc_decode.specs.Bits.{no_bits}
 
 -- the state after some bytes, from state s

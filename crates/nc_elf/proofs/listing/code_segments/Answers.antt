@@ -1,6 +1,6 @@
 use Rattle.std.proofs.Common.{List, All, AllPairs, Err, ap, sym, subst}
 use Rattle.nc_elf.specs.declared.fault.ElfFault.{ElfFault}
-use Rattle.nc_elf.specs.declared.segment.Segment.{Segment}
+use Rattle.nc_elf.specs.declared.listing.Segment.{Segment}
 use Rattle.nc_elf.specs.Header.{e_phnum}
 use Rattle.nc_elf.specs.Segments.{IsPlaced, EndsBefore}
 use Rattle.nc_elf.specs.Faults.{HasElfFault}

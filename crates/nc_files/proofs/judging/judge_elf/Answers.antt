@@ -15,7 +15,7 @@ returns-in-Ok g c =
     let before = g.W.Write.contents c.args.writer.now in
     let after = g.W.Write.contents c.judge_parts.new.writer in
     let same = judged_segments request.style.format name code parts (segments_of code)
-        c.in-Ok.ensures.bases c.in-Ok.ensures.names c.in-Ok.ensures.codes in
+    c.in-Ok.ensures.bases c.in-Ok.ensures.names c.in-Ok.ensures.codes in
     IfOk-weaker c.judge_parts.result (λ (refused : Bool). HasWritten (ReportsAll request (map judged_in parts) refused) before after)
     (λ (refused : Bool). HasWritten (ReportsElf request name code refused) before after)
     (λ refused h. written_so (ReportsAll request (map judged_in parts) refused) (ReportsElf request name code refused) before after

@@ -8,5 +8,5 @@ use Rattle.nc_files.proofs.judging.judge_parts.Given as goal
 abbrev pub invariant-loop-part : goal.invariant-loop-part
 invariant-loop-part g l =
     (done : List Judged) × (map judged_in (into_iter_items l.initial.part-iterator)
-        ≡ done ++ map judged_in (into_iter_items l.part-iterator))
+    ≡ done ++ map judged_in (into_iter_items l.part-iterator))
     × HasWritten (ReportsAll l.request done l.is_refused) (g.W.Write.contents l.initial.writer) (g.W.Write.contents l.writer)

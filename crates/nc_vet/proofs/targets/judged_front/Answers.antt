@@ -1,6 +1,6 @@
 use Rattle.std.proofs.Common.{◌*◌, List, subst, sym}
 use Rattle.nc_decode.specs.declared.bundle.Bundle.{Bundle}
-use Rattle.nc_vet.specs.declared.marks.Marks.{Marks}
+use Rattle.nc_vet.specs.declared.vetted.Marks.{Marks}
 use Rattle.nc_vet.specs.machinery.Judged.{AreJudged}
 use Rattle.nc_vet.specs.Listed.{listed}
 use Rattle.nc_vet.specs.machinery.Running.{AreBitsTold}

@@ -1,5 +1,0 @@
-use Rattle.std.proofs.Common.{refl}
-use Rattle.nc_elf.proofs.segment.Segment.bytes.Goals as goal
-
-pub returns : goal.returns
-returns c = refl

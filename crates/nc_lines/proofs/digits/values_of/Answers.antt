@@ -1,5 +1,0 @@
-use Rattle.nc_lines.proofs.DigitLanes.{lanes_valued}
-use Rattle.nc_lines.proofs.digits.values_of.Goals as goal
-
-pub returns : goal.returns
-returns c = lanes_valued c.args.digits c.requires

@@ -1,5 +1,0 @@
-use Rattle.std.proofs.Common.{rules}
-use Rattle.nc_output.proofs.pipe_writer.is_of_pipe.Goals as goal
-
-pub returns : goal.returns
-returns c = search rules
