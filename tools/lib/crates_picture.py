@@ -1,4 +1,4 @@
-"""The graph of crates by layers: each stands above what it uses, and a line that follows from others is left out."""
+"""The graph of crates: families side by side, and each crate above what it uses. A line that follows from others is left out."""
 
 import itertools
 import os
@@ -9,10 +9,42 @@ from svg import BLUE, FILLS, GRAY, GREEN, ORANGE, Picture, width_of
 LIST = "crates.txt"
 # Tests and benchmarks, which nothing uses, and which use nearly everything.
 BESIDE = {"nc_tests", "nc_bench", "nc_jobs"}
+# The families, from left to right, with the part of the width that each has.
+FAMILIES = [
+    ("Command lines", 0.13, {"nc_cli", "nc_command"}),
+    ("Files to verdicts", 0.29, {"nc_mnemonics", "nc_disasm", "nc_reading", "nc_report", "nc_output", "nc_files", "nc_check"}),
+    ("Scripts to replies", 0.12, {"nc_work", "nc_lines", "nc_script", "nc_replay"}),
+    ("The region", 0.29, {"nc_decode", "nc_vet", "nc_text", "nc_gens", "nc_list", "nc_acts", "nc_region", "nc_histories", "nc_elf"}),
+    ("Hosts", 0.17, {"nc_host_acts", "nc_host_handles", "nc_host", "nc_host_law", "nc_embed"}),
+]
 SWEEPS = 40
-HEAD, STEP, HIGH, APART = 62, 88, 36, 22
-LEFT, RIGHT = 110, 880
+CRATE = 30
+HEAD, STEP, HIGH, APART = 84, 80, 34, 10
+LEFT, RIGHT = 78, 1120
 COLORS = {"program": ORANGE, "library for C": GREEN, "crate": BLUE}
+
+
+def family_of(name):
+    """The number of a crate's family."""
+    return next(k for k, (_, _, names) in enumerate(FAMILIES) if name in names)
+
+
+def bands():
+    """The left and the right edge of each family."""
+    edges = [LEFT + (RIGHT - LEFT) * sum(part for _, part, _ in FAMILIES[:k]) for k in range(len(FAMILIES) + 1)]
+    return list(zip(edges, edges[1:]))
+
+
+def in_families(row):
+    """Whether the crates of a row stand in the order of the families."""
+    families = [family_of(place) for place in row if isinstance(place, str)]
+    return families == sorted(families)
+
+
+def settled(row):
+    """A row with its crates in the order of the families, each where one stood."""
+    names = iter(sorted((place for place in row if isinstance(place, str)), key=family_of))
+    return [next(names) if isinstance(place, str) else place for place in row]
 
 
 def crates():
@@ -94,14 +126,14 @@ class Graph:
         return count
 
     def sort(self, k, beside):
-        """Sorts a row by where the places beside it stand on the average."""
+        """Sorts a row by where the places beside it stand on the average, and by families."""
         at = {place: i / max(1, len(row) - 1) for row in self.rows for i, place in enumerate(row)}
 
         def mean(place):
             near = beside[place]
             return sum(at[one] for one in near) / len(near) if near else at[place]
 
-        self.rows[k].sort(key=mean)
+        self.rows[k] = settled(sorted(self.rows[k], key=mean))
 
     def swap(self):
         """Exchanges neighbours as long as fewer lines cross."""
@@ -111,7 +143,7 @@ class Graph:
             for row in self.rows:
                 for i, j in itertools.combinations(range(len(row)), 2):
                     row[i], row[j] = row[j], row[i]
-                    if self.crossings() < best:
+                    if in_families(row) and self.crossings() < best:
                         best, again = self.crossings(), True
                     else:
                         row[i], row[j] = row[j], row[i]
@@ -119,6 +151,7 @@ class Graph:
 
     def order(self):
         """Puts the places of each row in an order in which few lines cross."""
+        self.rows = [settled(row) for row in self.rows]
         best, kept = None, None
         for sweep in range(SWEEPS):
             upwards = sweep % 2 == 0
@@ -135,31 +168,43 @@ def wide(place):
 
 
 def spread(row, wanted):
-    """Places of a row as near as can be to where they are wanted, each beside the next: by the means of those that push each other."""
+    """Places of a row as near as can be to where they are wanted, each beside the next: by the means of those that push each other, where
+    a crate counts more than a line that passes."""
     begins = [0.0]
     for one, other in zip(row, row[1:]):
         begins.append(begins[-1] + (wide(one) + wide(other)) / 2 + APART)
     groups = []
     for k, place in enumerate(row):
-        groups.append([wanted[place] - begins[k], 1])
+        groups.append((wanted[place] - begins[k], CRATE if isinstance(place, str) else 1, 1))
         while len(groups) > 1 and groups[-2][0] > groups[-1][0]:
-            value, count = groups.pop()
-            groups[-1] = [(groups[-1][0] * groups[-1][1] + value * count) / (groups[-1][1] + count), groups[-1][1] + count]
-    means = [value for value, count in groups for _ in range(count)]
+            (one, weight, count), (other, more, others) = groups[-2:]
+            groups[-2:] = [((one * weight + other * more) / (weight + more), weight + more, count + others)]
+    means = [value for value, _, count in groups for _ in range(count)]
     low, high = LEFT + wide(row[0]) / 2, RIGHT - begins[-1] - wide(row[-1]) / 2
     return {place: min(max(mean, low), high) + begin for place, mean, begin in zip(row, means, begins)}
+
+
+def kept_within(row, wanted):
+    """Where the places of a row are wanted, with each crate beside its fellows in the band of its family."""
+    kept = dict(wanted)
+    for k, (left, right) in enumerate(bands()):
+        names = [place for place in row if isinstance(place, str) and family_of(place) == k]
+        widths = [wide(name) + APART for name in names]
+        for i, name in enumerate(names):
+            low, high = left + sum(widths[:i]) + widths[i] / 2, right - sum(widths[i + 1:]) - widths[i] / 2
+            kept[name] = max(min(wanted[name], high), low)
+    return kept
 
 
 def across(graph):
     """Where each place stands in its row: near the places above and below it."""
     at = {}
     for row in graph.rows:
-        at.update(spread(row, {place: LEFT + (RIGHT - LEFT) * (k + 0.5) / len(row) for k, place in enumerate(row)}))
+        at.update(spread(row, kept_within(row, {place: LEFT + (RIGHT - LEFT) * (k + 0.5) / len(row) for k, place in enumerate(row)})))
     for sweep in range(SWEEPS):
         for row in graph.rows if sweep % 2 else reversed(graph.rows):
-            near = {place: graph.above[place] + graph.below[place] for place in row}
-            at.update(spread(row, {place: sum(at[one] for one in near[place]) / len(near[place]) if near[place] else at[place]
-                                   for place in row}))
+            near = {place: graph.above[place] + graph.below[place] or [place] for place in row}
+            at.update(spread(row, kept_within(row, {place: sum(map(at.get, near[place])) / len(near[place]) for place in row})))
     return at
 
 
@@ -171,6 +216,14 @@ def draw_lines(picture, graph, at, level):
             y = level[place]
             points += [(at[place], y + HIGH / 2)] if isinstance(place, str) else [(at[place], y + 4), (at[place], y + HIGH - 4)]
         picture.curve(points)
+
+
+def draw_families(picture, bottom):
+    """A ground for each family, with its name at the top."""
+    for k, ((left, right), (name, _, _)) in enumerate(zip(bands(), FAMILIES)):
+        if k % 2 == 0:
+            picture.rect((left, HEAD - 36, right - left, bottom - HEAD + 48), "#f5f6f8")
+        picture.text(((left + right) / 2, HEAD - 18), name, "middle", 13, GRAY, "bold")
 
 
 def legend(picture, y, uses):
@@ -191,9 +244,10 @@ def draw():
     graph.order()
     at, count = across(graph), len(graph.rows)
     picture = Picture("The crates: a line goes down to a crate that is used",
-                      f"The crates by layers, programs and the library for C above what they use. {LIST} lists what each uses.")
+                      f"The crates by families, each above those that it uses. {LIST} lists what each uses.", RIGHT + 10)
     tops = [HEAD + STEP * (count - 1 - k) for k in range(count)]
     level = {place: tops[k] for k, row in enumerate(graph.rows) for place in row}
+    draw_families(picture, tops[0] + HIGH)
     draw_lines(picture, graph, at, level)
     for k, y in enumerate(tops):
         picture.text((18, y + 23), f"Layer {k + 1}", size=13, color=GRAY, face="bold")
