@@ -36,11 +36,11 @@ extern "C" {
 
 /* ---- Numbers */
 
-#define NC_BUNDLE 32u            /* bytes in a bundle */
-#define NC_START 0x10000u        /* a region's first address */
-#define NC_MIN_BUNDLES 2u        /* in a region: one, and the guard */
-#define NC_MAX_BUNDLES 2097152u  /* 64 MiB */
-#define NC_STOP 0xF4u            /* hlt */
+#define NC_BUNDLE 32u           /* bytes in a bundle */
+#define NC_START 0x10000u       /* a region's first address */
+#define NC_MIN_BUNDLES 2u       /* in a region: one, and the guard */
+#define NC_MAX_BUNDLES 2097152u /* 64 MiB */
+#define NC_STOP 0xF4u           /* hlt */
 
 /* Versions with the same major number above 0 agree on all that both have. */
 #define NC_VERSION_MAJOR 0u
@@ -184,14 +184,14 @@ typedef struct NcInstruction {
     uint32_t fault;
     uint32_t length;
     uint32_t flow;
-    int32_t rel;      /* the displacement of a direct transfer, else 0 */
-    uint32_t reg;     /* of an indirect transfer, else 0 */
-    uint32_t masks;   /* NC_MASKED(r) for a mask of r, not ESP; else 0 */
+    int32_t rel;    /* the displacement of a direct transfer, else 0 */
+    uint32_t reg;   /* of an indirect transfer, else 0 */
+    uint32_t masks; /* NC_MASKED(r) for a mask of r, not ESP; else 0 */
 } NcInstruction;
 
 typedef struct NcVerdict {
     uint32_t fault;
-    uint32_t at;  /* the address of a fault from 4 to 7, else 0 */
+    uint32_t at; /* the address of a fault from 4 to 7, else 0 */
 } NcVerdict;
 
 /* A loaded segment of an ELF file: p_vaddr, p_offset, p_filesz, p_memsz and p_flags of its program header. */
@@ -204,9 +204,9 @@ typedef struct NcSegment {
 } NcSegment;
 
 typedef struct NcSegments {
-    size_t count;     /* segments written, or for NC_NO_ROOM all */
+    size_t count; /* segments written, or for NC_NO_ROOM all */
     uint32_t fault;
-    uint32_t header;  /* for 56 to 61 the program header, counted from 0 */
+    uint32_t header; /* for 56 to 61 the program header, counted from 0 */
 } NcSegments;
 
 typedef struct NcAct {
@@ -231,8 +231,8 @@ typedef struct NcVetted {
 
 typedef struct NcChange {
     uint32_t fault;
-    uint32_t at;   /* as in NcVerdict */
-    size_t count;  /* elements written, or for NC_NO_ROOM a length that is enough */
+    uint32_t at;  /* as in NcVerdict */
+    size_t count; /* elements written, or for NC_NO_ROOM a length that is enough */
 } NcChange;
 
 typedef struct NcStamp {
@@ -246,11 +246,11 @@ typedef struct NcCount {
 } NcCount;
 
 typedef struct NcChunk {
-    uint64_t stamp;    /* of a retired chunk, else 0 */
+    uint64_t stamp; /* of a retired chunk, else 0 */
     uint32_t fault;
     uint32_t base;
     uint32_t length;
-    uint32_t retired;  /* 1, or 0 if live */
+    uint32_t retired; /* 1, or 0 if live */
 } NcChunk;
 
 typedef struct NcPlace {
@@ -260,7 +260,7 @@ typedef struct NcPlace {
 } NcPlace;
 
 typedef struct NcWalk {
-    size_t count;    /* places written, or for NC_NO_ROOM all */
+    size_t count; /* places written, or for NC_NO_ROOM all */
     uint32_t fault;
     uint32_t end;
 } NcWalk;
@@ -438,8 +438,10 @@ void nc_seat_leave(NcSeat *seat);
 #else
 #define NC_UNUSED
 #endif
+/* clang-format off */
 #define NC_NAME_OF(fault, sentence) case fault: return #fault;
 #define NC_SENTENCE_OF(fault, sentence) case fault: return sentence;
+/* clang-format on */
 
 NC_UNUSED static const char *nc_fault_name(uint32_t fault) {
     switch (fault) { NC_FAULTS(NC_NAME_OF) }

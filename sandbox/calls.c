@@ -8,8 +8,8 @@
 #define FLAGS_OF_CODE 0xCD5u /* those that code can change: CF, PF, AF, ZF, SF, DF and OF */
 
 const char *ncs_how(uint32_t how) {
-    static const char *const words[] = {"returned", "stopped", "faulted", "late", "killed", "exited", "bad entry", "bad call", "denied",
-                                        "too deep", "dead", "busy", "host"};
+    static const char *const words[] = {"returned", "stopped", "faulted",  "late", "killed", "exited", "bad entry",
+                                        "bad call", "denied",  "too deep", "dead", "busy",   "host"};
     return how < sizeof words / sizeof *words ? words[how] : "?";
 }
 
@@ -106,8 +106,11 @@ static int can_enter(const NcsBox *b, uint32_t place) {
 
 /* Why the thread, which is in the host, can't go in, or NCS_RETURNED if it can. What happens behind this look the next tick sees. */
 static uint32_t refuses(NcsBox *b, const Thread *t) {
-    return !can_enter(b, t->place) ? NCS_BAD_ENTRY : !ncs_module_is_ours(b->module) ? NCS_HOST : ncs_is_killed(t) ? NCS_KILLED
-         : t->used >= t->deadline ? NCS_LATE : NCS_RETURNED;
+    return !can_enter(b, t->place)        ? NCS_BAD_ENTRY
+         : !ncs_module_is_ours(b->module) ? NCS_HOST
+         : ncs_is_killed(t)               ? NCS_KILLED
+         : t->used >= t->deadline         ? NCS_LATE
+                                          : NCS_RETURNED;
 }
 
 /* Whether the thread has been inside. It has a seat just while it is, so a call-back holds no reclaim back, however long it takes. A thread
@@ -153,15 +156,11 @@ static NcsEnd run(NcsBox *b, Thread *t) {
         }
         entered = 1;
         switch (t->why) {
-        case OUT_RETURN:
-            return returned(t);
-        case OUT_TRAP:
-            return trapped(b, t);
-        case OUT_LOST:
-            return ended(b, t, NCS_HOST);
+        case OUT_RETURN: return returned(t);
+        case OUT_TRAP: return trapped(b, t);
+        case OUT_LOST: return ended(b, t, NCS_HOST);
         case OUT_TICK:
-        case OUT_SIGNALS:
-            return ended(b, t, ncs_is_killed(t) ? NCS_KILLED : NCS_LATE);
+        case OUT_SIGNALS: return ended(b, t, ncs_is_killed(t) ? NCS_KILLED : NCS_LATE);
         default:
             if (!serve(b, t)) {
                 return b->end;

@@ -12,10 +12,10 @@
 #pragma GCC visibility push(hidden)
 
 #define PAGE 4096u
-#define DATA_LEAST 0x10000u   /* below it no address of a box's data is there */
-#define STACK_LEAST 0x10000u  /* bytes of stack, at least, below the data */
-#define STACK_TOP 0x110000u   /* of a module without data */
-#define HOST_CODE 0x33u       /* the process's own selectors */
+#define DATA_LEAST 0x10000u  /* below it no address of a box's data is there */
+#define STACK_LEAST 0x10000u /* bytes of stack, at least, below the data */
+#define STACK_TOP 0x110000u  /* of a module without data */
+#define HOST_CODE 0x33u      /* the process's own selectors */
 #define HOST_DATA 0x2Bu
 #define PAGE_FAULT 14
 #define GENERAL_PROTECTION 13
@@ -35,13 +35,13 @@ enum { CALLS_ALLOWED, CALLS_DISPATCHED };
 typedef struct Mask {
     volatile uint8_t selector; /* one of these; the system reads it at each system call, if that is armed */
     volatile int armed;
-    uint32_t how;              /* NCS_SIGNALS_BLOCKED, .. */
-    uint64_t hosts;            /* the host's own mask, while another one is on */
-    unsigned outs;             /* how often the thread came out since a system call was last dispatched */
-    unsigned doubled;          /* how often the number of those was doubled after which the mask stays on */
-    int is_useless;            /* the system dispatches no calls */
-    volatile int looks;        /* at the handlers before the next way in */
-    unsigned entries;          /* since the last look */
+    uint32_t how;       /* NCS_SIGNALS_BLOCKED, .. */
+    uint64_t hosts;     /* the host's own mask, while another one is on */
+    unsigned outs;      /* how often the thread came out since a system call was last dispatched */
+    unsigned doubled;   /* how often the number of those was doubled after which the mask stays on */
+    int is_useless;     /* the system dispatches no calls */
+    volatile int looks; /* at the handlers before the next way in */
+    unsigned entries;   /* since the last look */
 } Mask;
 
 struct Thread;
@@ -72,16 +72,16 @@ typedef struct Thread {
     uint32_t place, code_selector; /* a far pointer */
     uint64_t host_stack;
     uint32_t why, data_selector;
-    uint32_t flags;      /* with which it goes in, if it serializes */
-    uint32_t serializes; /* at its next way in */
-    void *landing;       /* ncs_switch_landing */
-    uint32_t trap, fault_at; /* of OUT_TRAP: its interrupt, and the linear address of a page fault, else 0 */
-    uint32_t at_stop;        /* of OUT_TRAP: whether it was a stop of the code's own */
-    uint32_t life;           /* of the process when it was prepared */
-    uint32_t texts;          /* ncs_texts when it last serialized */
-    volatile uint64_t used;  /* of its processor time, in nanoseconds, at the last tick while calls were under way */
+    uint32_t flags;             /* with which it goes in, if it serializes */
+    uint32_t serializes;        /* at its next way in */
+    void *landing;              /* ncs_switch_landing */
+    uint32_t trap, fault_at;    /* of OUT_TRAP: its interrupt, and the linear address of a page fault, else 0 */
+    uint32_t at_stop;           /* of OUT_TRAP: whether it was a stop of the code's own */
+    uint32_t life;              /* of the process when it was prepared */
+    uint32_t texts;             /* ncs_texts when it last serialized */
+    volatile uint64_t used;     /* of its processor time, in nanoseconds, at the last tick while calls were under way */
     volatile uint64_t deadline; /* of the innermost call */
-    NcsBox *volatile box;    /* of the innermost call */
+    NcsBox *volatile box;       /* of the innermost call */
     volatile unsigned depth;
     volatile int ticking;
     int begins; /* a call that isn't within another one, until its first way in */
@@ -89,11 +89,11 @@ typedef struct Thread {
     void *stack; /* the alternate stack that the library made, or NULL */
     size_t stack_len;
     Mask mask;
-    unsigned seat;       /* the one that it had last in live code, and tries first */
-    Live *seated;        /* the code of which it has that one, else NULL */
-    uint32_t met_at;     /* where it went back to an instruction whose stop was gone, since it went in; else 0 */
+    unsigned seat;                   /* the one that it had last in live code, and tries first */
+    Live *seated;                    /* the code of which it has that one, else NULL */
+    uint32_t met_at;                 /* where it went back to an instruction whose stop was gone, since it went in; else 0 */
     uint64_t met_changes, met_stops; /* the count of changes then; and how often that has happened */
-    Frame frames[NCS_DEPTH_MAX]; /* `depth` of them, the innermost one last */
+    Frame frames[NCS_DEPTH_MAX];     /* `depth` of them, the innermost one last */
 } Thread;
 
 extern __attribute__((tls_model("initial-exec"))) __thread Thread *ncs_thread;
@@ -111,10 +111,10 @@ uint32_t ncs_segment_code(uint32_t base, uint32_t len);
 uint32_t ncs_segment_data(uint32_t base, uint32_t len); /* both: a selector, or 0 if none is left; a length is whole pages [7, 8] */
 void ncs_segment_free(uint32_t selector);
 uint32_t ncs_low_new(uint32_t len, int protection, int file); /* its address, or 0; of a file, or with -1 of zeros. Under ncs_lock */
-void ncs_low_free(uint32_t at, uint32_t len); /* never under a lock */
-int ncs_low_empty(uint32_t at, uint32_t len); /* whether its pages are as new; never under a lock */
-int ncs_low_keep(uint32_t at, uint32_t len); /* no child gets it */
-int ncs_low_seal(uint32_t at, uint32_t len); /* the same, and makes it executable, and no longer writable */
+void ncs_low_free(uint32_t at, uint32_t len);                 /* never under a lock */
+int ncs_low_empty(uint32_t at, uint32_t len);                 /* whether its pages are as new; never under a lock */
+int ncs_low_keep(uint32_t at, uint32_t len);                  /* no child gets it */
+int ncs_low_seal(uint32_t at, uint32_t len);                  /* the same, and makes it executable, and no longer writable */
 int ncs_base_zero_new(uint32_t len); /* whether all from DATA_LEAST up to `len` is the caller's now, without access. Under ncs_lock */
 int ncs_base_zero_close(void); /* whether nobody else has a page below DATA_LEAST, or gets one. If not, it takes none. Under ncs_lock */
 void ncs_base_zero_free(uint32_t len); /* never under a lock */
@@ -131,15 +131,15 @@ static inline uint32_t ncs_life(void) {
     return page != NULL ? *page : 0;
 }
 int ncs_may_begin(NcsRefusal *why); /* whether this isn't a child of which the library has learned nothing */
-int ncs_prepare(NcsRefusal *why); /* whether this process can have a module or a box now */
-void ncs_unprepare(void);         /* after ncs_prepare, of what wasn't made. The first one leaves nothing behind */
-void *ncs_refuse(NcsRefusal *why, uint32_t kind, const char *sentence); /* NULL */
+int ncs_prepare(NcsRefusal *why);   /* whether this process can have a module or a box now */
+void ncs_unprepare(void);           /* after ncs_prepare, of what wasn't made. The first one leaves nothing behind */
+void *ncs_refuse(NcsRefusal *why, uint32_t kind, const char *sentence);            /* NULL */
 int ncs_refuse_fault(NcsRefusal *why, uint32_t kind, uint32_t fault, uint32_t at); /* 0; NCS_NO_MEMORY if the fault says so */
-int ncs_refuse_signal(NcsRefusal *why, uint32_t kind, int sig); /* 0 */
-void ncs_must(int good, const char *what); /* what can't be, and must not pass unseen */
-Thread *ncs_thread_get(void); /* the calling thread, prepared; NULL if it can't be */
-int ncs_thread_has_stack(void); /* whether it has an alternate stack now that is a good one [22] */
-int ncs_thread_watch(Thread *thread); /* starts the ticks, once depth is above 0; whether they run */
+int ncs_refuse_signal(NcsRefusal *why, uint32_t kind, int sig);                    /* 0 */
+void ncs_must(int good, const char *what);                                         /* what can't be, and must not pass unseen */
+Thread *ncs_thread_get(void);                                                      /* the calling thread, prepared; NULL if it can't be */
+int ncs_thread_has_stack(void);        /* whether it has an alternate stack now that is a good one [22] */
+int ncs_thread_watch(Thread *thread);  /* starts the ticks, once depth is above 0; whether they run */
 void ncs_thread_count(Thread *thread); /* reads its processor time */
 int ncs_threads_begin(void);
 void ncs_threads_end(void);
@@ -150,21 +150,21 @@ void ncs_threads_end(void);
 #define MILLISECOND 1000000ull /* nanoseconds */
 #define TICK (10 * MILLISECOND)
 #define SIGNALS 65
-#define SIGNAL_BIT(sig) (1ull << ((sig) - 1))
+#define SIGNAL_BIT(sig) (1ull << ((sig)-1))
 #define FIRST_OF_LIBC 32 /* pthread_cancel's; and behind it the one of setuid */
 #define LAST_OF_LIBC 33
 
 extern struct sigaction ncs_before[SIGNALS]; /* what handled this library's signals before */
 
 int ncs_is_killed(const Thread *thread); /* the box of its innermost call, or one around it */
-int ncs_is_over(const Thread *thread); /* whether this call is to end, or one around it, with which it ends too */
+int ncs_is_over(const Thread *thread);   /* whether this call is to end, or one around it, with which it ends too */
 int ncs_signals_begin(void);
 void ncs_signals_end(void);
-int ncs_signals_unblock(void);  /* those of this library, in this thread [24] */
-uint64_t ncs_signals_own(void); /* the bits of those that stay unblocked while a thread is inside */
-int ncs_signals_lost(void);     /* the number of a signal of this library that has another handler by now, or 0 */
-int ncs_signals_dispatch(void); /* whether SIGSYS is this library's now */
-int ncs_signals_of_libc(void);  /* whether glibc's own two handlers are there, and have SA_ONSTACK */
+int ncs_signals_unblock(void);             /* those of this library, in this thread [24] */
+uint64_t ncs_signals_own(void);            /* the bits of those that stay unblocked while a thread is inside */
+int ncs_signals_lost(void);                /* the number of a signal of this library that has another handler by now, or 0 */
+int ncs_signals_dispatch(void);            /* whether SIGSYS is this library's now */
+int ncs_signals_of_libc(void);             /* whether glibc's own two handlers are there, and have SA_ONSTACK */
 int ncs_signals_promised(NcsRefusal *why); /* whether each handler has SA_ONSTACK [21] */
 
 /* ---- elf.c */
@@ -183,8 +183,8 @@ typedef struct Image {
     size_t symbols, symbol_count, names, names_len; /* where they are in the file */
 } Image;
 
-const char *ncs_elf_read(Image *image); /* NULL, or what is wrong */
-uint32_t ncs_elf_symbol(const Image *image, const char *name); /* 0 if there is none */
+const char *ncs_elf_read(Image *image);                                          /* NULL, or what is wrong */
+uint32_t ncs_elf_symbol(const Image *image, const char *name);                   /* 0 if there is none */
 const char *ncs_elf_function(const Image *image, uint32_t at, uint32_t *offset); /* NULL if there is none */
 void ncs_elf_copy_data(const Image *image, uintptr_t to); /* each segment of data to its address, counted from `to` */
 
@@ -222,7 +222,7 @@ int ncs_live_meet(Live *live, Thread *thread, uint32_t place);
 /* ---- livecode.c */
 
 int ncs_live_fill(NcsModule *module, uint32_t end); /* under the lock: whether the text has pages up to there now */
-void ncs_live_free(NcsModule *module); /* NULL is allowed in it */
+void ncs_live_free(NcsModule *module);              /* NULL is allowed in it */
 
 /* ---- seats.c */
 
@@ -240,21 +240,21 @@ int ncs_area_clear(NcsBox *box); /* deletes the chunks there. Whether it has */
 
 struct NcsModule {
     Image image;
-    uint32_t life; /* of the process that made it */
-    int users; /* itself and its boxes; under ncs_lock */
+    uint32_t life;                     /* of the process that made it */
+    int users;                         /* itself and its boxes; under ncs_lock */
     uint32_t text_at, limit, selector; /* the linear address of place 0, and the limit of the code */
-    Live *live; /* NULL if the text never changes */
-    uint32_t room; /* of live code: where it begins, behind the file's code */
+    Live *live;                        /* NULL if the text never changes */
+    uint32_t room;                     /* of live code: where it begins, behind the file's code */
 };
 
 /* What boxes have that share their memory. */
 typedef struct Memory {
     uint32_t at, selector; /* the linear address of its address 0, which may be 0 */
     int is_base_zero;
-    uint32_t heap;  /* where its free part begins; atomic */
-    NcsSpan area;   /* in which their code may change code; written once, under ncs_lock */
-    int has_area;   /* under ncs_lock */
-    NcsBox *boxes;  /* a list by `next`, under ncs_lock */
+    uint32_t heap; /* where its free part begins; atomic */
+    NcsSpan area;  /* in which their code may change code; written once, under ncs_lock */
+    int has_area;  /* under ncs_lock */
+    NcsBox *boxes; /* a list by `next`, under ncs_lock */
 } Memory;
 
 struct NcsBox {
@@ -264,8 +264,8 @@ struct NcsBox {
     NcsBox *next;
     uint32_t data_at; /* the memory's */
     uint32_t stack;   /* from where it grows down */
-    Thread *owner; /* whose call is under way; atomic */
-    int killed;    /* atomic */
+    Thread *owner;    /* whose call is under way; atomic */
+    int killed;       /* atomic */
     int denied, dead;
     uint32_t nest_at; /* the stack pointer that the code left at its last call of the host: untrusted */
     NcsEnd end;       /* what left it dead */
@@ -278,10 +278,10 @@ struct NcsBox {
 };
 
 NcsModule *ncs_module_new(const void *bytes, size_t len, NcsRefusal *why); /* with a copy of these bytes, and no text yet */
-uint32_t ncs_bundles_for(uint32_t bundles); /* of the region whose guard is behind so many [7] */
-void ncs_zone_lay(uint8_t *text); /* trampolines, and stops everywhere else below NC_START [11] */
-void ncs_module_drop(NcsModule *module); /* one user less */
-void ncs_calls_abandon(Thread *thread); /* those under way, which nothing returns to */
+uint32_t ncs_bundles_for(uint32_t bundles);                                /* of the region whose guard is behind so many [7] */
+void ncs_zone_lay(uint8_t *text);                                          /* trampolines, and stops everywhere else below NC_START [11] */
+void ncs_module_drop(NcsModule *module);                                   /* one user less */
+void ncs_calls_abandon(Thread *thread);                                    /* those under way, which nothing returns to */
 int ncs_box_has(const NcsBox *box, uint64_t at, uint64_t len);
 uint8_t *ncs_box_data(const NcsBox *box, uint32_t at);
 

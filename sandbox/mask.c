@@ -25,7 +25,9 @@ enum { SET_DISPATCH = 59, DISPATCH_OFF = 0, DISPATCH_ON = 1, DISPATCHED_CALL = 2
 static int set_mask(const uint64_t *mask, uint64_t *old) {
     long made;
     register long len __asm__("r10") = sizeof *mask;
-    __asm__ volatile("syscall" : "=a"(made) : "0"((long)SYS_rt_sigprocmask), "D"(SIG_SETMASK), "S"(mask), "d"(old), "r"(len)
+    __asm__ volatile("syscall"
+                     : "=a"(made)
+                     : "0"((long)SYS_rt_sigprocmask), "D"(SIG_SETMASK), "S"(mask), "d"(old), "r"(len)
                      : "rcx", "r11", "memory");
     return made == 0;
 }
@@ -43,8 +45,7 @@ static int claim(Mask *m) {
 }
 
 static void arm(Mask *m, int on) {
-    int made = on ? prctl(SET_DISPATCH, (long)DISPATCH_ON, 0l, 0l, &m->selector)
-                  : prctl(SET_DISPATCH, (long)DISPATCH_OFF, 0l, 0l, 0l);
+    int made = on ? prctl(SET_DISPATCH, (long)DISPATCH_ON, 0l, 0l, &m->selector) : prctl(SET_DISPATCH, (long)DISPATCH_OFF, 0l, 0l, 0l);
     m->armed = on && made == 0;
     m->is_useless = on && made != 0;
 }

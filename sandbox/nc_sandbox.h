@@ -263,7 +263,9 @@ typedef struct NcsEnd {
 
 #define NCS_ARGS_MAX 16u
 /* The last two arguments of ncs_call, as in ncs_call(box, function, NCS_ARGS(1, at.at)). */
+/* clang-format off */
 #define NCS_ARGS(...) (unsigned)(sizeof((uint32_t[]){__VA_ARGS__}) / sizeof(uint32_t)), (const uint32_t[]){__VA_ARGS__}
+/* clang-format on */
 #define NCS_NO_ARGS 0u, NULL
 
 /* Returns an end in a word or two, such as "stopped". For another number it returns "?". */
@@ -278,7 +280,7 @@ typedef uint64_t (*NcsCallback)(NcsBox *box, void *user, const uint32_t *args);
 
 #define NCS_CALLBACKS 64u
 #define NCS_CALLBACK_ARGS 12u
-#define NCS_EXIT 0x40u                     /* where the code ends its call, with a status: nc-cc -Wl,--defsym=ncs_exit=0x40 */
+#define NCS_EXIT 0x40u                       /* where the code ends its call, with a status: nc-cc -Wl,--defsym=ncs_exit=0x40 */
 #define NCS_CALLBACK(k) (0x100u + 32u * (k)) /* where call-back k is, counted from 0 as the box gets them */
 
 /* Gives the box a call-back with so many 32-bit arguments, at most NCS_CALLBACK_ARGS, and returns its address. The first one is at

@@ -13,8 +13,8 @@
 #ifndef MADV_DONTNEED_LOCKED
 #define MADV_DONTNEED_LOCKED 24
 #endif
-#define STEP (1u << 20)        /* pieces of low memory begin so far from each other */
-#define LOW_BEGIN 0x20000000u  /* above what a host that isn't position-independent has below 4 GiB, and above a box at base 0 */
+#define STEP (1u << 20)       /* pieces of low memory begin so far from each other */
+#define LOW_BEGIN 0x20000000u /* above what a host that isn't position-independent has below 4 GiB, and above a box at base 0 */
 #define LOW_END 0xF0000000u
 #define SHIFT_MOST (192u << 20) /* by chance, in pages; so much isn't used where three boxes of 1 GiB fit */
 #define PIECE (64u << 20)       /* that is given back at once: the system holds a lock of the process meanwhile */
@@ -25,7 +25,7 @@ pthread_mutex_t ncs_lock = PTHREAD_MUTEX_INITIALIZER;
 
 /* ---- Segments */
 
-static uint8_t taken[LDT_ENTRIES];                    /* by this library, or by others when it last looked */
+static uint8_t taken[LDT_ENTRIES];                  /* by this library, or by others when it last looked */
 static uint8_t table[LDT_ENTRIES * LDT_ENTRY_SIZE]; /* the local table, as the system shows it */
 
 /* Reads the entries up to `last`. Those that were never made read as 0. */

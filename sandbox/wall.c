@@ -91,6 +91,7 @@ static int new_rules(const NcsWall *wall) {
 /* ---- seccomp: which system calls are made */
 
 /* Whatever their arguments. The first are made most often. */
+/* clang-format off */
 static const int ALWAYS[] = {
     SYS_read, SYS_write, SYS_writev, SYS_lseek, SYS_fstat, SYS_close,
     SYS_rt_sigreturn, SYS_rt_sigprocmask, SYS_rt_sigaction, SYS_rt_sigpending, SYS_sigaltstack,
@@ -100,6 +101,7 @@ static const int ALWAYS[] = {
     SYS_brk, SYS_munmap, SYS_mremap, SYS_madvise,
     SYS_getrandom, SYS_getpid, SYS_gettid, SYS_exit, SYS_exit_group,
 };
+/* clang-format on */
 static const int WITH_FOLDERS[] = {SYS_openat, CALL_OPENAT2, SYS_fstatfs};
 static const int WITH_THREADS[] = {SYS_set_robust_list, CALL_RSEQ, SYS_sched_getaffinity};
 
@@ -128,8 +130,10 @@ static const struct {
 
 #define ANSWER_STEPS 2u
 #define JUDGED_STEPS 6u
+/* clang-format off */
 #define STEPS_MOST (5u + JUDGED_STEPS * (COUNT(JUDGED) + 2) + \
                     ANSWER_STEPS * (COUNT(ALWAYS) + COUNT(WITH_FOLDERS) + COUNT(WITH_THREADS) + COUNT(ANSWERED) + NCS_WALL_CALLS))
+/* clang-format on */
 
 typedef struct Filter {
     struct sock_filter steps[STEPS_MOST];

@@ -88,10 +88,10 @@ class Fault {
         : number_(number), at_(at), enough_(enough) {}
 
     constexpr std::uint32_t number() const noexcept { return number_; }
-    constexpr std::uint32_t at() const noexcept { return at_; }           /* 4 to 7: its address; 56 to 61: its program header; else 0 */
-    constexpr std::size_t enough() const noexcept { return enough_; }     /* for NC_NO_ROOM a buffer length that is enough, else 0 */
-    constexpr const char *name() const noexcept;                          /* "NC_BAD_BASE"; "?" for a number that is no fault */
-    constexpr const char *sentence() const noexcept;                      /* "the base is not a multiple of 32, or is below the region" */
+    constexpr std::uint32_t at() const noexcept { return at_; }       /* 4 to 7: its address; 56 to 61: its program header; else 0 */
+    constexpr std::size_t enough() const noexcept { return enough_; } /* for NC_NO_ROOM a buffer length that is enough, else 0 */
+    constexpr const char *name() const noexcept;                      /* "NC_BAD_BASE"; "?" for a number that is no fault */
+    constexpr const char *sentence() const noexcept;                  /* "the base is not a multiple of 32, or is below the region" */
 
   private:
     std::uint32_t number_ = NC_OK;
@@ -99,8 +99,10 @@ class Fault {
     std::size_t enough_ = 0;
 };
 
+/* clang-format off */
 #define NC_HPP_NAME_OF(fault, sentence) case fault: return #fault;
 #define NC_HPP_SENTENCE_OF(fault, sentence) case fault: return sentence;
+/* clang-format on */
 
 constexpr const char *Fault::name() const noexcept {
     switch (number_) { NC_FAULTS(NC_HPP_NAME_OF) }
@@ -139,11 +141,13 @@ class [[nodiscard]] Result : public Result<void, Why> {
     constexpr Result(T value) noexcept : Result<void, Why>(Why()), value_(std::move(value)) {}
     constexpr Result(Why fault) noexcept : Result<void, Why>(fault) {}
 
+    /* clang-format off */
     constexpr T &value() & noexcept { return value_; }
     constexpr const T &value() const & noexcept { return value_; }
     constexpr T &&value() && noexcept { return std::move(value_); }
     constexpr T &operator*() & noexcept { return value_; }
     constexpr T &&operator*() && noexcept { return std::move(value_); }
+    /* clang-format on */
     constexpr T *operator->() noexcept { return &value_; }
 
   private:
@@ -315,9 +319,7 @@ class Deletion {
     Acts acts() const noexcept { return acts_; }
 
     /* nc_region_deletion_runs. Under the lock. */
-    Result<Acts> runs(Buffer acts) noexcept {
-        return detail::written(nc_region_deletion_runs(region_, acts.data(), acts.size()), acts);
-    }
+    Result<Acts> runs(Buffer acts) noexcept { return detail::written(nc_region_deletion_runs(region_, acts.data(), acts.size()), acts); }
 
   private:
     friend class Region;
@@ -491,24 +493,14 @@ template <class Visitor>
     }
     for (const NcAct &act : acts) {
         switch (act.kind) {
-        case NC_PUT:
-            visitor.put(act.at, static_cast<std::uint8_t>(act.value));
-            break;
-        case NC_PUT_RUN:
-            detail::visit_run(act.value, [&](std::uint32_t k) { visitor.put(act.at + k, code[act.at - base + k]); });
-            break;
+        case NC_PUT: visitor.put(act.at, static_cast<std::uint8_t>(act.value)); break;
+        case NC_PUT_RUN: detail::visit_run(act.value, [&](std::uint32_t k) { visitor.put(act.at + k, code[act.at - base + k]); }); break;
         case NC_STOP_RUN:
             detail::visit_run(act.value, [&](std::uint32_t k) { visitor.put(act.at + k, static_cast<std::uint8_t>(NC_STOP)); });
             break;
-        case NC_SERIALIZE:
-            visitor.serialize();
-            break;
-        case NC_MARK:
-            visitor.mark(act.at, act.value);
-            break;
-        default:
-            visitor.bump();
-            break;
+        case NC_SERIALIZE: visitor.serialize(); break;
+        case NC_MARK: visitor.mark(act.at, act.value); break;
+        default: visitor.bump(); break;
         }
     }
     return true;

@@ -49,9 +49,9 @@ class Refusal {
     Refusal() noexcept = default; /* NCS_OK */
     explicit Refusal(NcsRefusal why) noexcept : why_(why) {}
 
-    std::uint32_t number() const noexcept { return why_.kind; }            /* NCS_BAD_FILE and so on */
-    nc::Fault verdict() const noexcept { return nc::Fault(why_.fault); }   /* of refused code or a refused change */
-    std::uint32_t at() const noexcept { return why_.at; }                  /* the address of that fault, or the number of a signal */
+    std::uint32_t number() const noexcept { return why_.kind; }          /* NCS_BAD_FILE and so on */
+    nc::Fault verdict() const noexcept { return nc::Fault(why_.fault); } /* of refused code or a refused change */
+    std::uint32_t at() const noexcept { return why_.at; }                /* the address of that fault, or the number of a signal */
     const char *sentence() const noexcept { return why_.sentence; }
 
   private:
@@ -106,10 +106,14 @@ class HeldSignals {
 /* NCS_SIGNALS_PROMISED for this thread. Nothing is blocked. The host promises that each handler of the process has SA_ONSTACK at any time,
    whoever installs it, and follows no register of its context, and that the thread keeps its alternate stack. While that is untrue, code in
    a box can take over the process. The promise is refused with NCS_BAD_HANDLER while a handler lacks the flag. */
-inline Result<void> promise_flags() noexcept { return detail::choose_signals(NCS_SIGNALS_PROMISED); }
+inline Result<void> promise_flags() noexcept {
+    return detail::choose_signals(NCS_SIGNALS_PROMISED);
+}
 
 /* NCS_SIGNALS_BLOCKED for this thread, which begins so. It takes a promise back. */
-inline Result<void> block_signals() noexcept { return detail::choose_signals(NCS_SIGNALS_BLOCKED); }
+inline Result<void> block_signals() noexcept {
+    return detail::choose_signals(NCS_SIGNALS_BLOCKED);
+}
 
 /* ---- Ends */
 

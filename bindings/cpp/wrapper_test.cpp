@@ -139,8 +139,7 @@ void callbacks() {
     CHECK(box.call(wide, 1).how() == NCS_BAD_ENTRY && box.call(at("each"), 1, wide).result<int>().is(-1) && seen != 0);
     auto held = std::make_shared<int>(5);
     unsigned given = 6;
-    for (; box.callback([held] { return *held; }); given++) {
-    }
+    for (; box.callback([held] { return *held; }); given++) {}
     CHECK(given == NCS_CALLBACKS && held.use_count() == 1 + NCS_CALLBACKS - 6);
 }
 
@@ -304,7 +303,7 @@ void live_code() {
 }
 
 void refusals() {
-    const auto bad = ncs::Module::elf(checks::bytes_of("\x7F" "ELF", 4));
+    const auto bad = ncs::Module::elf(checks::bytes_of("\177ELF", 4));
     CHECK(!bad && bad.fault().number() == NCS_BAD_FILE && bad.fault().sentence() != nullptr);
     std::uint8_t code[32];
     std::memset(code, 0x90, sizeof code);

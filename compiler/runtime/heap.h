@@ -17,13 +17,9 @@ static Block *freed[SIZES];
 static char *heap, *heap_end;
 static void find_heap(void);
 
-static size_t size_of(unsigned k) {
-    return (size_t)HEAD << k;
-}
+static size_t size_of(unsigned k) { return (size_t)HEAD << k; }
 
-static Block *head_of(void *at) {
-    return (Block *)((char *)at - HEAD);
-}
+static Block *head_of(void *at) { return (Block *)((char *)at - HEAD); }
 
 void *malloc(size_t len) {
     unsigned k = 0;
@@ -65,9 +61,7 @@ void *calloc(size_t count, size_t len) {
     return at ? memset(at, 0, (size_t)all) : 0;
 }
 
-size_t malloc_usable_size(void *at) {
-    return at ? (size_t)((char *)head_of(at)->block + size_of(head_of(at)->block->k) - (char *)at) : 0;
-}
+size_t malloc_usable_size(void *at) { return at ? (size_t)((char *)head_of(at)->block + size_of(head_of(at)->block->k) - (char *)at) : 0; }
 
 void *realloc(void *old, size_t len) {
     size_t had = malloc_usable_size(old);

@@ -11,10 +11,19 @@ typedef unsigned long long u64;
 #define FIRST 0x0010000000000000ull /* the first bit of a significand, which normal numbers don't store */
 
 enum Way { DOWN, UP, TOWARDS_ZERO, NEAREST_EVEN, NEAREST_FAR };
-union Double { double value; u64 bits; };
+union Double {
+    double value;
+    u64 bits;
+};
 
-static inline u64 bits_of(double value) { union Double all = {value}; return all.bits; }
-static inline double number_of(u64 bits) { union Double all = {.bits = bits}; return all.value; }
+static inline u64 bits_of(double value) {
+    union Double all = {value};
+    return all.bits;
+}
+static inline double number_of(u64 bits) {
+    union Double all = {.bits = bits};
+    return all.value;
+}
 
 /* Whether a number that is less than one becomes one. */
 static inline int becomes_one(u64 size, u64 sign, enum Way way) {

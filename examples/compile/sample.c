@@ -7,13 +7,19 @@ void host_exit(int status);
 typedef unsigned int u32;
 typedef unsigned long long u64;
 typedef int (*Order)(u32, u32);
-typedef struct { u32 least, most, count; } Extent;
+typedef struct {
+    u32 least, most, count;
+} Extent;
 
 static u32 numbers[8] = {34, 3, 233, 1, 89, 8, 610, 21};
 static const u32 in_order[8] = {1, 3, 8, 21, 34, 89, 233, 610};
 
-static int rising(u32 a, u32 b) { return a < b; }
-static int falling(u32 a, u32 b) { return a > b; }
+static int rising(u32 a, u32 b) {
+    return a < b;
+}
+static int falling(u32 a, u32 b) {
+    return a > b;
+}
 Order orders[2] = {rising, falling};
 
 /* Sorts by insertion, by a call through a pointer for each comparison. */
@@ -45,12 +51,17 @@ __attribute__((noinline)) u32 crc32(const char *text, int count) {
     return ~sum;
 }
 
-__attribute__((noinline)) u32 fibonacci(int n) { return n < 2 ? (u32)n : fibonacci(n - 1) + fibonacci(n - 2); }
+__attribute__((noinline)) u32 fibonacci(int n) {
+    return n < 2 ? (u32)n : fibonacci(n - 1) + fibonacci(n - 2);
+}
 
 __attribute__((noinline)) int days(int month) {
     switch (month) {
     case 2: return 28;
-    case 4: case 6: case 9: case 11: return 30;
+    case 4:
+    case 6:
+    case 9:
+    case 11: return 30;
     default: return 31;
     }
 }
@@ -80,4 +91,6 @@ static int sample(void) {
 }
 
 /* The chunk's entry: `chunk.ld` puts it first. */
-__attribute__((section(".text.start"))) void start(void) { host_exit(sample()); }
+__attribute__((section(".text.start"))) void start(void) {
+    host_exit(sample());
+}

@@ -22,10 +22,10 @@ static void *made(NceCode *code) {
 static void *make_enter(void) {
     NceCode code;
     nce_begin(&code);
-    RAW(&code, "\x55\x53\x56\x57");         /* push ebp; push ebx; push esi; push edi */
-    RAW(&code, "\x8B\x4C\x24\x14");         /* mov ecx, [esp + 20] */
-    RAW(&code, "\x8B\x74\x24\x18");         /* mov esi, [esp + 24] */
-    RAW(&code, "\x8B\x06\x8D\x76\x04");     /* mov eax, [esi]; lea esi, [esi + 4] */
+    RAW(&code, "\x55\x53\x56\x57");     /* push ebp; push ebx; push esi; push edi */
+    RAW(&code, "\x8B\x4C\x24\x14");     /* mov ecx, [esp + 20] */
+    RAW(&code, "\x8B\x74\x24\x18");     /* mov esi, [esp + 24] */
+    RAW(&code, "\x8B\x06\x8D\x76\x04"); /* mov eax, [esi]; lea esi, [esi + 4] */
     nce_call_by(&code, NCE_ECX);
     RAW(&code, "\x8D\x76\xFC\x89\x06");     /* lea esi, [esi - 4]; mov [esi], eax */
     RAW(&code, "\x89\xF0\x5F\x5E\x5B\x5D"); /* mov eax, esi; pop edi; pop esi; pop ebx; pop ebp */
@@ -79,7 +79,7 @@ static void emit_literal(NceCode *code, Cell value) {
 }
 
 static void emit_c_word(NceCode *code, uint32_t number) {
-    RAW(code, "\x8D\x76\xFC\x89\x06\x56");         /* lea esi, [esi - 4]; mov [esi], eax; push esi */
+    RAW(code, "\x8D\x76\xFC\x89\x06\x56"); /* lea esi, [esi - 4]; mov [esi], eax; push esi */
     nce_call_to(code, address_of((const void *)called_words[number].function));
     RAW(code, "\x59\x89\xC6\x8B\x06\x8D\x76\x04"); /* pop ecx; mov esi, eax; mov eax, [esi]; lea esi, [esi + 4] */
 }

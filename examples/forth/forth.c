@@ -65,7 +65,9 @@ const CalledWord called_words[] = {CALLED(AS_ENTRY)};
 /* ---- The interpreter */
 
 #define AS_NUMBER(number, name, statement, code) number,
+/* clang-format off */
 #define AS_CASE(number, name, statement, code) case number: statement; break;
+/* clang-format on */
 enum { PRIMITIVES(AS_NUMBER) };
 
 static Cell *primitive(uint32_t number, Cell *s, const Cell *loop) {
@@ -90,8 +92,16 @@ static Cell *interpret(uint32_t at, Cell *s) {
         case CALL: s = execute((uint32_t)token->value, s); break;
         case BRANCH: at = (uint32_t)token->value - 1; break;
         case UNLESS: at = *s++ == 0 ? (uint32_t)token->value - 1 : at; break;
-        case DO: loop -= 2; loop[0] = s[0]; loop[1] = s[1]; s += 2; break;
-        case LOOP: at = ++loop[0] < loop[1] ? (uint32_t)token->value - 1 : at; loop += at == (uint32_t)(token - tokens) ? 2 : 0; break;
+        case DO:
+            loop -= 2;
+            loop[0] = s[0];
+            loop[1] = s[1];
+            s += 2;
+            break;
+        case LOOP:
+            at = ++loop[0] < loop[1] ? (uint32_t)token->value - 1 : at;
+            loop += at == (uint32_t)(token - tokens) ? 2 : 0;
+            break;
         default: break;
         }
         if (s < stack + SPARE || s > stack + DEPTH + SPARE / 2) {
@@ -142,14 +152,32 @@ static void to_here(uint32_t at) {
     tokens[at].value = (Cell)token_count;
 }
 
-static void c_if(void) { push_open(token_count); add(UNLESS, 0); }
-static void c_then(void) { to_here(pop_open()); }
-static void c_begin(void) { push_open(token_count); }
-static void c_until(void) { add(UNLESS, (Cell)pop_open()); }
-static void c_while(void) { c_if(); }
-static void c_do(void) { add(DO, 0); push_open(token_count); }
-static void c_loop(void) { add(LOOP, (Cell)pop_open()); }
-static void c_recurse(void) { add(CALL, (Cell)word_count); }
+static void c_if(void) {
+    push_open(token_count);
+    add(UNLESS, 0);
+}
+static void c_then(void) {
+    to_here(pop_open());
+}
+static void c_begin(void) {
+    push_open(token_count);
+}
+static void c_until(void) {
+    add(UNLESS, (Cell)pop_open());
+}
+static void c_while(void) {
+    c_if();
+}
+static void c_do(void) {
+    add(DO, 0);
+    push_open(token_count);
+}
+static void c_loop(void) {
+    add(LOOP, (Cell)pop_open());
+}
+static void c_recurse(void) {
+    add(CALL, (Cell)word_count);
+}
 
 static void c_else(void) {
     uint32_t before = pop_open();
@@ -167,8 +195,8 @@ static void c_repeat(void) {
 static const struct {
     const char *name;
     void (*compile)(void);
-} structures[] = {{"if", c_if}, {"else", c_else}, {"then", c_then}, {"begin", c_begin}, {"until", c_until}, {"while", c_while},
-                  {"repeat", c_repeat}, {"do", c_do}, {"loop", c_loop}, {"recurse", c_recurse}};
+} structures[] = {{"if", c_if},       {"else", c_else},     {"then", c_then}, {"begin", c_begin}, {"until", c_until},
+                  {"while", c_while}, {"repeat", c_repeat}, {"do", c_do},     {"loop", c_loop},   {"recurse", c_recurse}};
 
 /* The next word of the line, or NULL. */
 static char *next(void) {
@@ -208,7 +236,11 @@ static void end_word(void) {
     }
 }
 
-static void d_colon(void) { begin_word(); compiling = !wrong; open_count = 0; }
+static void d_colon(void) {
+    begin_word();
+    compiling = !wrong;
+    open_count = 0;
+}
 
 static void d_variable(void) {
     begin_word();
@@ -276,8 +308,8 @@ static void d_forget(void) {
 static const struct {
     const char *name;
     void (*define)(void);
-} definers[] = {{":", d_colon}, {"variable", d_variable}, {"constant", d_constant}, {"defer", d_defer}, {"is", d_is}, {"'", d_tick},
-                {"forget", d_forget}};
+} definers[] = {{":", d_colon}, {"variable", d_variable}, {"constant", d_constant}, {"defer", d_defer}, {"is", d_is},
+                {"'", d_tick},  {"forget", d_forget}};
 
 /* ---- Lines */
 

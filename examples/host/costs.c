@@ -22,10 +22,12 @@ enum { SILENT, ACTS, RUNS };
 /* What is timed; creations and deletions in the order of the ways above. */
 enum { VET, CREATE, LOAD = CREATE + 3, PATCH, DELETE, RECLAIM = DELETE + 3, CHECK_IN, NEW, KINDS };
 
+/* clang-format off */
 static const char *const names[KINDS] = {
     "vet", "create", "create, with acts", "create, with runs", "load a vetted chunk", "patch, with acts", "delete", "delete, with acts",
     "delete, with runs", "reclaim a chunk", "check in", "make a region of 64 MiB",
 };
+/* clang-format on */
 
 /* Ordinary code with a branch and a masked jump in it, and the same with another number. */
 static const uint8_t bundle[NC_BUNDLE] = {

@@ -44,7 +44,7 @@ int main(void) {
     make("create", nc_region_create(&region, NC_START, code, sizeof code, acts, ROOM));
     make("patch", nc_region_patch(&region, NC_START, other, sizeof other, acts, ROOM));
     make("delete", nc_region_begin_delete(&region, NC_START, acts, ROOM)); /* first the stops, */
-    nc_region_end_delete(&region);                                        /* then the stamp */
+    nc_region_end_delete(&region);                                         /* then the stamp */
     printf("reclaimed: %u\n", (unsigned)nc_region_reclaim(&region).count);
     nc_seat_check_in(&seat); /* by the seat's thread, once it is outside */
     printf("reclaimed: %u\n", (unsigned)nc_region_reclaim(&region).count);

@@ -47,7 +47,8 @@ static const char *follows(void) {
 
 static void show(const char *name, NcChange change) {
     make(change.fault == NC_OK ? change.count : 0);
-    printf("%s: fault %u at %08x count %u, memory %s\n", name, (unsigned)change.fault, (unsigned)change.at, (unsigned)change.count, follows());
+    printf("%s: fault %u at %08x count %u, memory %s\n", name, (unsigned)change.fault, (unsigned)change.at, (unsigned)change.count,
+           follows());
 }
 
 static void show_chunks(void) {

@@ -20,12 +20,14 @@
 #define MAX_LINE (2 * MAX_BYTES + 64)
 #define MAX_RUNS (2 * MAX_BUNDLES + 2)
 
+/* clang-format off */
 static const char *const names[] = {
     "ok", "BadBase", "BadLength", "OutOfRange", "NotPermitted", "Crosses", "Bare", "BadTarget", "OutOfMemory", "NoRoom",
     "CutShort", 0, 0, 0, 0, 0, "BadSpan", "NotLive", "NotPermitted", "Boundaries", "PairTouched", "BadTarget",
     0, 0, 0, 0, 0, 0, 0, 0, 0, 0, "NoHandle", "HandleTaken", "BadSeats", "BadSize",
     "NoSeat", "UnderWay", "NotBegun", "WrongLimit", "Occupied", "NoChunk", "GensFull", "NoPlace", "NotBundle",
 };
+/* clang-format on */
 
 static char line[MAX_LINE];
 static uint8_t code[MAX_BYTES], memory[MAX_BYTES];

@@ -54,18 +54,15 @@ static uint32_t step(Inside *own, uint32_t at) {
     uint8_t first = load(at), name;
     int i;
     switch (first) {
-    case NOP:
-        return at + 1;
+    case NOP: return at + 1;
     case LOAD:
         name = load(at + 1);
         for (i = 2; i <= 4; i++) {
             own->astray += load(at + i) != name;
         }
         return at + 5;
-    case JUMP:
-        return at + 2 + load(at + 1);
-    case FAR_JUMP:
-        return OUT;
+    case JUMP: return at + 2 + load(at + 1);
+    case FAR_JUMP: return OUT;
     default:
         own->stops += first == NC_STOP;
         own->astray += first != NC_STOP;

@@ -192,15 +192,13 @@ void a_deletion_taken_up_again() {
     try {
         (void)region.delete_chunk(NC_START, acts, [](nc::Deletion &) { throw 1; });
         CHECK(false);
-    } catch (int) {
-    }
+    } catch (int) {}
 #else
     CHECK(nc_region_begin_delete(region.handle(), NC_START, nullptr, 0).fault == NC_OK);
 #endif
     CHECK(is(region.create(NC_START + LEN, chunk_code(), acts).fault(), NC_UNDER_WAY, "NC_UNDER_WAY"));
-    auto stamp = region.resume_delete([&](nc::Deletion &deletion) {
-        CHECK(deletion.acts().empty() && nc::visit(*deletion.runs(acts), memory));
-    });
+    auto stamp =
+        region.resume_delete([&](nc::Deletion &deletion) { CHECK(deletion.acts().empty() && nc::visit(*deletion.runs(acts), memory)); });
     CHECK(stamp && *stamp == 1 && memory.follows(region) && region.create(NC_START + LEN, chunk_code(), acts).ok());
 }
 
@@ -239,9 +237,9 @@ void vetted_chunks() {
 // A file with one segment, which has the chunk's code.
 std::vector<std::uint8_t> chunk_file() {
     const std::uint8_t headers[] = {
-        0x7F, 'E', 'L', 'F', 1, 1, 1, 0, 0, 0, 0, 0, 0, 0, 0, 0, 2, 0, 3, 0, 1, 0, 0, 0, 0, 0, 0, 0, 52, 0, 0, 0, // the file's
-        0, 0, 0, 0, 0, 0, 0, 0, 52, 0, 32, 0, 1, 0, 0, 0, 0, 0, 0, 0,
-        1, 0, 0, 0, 84, 0, 0, 0, 0, 0, 1, 0, 0, 0, 0, 0, LEN, 0, 0, 0, LEN, 0, 0, 0, 5, 0, 0, 0, 32, 0, 0, 0, // the segment's
+        0x7F, 'E', 'L', 'F', 1,   1, 1, 0, 0,   0, 0,  0, 0, 0, 0, 0, 2,  0, 3, 0, 1, 0, 0, 0, 0,  0, 0, 0, 52, 0, 0, 0, // the file's
+        0,    0,   0,   0,   0,   0, 0, 0, 52,  0, 32, 0, 1, 0, 0, 0, 0,  0, 0, 0, 1, 0, 0, 0, 84, 0, 0, 0, 0,  0, 1, 0,
+        0,    0,   0,   0,   LEN, 0, 0, 0, LEN, 0, 0,  0, 5, 0, 0, 0, 32, 0, 0, 0, // the segment's
     };
     std::vector<std::uint8_t> file(std::begin(headers), std::end(headers));
     Code code = chunk_code();
@@ -255,7 +253,8 @@ void loaded_once() {
     auto found = nc::loaded_segments(file, room);
     CHECK(found && found->size() == 1);
     const NcSegment segment = (*found)[0];
-    CHECK(segment.address == NC_START && segment.offset == 84 && segment.file_len == LEN && segment.memory_len == LEN && segment.flags == 5);
+    CHECK(segment.address == NC_START && segment.offset == 84 && segment.file_len == LEN && segment.memory_len == LEN &&
+          segment.flags == 5);
     CHECK(nc::loaded_segments(file, nc::Span<NcSegment>()).fault().enough() == 1);
     nc::Bytes code(file.data() + segment.offset, segment.file_len);
     Memory memory;

@@ -11,7 +11,9 @@ struct Header {
     u16 length, header_length, header_count, section_length, section_count, names;
 };
 
-struct Segment { u32 kind, offset, address, physical, file_length, memory_length, flags, align; };
+struct Segment {
+    u32 kind, offset, address, physical, file_length, memory_length, flags, align;
+};
 
 enum { EXIT = 1, WRITE = 4, OPEN = 5, MPROTECT = 125, PREAD = 180, MMAP = 192 };
 enum { EXECUTABLE = 1, WRITABLE = 2, READABLE = 4, PROT_READ = 1, PROT_WRITE = 2, PROT_EXEC = 4, PRIVATE_FIXED_ANONYMOUS = 0x32 };

@@ -18,6 +18,7 @@
 
 enum { COUNT = 40000 };
 static unsigned char in[COUNT], out[COUNT], tag[16], hash[64];
+/* clang-format off */
 static const struct {
     const char *name;
     int (*test)(int verbose);
@@ -27,6 +28,7 @@ static const struct {
     {"poly1305", mbedtls_poly1305_self_test}, {"mpi", mbedtls_mpi_self_test}, {"ecp", mbedtls_ecp_self_test},
     {"rsa", mbedtls_rsa_self_test}, {"hmac_drbg", mbedtls_hmac_drbg_self_test},
 };
+/* clang-format on */
 
 static unsigned ciphers(unsigned sum) {
     mbedtls_gcm_context gcm;

@@ -7,13 +7,13 @@
 
 namespace {
 class Summing : public pugi::xml_writer {
-public:
+  public:
     unsigned sum = 0;
     void write(const void *data, size_t size) override { sum = sum_of(sum, data, size); }
 };
 
 class Buffer : public pugi::xml_writer {
-public:
+  public:
     char text[1 << 17];
     size_t length = 0;
     void write(const void *data, size_t size) override {
@@ -21,12 +21,14 @@ public:
         length += size;
     }
 };
-}
+} // namespace
 
+/* clang-format off */
 static const char *const QUERIES[] = {
     "count(//row[@odd='true'])", "sum(/rows/row/@number) div 7", "string(/rows/row[last()]/text)",
     "count(//row[position() mod 3 = 1]/text)", "concat(name(/*), '-', substring('abcdef', 2, 3))", "round(sum(//@part) * 100) div 100",
     "boolean(//row[@number > 199])"};
+/* clang-format on */
 static Buffer buffer;
 
 static void make(pugi::xml_document &document) {

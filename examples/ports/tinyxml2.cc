@@ -25,7 +25,7 @@ static void make(XMLDocument &document) {
 
 namespace {
 class Counter : public XMLVisitor {
-public:
+  public:
     unsigned sum = 0;
     bool VisitEnter(const XMLElement &element, const XMLAttribute *first) override {
         sum = sum_of(sum, element.Name(), strlen(element.Name()));
@@ -37,7 +37,7 @@ public:
         return true;
     }
 };
-}
+} // namespace
 
 static unsigned work(unsigned sum) {
     XMLDocument document, back;

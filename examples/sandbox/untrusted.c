@@ -18,10 +18,16 @@ static void digits(char *end, unsigned number) {
     } while (number != 0);
 }
 
-__attribute__((noinline)) static unsigned fibonacci(int n) { return n < 2 ? (unsigned)n : fibonacci(n - 1) + fibonacci(n - 2); }
+__attribute__((noinline)) static unsigned fibonacci(int n) {
+    return n < 2 ? (unsigned)n : fibonacci(n - 1) + fibonacci(n - 2);
+}
 
-static int square(int n) { return n * n; }
-static int twice(int n) { return 2 * n; }
+static int square(int n) {
+    return n * n;
+}
+static int twice(int n) {
+    return 2 * n;
+}
 int (*functions[2])(int) = {square, twice};
 
 /* The chunk's entry: `chunk.ld` puts it first. */

@@ -18,8 +18,8 @@ typedef struct Case {
     uint8_t code[NC_BUNDLE], more[NC_BUNDLE]; /* two bundles, filled with nops, and nothing behind them */
     Number eax, edx;                          /* with which it begins */
     uint32_t how, trap;
-    Number place;   /* of a stop or a fault */
-    int below;      /* where the lowest addresses are a hole, it is a page fault there instead */
+    Number place;     /* of a stop or a fault */
+    int below;        /* where the lowest addresses are a hole, it is a page fault there instead */
     int data_is_kept; /* the box's own data doesn't change either */
 } Case;
 
@@ -87,9 +87,11 @@ static const Case CASES[] = {
 };
 
 static uint32_t number(const KitBox *box, Number n) {
+    /* clang-format off */
     uint32_t of[] = {[NUMBER] = 0, [CASE] = box->code_at, [CASE_END] = box->code_at + box->code_len, [TEXT_END] = box->code_limit,
                      [DATA] = box->data_at, [DATA_END] = box->data_limit, [CALL] = kit_host.call_count != 0 ? kit_host.calls[0] : 0,
                      [WAY_OUT] = kit_host.way_out};
+    /* clang-format on */
     return of[n.of] + n.plus;
 }
 

@@ -7,7 +7,7 @@
 
 /* Where the next instruction goes. */
 typedef struct Bundle {
-    uint8_t *to; /* of all the code */
+    uint8_t *to;           /* of all the code */
     uint32_t len, at, end; /* end of the bundle */
 } Bundle;
 
@@ -23,11 +23,13 @@ static uint32_t word(Draw *d) {
 }
 
 uint32_t draw_number(Draw *d, const KitBox *box) {
+    /* clang-format off */
     const uint32_t numbers[] = {0, 0x80000000, box->data_first, box->data_at, box->data_limit, box->code_at, box->code_limit,
                                 KIT_LOW_AT + KIT_LOW_LEN / 2 - box->data_base, KIT_LOW_AT + KIT_LOW_LEN / 2,
                                 KIT_STACK_CANARY - box->data_base, KIT_STACK_CANARY,
                                 kit_other.data_base + kit_other.data_at - box->data_base,
                                 box->code_base + box->code_at - box->data_base, kit_host.way_out};
+    /* clang-format on */
     uint32_t kind = draw(d, 10), near = draw(d, 3) == 0 ? draw(d, 2 * KIT_PAGE) - KIT_PAGE : draw(d, 17) - 8;
     return kind == 9      ? word(d)
          : kind < d->tame ? box->data_at + draw(d, box->data_limit - box->data_at)
@@ -43,16 +45,11 @@ static uint32_t draw_place(Draw *d, const Bundle *b) {
 /* Where a masked jump goes: code, a trampoline, text without code, beyond the limit, or a place that the mask has to change. */
 static uint32_t draw_target(Draw *d, const Bundle *b) {
     switch (draw(d, 8)) {
-    case 0:
-        return draw(d, NC_START);
-    case 1:
-        return kit_host.call_count != 0 ? kit_host.calls[draw(d, kit_host.call_count)] : kit_host.way_out;
-    case 2:
-        return draw(d, 2) == 0 ? draw_number(d, d->like) : d->like->code_limit + draw(d, KIT_PAGE);
-    case 3:
-        return d->like->code_at + draw(d, d->like->code_limit - d->like->code_at);
-    default:
-        return draw_place(d, b) + draw(d, NC_BUNDLE);
+    case 0: return draw(d, NC_START);
+    case 1: return kit_host.call_count != 0 ? kit_host.calls[draw(d, kit_host.call_count)] : kit_host.way_out;
+    case 2: return draw(d, 2) == 0 ? draw_number(d, d->like) : d->like->code_limit + draw(d, KIT_PAGE);
+    case 3: return d->like->code_at + draw(d, d->like->code_limit - d->like->code_at);
+    default: return draw_place(d, b) + draw(d, NC_BUNDLE);
     }
 }
 
@@ -115,16 +112,11 @@ static int put_string(Draw *d, Bundle *b) {
 static int put_stack(Draw *d, Bundle *b) {
     uint8_t set[] = {0x89, (uint8_t)(0xC4 | draw(d, 2) | draw(d, 8) << 3)}, leave = 0xC9, one = (uint8_t)(0x50 + draw(d, 16));
     switch (draw(d, 6)) {
-    case 0:
-        return put_with(b, (uint8_t)(0xBC + draw(d, 2)), draw_number(d, d->like)); /* mov esp or ebp */
-    case 1:
-        return put(b, set, sizeof set);
-    case 2:
-        return put(b, &leave, 1);
-    case 3:
-        return put_with(b, 0x68, draw(d, 2) == 0 ? draw_target(d, b) : word(d));
-    default:
-        return put(b, &one, 1); /* push or pop of a register */
+    case 0: return put_with(b, (uint8_t)(0xBC + draw(d, 2)), draw_number(d, d->like)); /* mov esp or ebp */
+    case 1: return put(b, set, sizeof set);
+    case 2: return put(b, &leave, 1);
+    case 3: return put_with(b, 0x68, draw(d, 2) == 0 ? draw_target(d, b) : word(d));
+    default: return put(b, &one, 1); /* push or pop of a register */
     }
 }
 
@@ -192,9 +184,9 @@ static int put_loop(Draw *d, Bundle *b) {
 }
 
 void draw_code(Draw *d, uint8_t *code, uint32_t len) {
-    static int (*const kinds[])(Draw *, Bundle *) = {put_any, put_any, put_any, put_any, put_any, put_string, put_string, put_stack,
-                                                     put_stack, put_register, put_register, put_direct, put_masked, put_call,
-                                                     put_call, put_loop};
+    static int (*const kinds[])(Draw *, Bundle *) = {put_any,    put_any,   put_any,   put_any,      put_any,      put_string,
+                                                     put_string, put_stack, put_stack, put_register, put_register, put_direct,
+                                                     put_masked, put_call,  put_call,  put_loop};
     Bundle b = {code, len, 0, 0};
     d->tame = draw(d, 10);
     memset(code, 0x90, len);

@@ -7,7 +7,7 @@
 typedef struct Draw {
     uint64_t random;
     const KitBox *like; /* a box of the host: where its code stands, and its limits */
-    uint32_t tame;   /* of ten numbers, how many are addresses of the box's data, so that runs are longer */
+    uint32_t tame;      /* of ten numbers, how many are addresses of the box's data, so that runs are longer */
 } Draw;
 
 uint32_t draw(Draw *d, uint32_t below);

@@ -15,9 +15,9 @@
 #ifndef KIT_ELSEWHERE
 #define KIT_ELSEWHERE 0
 #endif
-#define STUB_AT NC_START            /* the function that is called; the code stands behind it */
+#define STUB_AT NC_START                          /* the function that is called; the code stands behind it */
 #define DATA_AT (KIT_LIVE ? 0x110000u : 0x30000u) /* the stack is below */
-#define MEMORY (DATA_AT + 0x2F000u) /* no other box begins directly behind it */
+#define MEMORY (DATA_AT + 0x2F000u)               /* no other box begins directly behind it */
 #define FILE_ROOM (KIT_CODE_MAX + 4096)
 #define LIVE_BUNDLES 127u
 
@@ -43,8 +43,10 @@ static void lay_stub(uint8_t to[NC_BUNDLE]) {
 }
 
 static size_t lay_file(uint8_t *to, const uint8_t *code, uint32_t len) {
+    /* clang-format off */
     static const Elf32_Ehdr h = {.e_ident = ELFMAG "\1\1\1", .e_type = ET_EXEC, .e_machine = EM_386, .e_version = 1, .e_entry = STUB_AT,
                                  .e_phoff = sizeof h, .e_ehsize = sizeof h, .e_phentsize = sizeof(Elf32_Phdr), .e_phnum = 2};
+    /* clang-format on */
     uint32_t all = NC_BUNDLE + len;
     Elf32_Phdr p[2] = {{.p_type = PT_LOAD, .p_vaddr = STUB_AT, .p_filesz = all, .p_memsz = all, .p_flags = PF_R | PF_X},
                        {.p_type = PT_LOAD, .p_vaddr = DATA_AT, .p_filesz = 16, .p_memsz = KIT_PAGE, .p_flags = PF_R | PF_W}};
@@ -102,9 +104,9 @@ static int load(KitBox *to, const uint8_t *code, uint32_t len) {
 
 static KitEnd run(KitBox *box, uint32_t place, uint32_t eax, uint32_t edx) {
     static const uint32_t ends[] = {
-        [NCS_RETURNED] = KIT_CAME_OUT, [NCS_STOPPED] = KIT_STOPPED, [NCS_FAULTED] = KIT_FAULTED,  [NCS_LATE] = KIT_LATE,
-        [NCS_KILLED] = KIT_OTHERWISE,  [NCS_EXITED] = KIT_CAME_OUT, [NCS_BAD_ENTRY] = KIT_REFUSED, [NCS_BAD_CALL] = KIT_REFUSED,
-        [NCS_DENIED] = KIT_OTHERWISE,  [NCS_TOO_DEEP] = KIT_REFUSED, [NCS_DEAD] = KIT_OTHERWISE,  [NCS_BUSY] = KIT_OTHERWISE,
+        [NCS_RETURNED] = KIT_CAME_OUT, [NCS_STOPPED] = KIT_STOPPED,  [NCS_FAULTED] = KIT_FAULTED,   [NCS_LATE] = KIT_LATE,
+        [NCS_KILLED] = KIT_OTHERWISE,  [NCS_EXITED] = KIT_CAME_OUT,  [NCS_BAD_ENTRY] = KIT_REFUSED, [NCS_BAD_CALL] = KIT_REFUSED,
+        [NCS_DENIED] = KIT_OTHERWISE,  [NCS_TOO_DEEP] = KIT_REFUSED, [NCS_DEAD] = KIT_OTHERWISE,    [NCS_BUSY] = KIT_OTHERWISE,
         [NCS_HOST] = KIT_OTHERWISE};
     NcsAt stub = {STUB_AT};
     NcsEnd got = ncs_call(box->own, stub, NCS_ARGS(eax, edx, place));
@@ -148,5 +150,7 @@ static const char *begin(void) {
 
 static const uint32_t CALLS[] = {NCS_CALLBACK(0), NCS_CALLBACK(1)};
 
+/* clang-format off */
 const KitHost kit_host = {.name = "boxes", .way_out = NC_BUNDLE * OUT_RETURN, .calls = CALLS, .call_count = 2, .live = KIT_LIVE,
                           .begin = begin, .load = load, .run = run, .renew = renew, .drop = drop, .is_trampoline = is_trampoline};
+/* clang-format on */

@@ -47,8 +47,8 @@ typedef struct KitHost {
        EBX, ESI, EDI and EBP as they were, and ESP above the return address. A host may have none; then no case calls it. */
     const uint32_t *calls;
     unsigned call_count;
-    int has_one_box; /* at a time */
-    int live; /* the text has a writable mapping, since it is changed while threads run it */
+    int has_one_box;            /* at a time */
+    int live;                   /* the text has a writable mapping, since it is changed while threads run it */
     const char *(*begin)(void); /* NULL, or what the system refuses */
     int (*load)(KitBox *box, const uint8_t *code, uint32_t len); /* whether the code is accepted */
     /* For at most some 50 ms. The run begins with the direction flag clear. */

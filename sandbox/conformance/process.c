@@ -91,8 +91,10 @@ static int reaches(const Segment *s, uint64_t at, uint64_t len) {
 
 static Segment segment(uint64_t d) {
     uint64_t limit = (d & 0xFFFF) | (d >> 32 & 0xF0000);
+    /* clang-format off */
     Segment s = {.base = (d >> 16 & 0xFFFFFF) | d >> 56 << 24, .is_there = d >> 47 & 1, .is_code = d >> 43 & 1, .is_64_bit = d >> 53 & 1,
                  .is_users = (d >> 45 & 3) == 3};
+    /* clang-format on */
     s.end = s.base + ((d >> 55 & 1) ? (limit + 1) * KIT_PAGE : limit + 1);
     s.expands_down = !s.is_code && (d >> 42 & 1);
     return s;

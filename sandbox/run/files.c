@@ -10,7 +10,7 @@
 #include <unistd.h>
 
 #define STANDARD 3
-#define BLOCK 4096u /* what a new file counts, and a write at a place of its own, besides the bytes */
+#define BLOCK 4096u     /* what a new file counts, and a write at a place of its own, besides the bytes */
 #define CLOSE_RANGE 436 /* the system call, which older headers lack */
 
 static void begin_empty(Files *files) {

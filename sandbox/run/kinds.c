@@ -8,6 +8,7 @@
 
 /* The file systems of the kernel's own: in proc, self/mem is the memory of nc-run, and a write to it ignores what is read-only. They have
    the numbers of linux/magic.h and of the kernel's sources, since headers lack many. */
+/* clang-format off */
 static const uint32_t OF_KERNEL[] = {
     0x9FA0 /* proc */, 0x62656572 /* sysfs */, 0x64626720 /* debugfs */, 0x74726163 /* tracefs */, 0x73636673 /* securityfs */,
     0x5A3C69F0 /* apparmorfs */, 0xF97CFF8C /* selinuxfs */, 0x43415D53 /* smackfs */, 0x27E0EB /* cgroup */, 0x63677270 /* cgroup2 */,
@@ -18,12 +19,14 @@ static const uint32_t OF_KERNEL[] = {
     0x50494446 /* pidfs */, 0x9041934 /* anonymous inodes */, 0x534F434B /* sockets */, 0x50495045 /* pipes */,
     0x62646576 /* block devices */, 0x64646178 /* dax */, 0x444D4142 /* dma-buf */, 0x454D444D /* devmem */, 0x5345434D /* secretmem */,
 };
+/* clang-format on */
 
 /* Those where files are stored, and that may all the same tell of no blocks: memory without a limit, layers over that, and servers that
    don't say. Any other file system without blocks is taken for one of the kernel's own, such as one that is younger than this table. */
 static const uint32_t WITHOUT_BLOCKS[] = {
-    0x1021994 /* tmpfs */, 0x858458F6 /* ramfs */, 0x794C7630 /* overlay */, 0xF15F /* ecryptfs */, 0x65735546 /* fuse */,
-    0x1021997 /* 9p */, 0x6969 /* nfs */, 0xFF534D42 /* cifs */, 0xFE534D42 /* smb2 */, 0xC36400 /* ceph */, 0x5346414F /* afs */,
+    0x1021994 /* tmpfs */, 0x858458F6 /* ramfs */, 0x794C7630 /* overlay */, 0xF15F /* ecryptfs */,
+    0x65735546 /* fuse */, 0x1021997 /* 9p */,     0x6969 /* nfs */,         0xFF534D42 /* cifs */,
+    0xFE534D42 /* smb2 */, 0xC36400 /* ceph */,    0x5346414F /* afs */,
 };
 
 static int has(const uint32_t *table, size_t count, const struct statfs *system) {

@@ -180,6 +180,7 @@ static int take_version(const char *value, Line *line) {
     return printed(printf("nc-run %u.%u.%u\n", NC_VERSION_MAJOR, NC_VERSION_MINOR, NC_VERSION_PATCH));
 }
 
+/* clang-format off */
 static const struct Option {
     const char *name;
     int (*take)(const char *value, Line *line);
@@ -199,6 +200,7 @@ static const struct Option {
     {"--version", take_version, 0},
     {"-V", take_version, 0},
 };
+/* clang-format on */
 
 /* The option that this word is, up to a `=`. */
 static const struct Option *find_option(const char *word) {

@@ -92,9 +92,11 @@ static int judge_how(const Files *files, uint32_t how) {
 
 /* The flags for a regular file, with two for what may have taken its place: no terminal becomes nc-run's, and no pipe makes it wait. */
 static uint64_t host_flags(uint32_t how) {
+    /* clang-format off */
     static const struct { uint32_t of_program, of_host; } flags[] = {
         {NC_OPEN_WRITE, O_WRONLY}, {NC_OPEN_BOTH, O_RDWR}, {NC_OPEN_EMPTY, O_TRUNC}, {NC_OPEN_APPEND, O_APPEND},
     };
+    /* clang-format on */
     uint64_t all = O_NOCTTY | O_NONBLOCK;
     size_t k;
     for (k = 0; k < sizeof flags / sizeof *flags; k++) {

@@ -61,21 +61,15 @@ static const char *cause(uint32_t trap) {
 
 static void print_cause(const NcsEnd *end) {
     switch (end->how) {
-    case NCS_STOPPED:
-        fputs(": a stop (hlt), which is also wherever no code is", stderr);
-        break;
+    case NCS_STOPPED: fputs(": a stop (hlt), which is also wherever no code is", stderr); break;
     case NCS_FAULTED:
         fprintf(stderr, ": %s", cause(end->trap));
         if (end->trap == 14) {
             fprintf(stderr, ", at %08x", (unsigned)end->data);
         }
         break;
-    case NCS_BAD_CALL:
-        fputs(": a call of the host where there is none, or without a stack", stderr);
-        break;
-    default:
-        fputs(": a call of the host was to return there", stderr);
-        break;
+    case NCS_BAD_CALL: fputs(": a call of the host where there is none, or without a stack", stderr); break;
+    default: fputs(": a call of the host was to return there", stderr); break;
     }
 }
 

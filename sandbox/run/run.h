@@ -112,10 +112,10 @@ int calls_give(Run *run);
 
 /* ---- report.c: each tells why nc-run ends, in a line on standard error, and returns the status */
 
-int report_system(const char *what, int error); /* errno, or 0 for none */
+int report_system(const char *what, int error);                          /* errno, or 0 for none */
 int report_file(const Run *run, const char *sentence, const char *word); /* the word follows the sentence */
 int report_refusal(const Run *run, const NcsRefusal *why);
 int report_end(const Run *run, const NcsEnd *end, int was_entered); /* of a call that neither returned nor exited */
-int report_wall(int stands, const NcsRefusal *why); /* that isn't whole */
+int report_wall(int stands, const NcsRefusal *why);                 /* that isn't whole */
 
 #endif

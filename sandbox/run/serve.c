@@ -13,7 +13,7 @@
 #define PIECE_MOST (1u << 20)
 
 static uint64_t failed(int error) {
-    return (uint64_t)-(int64_t)error;
+    return -(uint64_t)error;
 }
 
 /* Writes to a file from the box's memory, or reads from it. It waits as long as the file makes it: the time that is limited is the

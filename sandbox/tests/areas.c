@@ -220,6 +220,7 @@ static int fault(uint32_t number) {
 
 static void refused_requests(NcsBox *box, uint32_t from) {
     const uint32_t end = from + AREA_LEN, lent = name("bytes");
+    /* clang-format off */
     const struct {
         const char *what, *function;
         uint32_t a, b, c;
@@ -257,6 +258,7 @@ static void refused_requests(NcsBox *box, uint32_t from) {
         {"a hole that is told to nowhere", "find", from, 0, 0, -EFAULT, 0},
         {"a hole that is told across the end", "find", from, MEMORY_LEN - 8, 0, -EFAULT, 0},
     }, *r;
+    /* clang-format on */
     for (r = requests; r < requests + sizeof requests / sizeof *requests; r++) {
         int right = answers(box, r->function, r->a, r->b, r->c, r->result, r->fault_at);
         testing_check(right && is_unchanged(), r->what, __FILE__, __LINE__);

@@ -9,14 +9,30 @@ unsigned words[4]; /* of code that waits */
 
 __attribute__((section(".text.start"))) void start(void) {}
 /* A call of the host comes back here: it doesn't return to the host at once, as a last jump would have it. */
+/* clang-format off */
 #define HERE(answer) ({ long long given = (answer); __asm__ volatile("" ::: "memory"); given; })
-int find(unsigned from, unsigned to) { return (int)HERE(nc_hole(from, (struct nc_hole *)to)); }
-long long create(unsigned at, unsigned from, unsigned len) { return HERE(nc_create(at, (const void *)from, len)); }
-long long patch(unsigned at, unsigned from, unsigned len) { return HERE(nc_patch(at, (const void *)from, len)); }
-long long remove(unsigned at) { return HERE(nc_delete(at)); }
-unsigned run(unsigned at) { return ((unsigned (*)(void))at)(); }
-unsigned seven(void) { return 7; }
-unsigned deep(unsigned n) { return n == 0 ? 0 : 1 + deep(n - 1) + words[3]; }
+/* clang-format on */
+int find(unsigned from, unsigned to) {
+    return (int)HERE(nc_hole(from, (struct nc_hole *)to));
+}
+long long create(unsigned at, unsigned from, unsigned len) {
+    return HERE(nc_create(at, (const void *)from, len));
+}
+long long patch(unsigned at, unsigned from, unsigned len) {
+    return HERE(nc_patch(at, (const void *)from, len));
+}
+long long remove(unsigned at) {
+    return HERE(nc_delete(at));
+}
+unsigned run(unsigned at) {
+    return ((unsigned (*)(void))at)();
+}
+unsigned seven(void) {
+    return 7;
+}
+unsigned deep(unsigned n) {
+    return n == 0 ? 0 : 1 + deep(n - 1) + words[3];
+}
 
 /* Runs code again and again until it is told to end; how often it gave something else. */
 unsigned run_often(unsigned at, unsigned result) {
@@ -33,11 +49,15 @@ unsigned run_often(unsigned at, unsigned result) {
 #define SLOT 64u /* bytes from chunk to chunk */
 #define SLOTS 64u
 
-static unsigned first, counts[8];     /* where the chunks are; how often each thread that executes has done so */
-static unsigned made, swept; /* rounds */
+static unsigned first, counts[8]; /* where the chunks are; how often each thread that executes has done so */
+static unsigned made, swept;      /* rounds */
 
-static unsigned load(const unsigned *word) { return __atomic_load_n(word, __ATOMIC_SEQ_CST); }
-static void store(unsigned *word, unsigned value) { __atomic_store_n(word, value, __ATOMIC_SEQ_CST); }
+static unsigned load(const unsigned *word) {
+    return __atomic_load_n(word, __ATOMIC_SEQ_CST);
+}
+static void store(unsigned *word, unsigned value) {
+    __atomic_store_n(word, value, __ATOMIC_SEQ_CST);
+}
 
 /* mov eax, number; pop ecx; and ecx, -32; jmp ecx */
 static void lay(unsigned char *to, unsigned number) {
@@ -48,7 +68,9 @@ static void lay(unsigned char *to, unsigned number) {
     for (unsigned k = 0; k < sizeof back; k++) to[5 + k] = back[k];
 }
 
-static unsigned slot(unsigned round) { return first + round % SLOTS * SLOT; }
+static unsigned slot(unsigned round) {
+    return first + round % SLOTS * SLOT;
+}
 
 /* Makes a chunk each round, and patches it to its number. A slot is taken again when it is a hole. How often that was refused for anything
    but that. */

@@ -16,8 +16,8 @@
 #define ABOVE_ALL 0x20000000u /* the most memory at base 0 */
 
 /* The word at the address that it is called with. */
-static const uint8_t LOADS[CODE_LEN] = {[0] = 0x59, 0x83, 0xE1, 0xE0, 0xFF, 0xE1, [32] = 0x8B, 0x44, 0x24, 4, 0x8B, 0x00, 0x59,
-                                        0x83, 0xE1, 0xE0, 0xFF, 0xE1};
+static const uint8_t LOADS[CODE_LEN] = {[0] = 0x59, 0x83, 0xE1, 0xE0, 0xFF, 0xE1, [32] = 0x8B, 0x44, 0x24,
+                                        4,          0x8B, 0x00, 0x59, 0x83, 0xE1, 0xE0,        0xFF, 0xE1};
 static NcsModule *module;
 
 static NcsBox *box_of(uint32_t memory) {
@@ -38,8 +38,8 @@ static int is_first(const NcsBox *box) {
 
 static const struct {
     uint32_t at, trap;
-} ACCESSES[] = {{0, 14}, {4, 14}, {0xFFC, 14}, {0x1000, 14}, {0xFFFC, 14}, {0x10000, 0}, {DATA_AT + 16, 0}, {MEMORY - 4, 0},
-                {MEMORY - 3, 13}, {MEMORY, 13}, {0x400000, 13}, {0x20000000, 13}, {0x7FFFFFFC, 13}, {0xFFFFFFFC, 13}};
+} ACCESSES[] = {{0, 14},         {4, 14},          {0xFFC, 14},  {0x1000, 14},   {0xFFFC, 14},     {0x10000, 0},     {DATA_AT + 16, 0},
+                {MEMORY - 4, 0}, {MEMORY - 3, 13}, {MEMORY, 13}, {0x400000, 13}, {0x20000000, 13}, {0x7FFFFFFC, 13}, {0xFFFFFFFC, 13}};
 
 static void try_accesses(NcsBox *box, const char *name) {
     unsigned k;

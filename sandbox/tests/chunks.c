@@ -18,8 +18,8 @@ uint32_t chunks_random(uint64_t *random) {
 
 /* mov ecx, [esp + 4]; mov ebp, [esp + 8]; mov esi, [esp + 12]; mov edi, [esp + 16]; mov eax, [esp + 20]; and eax, -32; jmp eax */
 void chunks_lay_entry(uint8_t code[NC_BUNDLE]) {
-    static const uint8_t bytes[] = {0x8B, 0x4C, 0x24, 4, 0x8B, 0x6C, 0x24, 8, 0x8B, 0x74, 0x24, 12, 0x8B, 0x7C, 0x24, 16,
-                                    0x8B, 0x44, 0x24, 20, 0x83, 0xE0, 0xE0, 0xFF, 0xE0};
+    static const uint8_t bytes[] = {0x8B, 0x4C, 0x24, 4,    0x8B, 0x6C, 0x24, 8,    0x8B, 0x74, 0x24, 12,  0x8B,
+                                    0x7C, 0x24, 16,   0x8B, 0x44, 0x24, 20,   0x83, 0xE0, 0xE0, 0xFF, 0xE0};
     memset(code, 0x90, NC_BUNDLE);
     memcpy(code, bytes, sizeof bytes);
 }
@@ -72,9 +72,7 @@ Change chunks_change(uint64_t *random) {
     uint32_t r = chunks_random(random), other = r & 256;
     Change change = {PATCHED_AT + 0x0D, 5, {0xB8}};
     switch (r % 4) {
-    case 0:
-        lay32(change.bytes + 1, other ? FIRST_NUMBER : SECOND_NUMBER);
-        break;
+    case 0: lay32(change.bytes + 1, other ? FIRST_NUMBER : SECOND_NUMBER); break;
     case 1:
         change.at = PATCHED_AT + 0x2E;
         change.bytes[0] = 0xE9;

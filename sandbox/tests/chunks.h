@@ -5,10 +5,10 @@
 
 #include "nc_host.h"
 
-#define REGION 131071u      /* bundles: with the guard 4 MiB of code */
-#define BAD 0x60u           /* a bundle start of the zone that has no trampoline */
-#define ENTRY_AT 0x10000u   /* takes ECX, EBP, ESI, EDI and where to go from its arguments */
-#define DONE_AT 0x10020u    /* where a stay ends that is to come out by ESI; and by EDI. What they store: */
+#define REGION 131071u    /* bundles: with the guard 4 MiB of code */
+#define BAD 0x60u         /* a bundle start of the zone that has no trampoline */
+#define ENTRY_AT 0x10000u /* takes ECX, EBP, ESI, EDI and where to go from its arguments */
+#define DONE_AT 0x10020u  /* where a stay ends that is to come out by ESI; and by EDI. What they store: */
 #define OTHER_AT 0x10040u
 #define RESULT_AT 0x110000u /* ECX, EBX, and DONE or OTHER */
 #define DONE 1u
@@ -16,7 +16,7 @@
 
 #define PATCHED_AT 0x20000u /* a loop of ECX rounds, then a jump by ESI; four instructions are patched */
 #define PATCHED_LEN 96u
-#define ASIDE_AT 0x3FABE0u  /* one round of the loop may lead here, far away */
+#define ASIDE_AT 0x3FABE0u /* one round of the loop may lead here, far away */
 #define ASIDE_LEN 32u
 #define CHANGING_AT 0x30000u /* deleted, and created anew with other code; out by a jump by EDI */
 #define CHANGING_MAX 512u

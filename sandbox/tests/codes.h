@@ -6,15 +6,15 @@
 #include "testing.h"
 
 #define BUNDLE NC_BUNDLE
-#define BUNDLES 127u     /* with the guard a page of code */
+#define BUNDLES 127u /* with the guard a page of code */
 #define LIMIT NC_LIMIT(BUNDLES + 1)
-#define HERE 0x10000u    /* where most chunks are */
+#define HERE 0x10000u /* where most chunks are */
 #define THERE 0x10400u
 #define SHARED 0x110000u /* words in the box's memory, for code that waits */
 #define ROOM 0x112000u   /* a box's memory */
 #define SHORT 30u        /* milliseconds */
 #define LONG 10000u
-#define MOV_LEN 5u       /* of the instruction that loads a number */
+#define MOV_LEN 5u /* of the instruction that loads a number */
 
 /* `mov eax, number`, and back to the caller: a bundle. The instruction alone is for a patch. */
 void codes_number(uint8_t code[BUNDLE], uint32_t number);

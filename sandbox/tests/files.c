@@ -28,18 +28,13 @@ static uint32_t place(uint64_t *random) {
     memcpy(&code, good + h.e_phoff, sizeof code);
     switch (next_random(random) % 8) {
     case 0:
-    case 1:
-        return next_random(random) % sizeof h;
+    case 1: return next_random(random) % sizeof h;
     case 2:
-    case 3:
-        return h.e_phoff + next_random(random) % (h.e_phnum * (uint32_t)sizeof(Elf32_Phdr));
+    case 3: return h.e_phoff + next_random(random) % (h.e_phnum * (uint32_t)sizeof(Elf32_Phdr));
     case 4:
-    case 5:
-        return h.e_shoff + next_random(random) % (h.e_shnum * (uint32_t)sizeof(Elf32_Shdr));
-    case 6:
-        return code.p_offset + next_random(random) % code.p_filesz;
-    default:
-        return next_random(random) % (uint32_t)good_len;
+    case 5: return h.e_shoff + next_random(random) % (h.e_shnum * (uint32_t)sizeof(Elf32_Shdr));
+    case 6: return code.p_offset + next_random(random) % code.p_filesz;
+    default: return next_random(random) % (uint32_t)good_len;
     }
 }
 

@@ -24,6 +24,7 @@ typedef struct Case {
 #define NO_CALLBACK NCS_CALLBACK(2)
 #define STOP 0xF4
 
+/* clang-format off */
 static const Case CASES[] = {
     {"a return", BYTES(0x59, 0x83, 0xE1, 0xE0, 0xFF, 0xE1)},
     {"a store at 0", BYTES(0xA3, WORD(0))},
@@ -41,6 +42,7 @@ static const Case CASES[] = {
     {"nested calls without end",
      BYTES(MOV_ESP(0x2FF00), AT_ESP(CASE_AT), AT_ESP_PLUS(4, CASE_AT), MOV_EAX(NESTED), JMP_EAX)},
 };
+/* clang-format on */
 
 static unsigned nested_now, nested_most;
 
@@ -111,12 +113,14 @@ static void try_case(const Case *c) {
 
 /* What is told of code that nc_host refuses. */
 static void try_refused(void) {
+    /* clang-format off */
     static const Case cases[] = {{"a return instruction", BYTES(0xC3)},
                                  {"a system call", BYTES(0xCD, 0x80)},
                                  {"a far jump", BYTES(0xEA, WORD(0), 0x33, 0)},
                                  {"another segment", BYTES(0x65, 0xA1, WORD(0))},
                                  {"a jump that isn't masked", BYTES(0xFF, 0xE0)},
                                  {"a jump into the second half of a pair", BYTES(0xEB, 3, JMP_EAX)}};
+    /* clang-format on */
     size_t k;
     for (k = 0; k < sizeof cases / sizeof *cases; k++) {
         uint8_t code[CODE_LEN];

@@ -15,7 +15,7 @@
 
 #define ROOM 0x120000u /* of data and heap: the guest's data ends just above 00112000 */
 #define THREADS 4
-#define SHORT 30u      /* milliseconds */
+#define SHORT 30u /* milliseconds */
 #define LONG 10000u
 
 static uint8_t file[1 << 16];
@@ -132,8 +132,7 @@ static void try_memory(void) {
     CHECK(at.at % 16 == 0 && at.at >= ncs_symbol(guest, "_end").at && number(box, "sum", at.at, sizeof bytes) == 3 * sizeof bytes);
     CHECK(number(box, "sum", ncs_symbol(guest, "zeros").at, 5000) == 0);
     CHECK(ncs_take(box, ROOM).at == 0 && ncs_take(box, 0xFFFFFFFF).at == 0);
-    for (k = 0; ncs_take(box, 4096).at != 0; k++) {
-    }
+    for (k = 0; ncs_take(box, 4096).at != 0; k++) {}
     CHECK(k == (ROOM - at.at - sizeof bytes) / 4096 && ncs_put(box, bytes, sizeof bytes).at != 0);
     CHECK(ncs_reset(box) && ncs_put(box, bytes, 1).at == at.at && *(uint8_t *)ncs_at(box, last, 1) == 0);
     CHECK(ncs_get(box, text, ncs_symbol(guest, "buffer"), 6) && strcmp(text, "first") == 0);
@@ -179,8 +178,7 @@ static void try_callbacks(void) {
     seen.deny_at = seen.calls + 3;
     CHECK(call2(box, "each", 10, f.at).how == NCS_DENIED && seen.calls == seen.deny_at);
     CHECK(call2(box, "each", 10, f.at).how == NCS_DEAD && ncs_reset(box) && number(box, "each", 10, f.at) == 110);
-    for (; ncs_callback(box, see, &seen, 0).at == NCS_CALLBACK(k); k++) {
-    }
+    for (; ncs_callback(box, see, &seen, 0).at == NCS_CALLBACK(k); k++) {}
     CHECK(k == NCS_CALLBACKS && ncs_free(box));
     puts("call-backs");
 }
@@ -207,7 +205,7 @@ static void try_refusals(void) {
     check_limits(ROOM, 1, 0);
     CHECK(ncs_module_code(NULL, 0, &why) == NULL && why.kind == NCS_BAD_CODE && why.fault == 2);
     CHECK(ncs_module_code("\x90", 1, &why) == NULL && why.kind == NCS_BAD_CODE && why.fault == 2);
-    CHECK(ncs_module_elf("\x7F" "ELF", 4, &why) == NULL && why.kind == NCS_BAD_FILE && ncs_module_elf(NULL, 0, NULL) == NULL);
+    CHECK(ncs_module_elf("\177ELF", 4, &why) == NULL && why.kind == NCS_BAD_FILE && ncs_module_elf(NULL, 0, NULL) == NULL);
     CHECK(sigaction(SIGUSR1, &action, &before) == 0 && ncs_free(ncs_box_new(guest, &limits, &why)) && why.kind == NCS_OK);
     CHECK(sigaction(SIGUSR1, &before, NULL) == 0);
     ncs_module_free(NULL);
@@ -259,8 +257,7 @@ static uint64_t take_long(NcsBox *box, void *user, const uint32_t *args) {
     (void)user;
     (void)args;
     while (own_time() < end) {
-        for (work = 0; work < 30000000; work++) {
-        }
+        for (work = 0; work < 30000000; work++) {}
     }
     return 0;
 }

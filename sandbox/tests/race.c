@@ -44,9 +44,7 @@ typedef struct Guest {
 static NcsModule *module;
 static int over;
 static uint32_t latest; /* the version that stands, stood last or will stand; atomic */
-static struct {
-    uint32_t eax, edx;
-} versions[VERSIONS];
+static struct { uint32_t eax, edx; } versions[VERSIONS];
 
 /* How a thread goes in: through the loop and out; through it to a bundle of the changing chunk, or its start; or straight to that. */
 enum { LOOP_AND_OUT, TO_A_BUNDLE, TO_THE_START, STRAIGHT, WAYS };

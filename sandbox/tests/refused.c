@@ -251,8 +251,7 @@ static int make_reset(unsigned nth, int later, int *which) {
     return *which >= 0 && ncs_call(box, start, NCS_NO_ARGS).how == NCS_DEAD && ncs_reset(box) && returns(box) ? REFUSED : WRONG;
 }
 
-static void undo_nothing(void) {
-}
+static void undo_nothing(void) {}
 
 static int same(Holding a, Holding b) {
     return memcmp(&a, &b, sizeof a) == 0;

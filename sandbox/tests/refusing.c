@@ -227,7 +227,9 @@ static int refuses_number(long number) {
     static const struct {
         long number;
         int which;
-    } known[] = {{SYS_seccomp, REFUSES_seccomp}, {444, REFUSES_landlock_create_ruleset}, {445, REFUSES_landlock_add_rule},
+    } known[] = {{SYS_seccomp, REFUSES_seccomp},
+                 {444, REFUSES_landlock_create_ruleset},
+                 {445, REFUSES_landlock_add_rule},
                  {446, REFUSES_landlock_restrict_self}};
     size_t k = 0;
     while (k < sizeof known / sizeof *known && known[k].number != number) {

@@ -84,8 +84,9 @@ static void try_refusals(void) {
     NcsBox *box = new_box(SHORT);
     static const struct {
         uint32_t stack, depth, milliseconds;
-    } wrong[] = {{0x180008, 2, 10}, {0, 2, 10}, {0xFFF0, 2, 10}, {MEMORY_LEN + 16, 2, 10}, {0x180000, 0, 10},
-                 {0x180000, NCS_DEPTH_MAX + 1, 10}, {0x180000, 2, 0}};
+    } wrong[] = {{0x180008, 2, 10},        {0, 2, 10},        {0xFFF0, 2, 10},
+                 {MEMORY_LEN + 16, 2, 10}, {0x180000, 0, 10}, {0x180000, NCS_DEPTH_MAX + 1, 10},
+                 {0x180000, 2, 0}};
     NcsRefusal why;
     unsigned k;
     for (k = 0; k < sizeof wrong / sizeof *wrong; k++) {
@@ -137,7 +138,8 @@ static void try_limits(void) {
     begin(&one, killed, "run_often", name("seven").at, 7, 0);
     until_inside(box);
     CHECK(call(late, "run_often", name("seven").at, 7, 0).how == NCS_LATE && call(box, "seven", 0, 0, 0).result == 7);
-    CHECK(!ncs_reset(box) && !ncs_reset(killed) && call(box, "seven", 0, 0, 0).result == 7 && call(killed, "seven", 0, 0, 0).how == NCS_BUSY);
+    CHECK(!ncs_reset(box) && !ncs_reset(killed) && call(box, "seven", 0, 0, 0).result == 7 &&
+          call(killed, "seven", 0, 0, 0).how == NCS_BUSY);
     begin(&other, box, "run_often", name("seven").at, 7, 0);
     ncs_kill(killed);
     CHECK(how_ends(&one) == NCS_KILLED && call(killed, "seven", 0, 0, 0).how == NCS_DEAD);

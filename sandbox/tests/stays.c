@@ -14,8 +14,8 @@
 #define WAITS HERE            /* the chunk that waits */
 #define CALLS (HERE + 0x100u) /* the one that calls back */
 #define LOOPS (HERE + 0x200u)
-#define GIVEN THERE           /* the one that is deleted and created */
-#define CROWD 4u              /* threads with nested calls */
+#define GIVEN THERE /* the one that is deleted and created */
+#define CROWD 4u    /* threads with nested calls */
 
 static NcsModule *module;
 

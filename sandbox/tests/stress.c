@@ -89,7 +89,7 @@ static NcsBox *make_box(NcsModule *module, unsigned *calls) {
 
 /* Calls a function with an end that is right where nobody kills; whether it was killed. */
 static int call_one(NcsBox *box, unsigned function, uint32_t a) {
-    static const uint32_t ends[BUNDLES] = {[ADD] = NCS_RETURNED, [SPIN] = NCS_KILLED, [STOP] = NCS_STOPPED, [CALLS] = NCS_KILLED,
+    static const uint32_t ends[BUNDLES] = {[ADD] = NCS_RETURNED,       [SPIN] = NCS_KILLED,   [STOP] = NCS_STOPPED, [CALLS] = NCS_KILLED,
                                            [CALLS_AGAIN] = NCS_KILLED, [STORE] = NCS_FAULTED, [FILL] = NCS_FAULTED};
     NcsAt at = {AT(function)};
     NcsEnd end = ncs_call(box, at, NCS_ARGS(a, 7));
@@ -159,8 +159,7 @@ static unsigned try_kills(double until) {
         for (k = 0; k < 3; k++) {
             CHECK(sem_post(&victims[k].begins) == 0);
         }
-        while (now() < end) {
-        }
+        while (now() < end) {}
         for (k = 0; k < 3; k++) {
             kill_one(&victims[k]);
         }

@@ -13,8 +13,10 @@
 unsigned testing_wrong;
 
 size_t testing_elf(uint8_t *to, const uint8_t *code, uint32_t len) {
+    /* clang-format off */
     static const Elf32_Ehdr h = {.e_ident = ELFMAG "\1\1\1", .e_type = ET_EXEC, .e_machine = EM_386, .e_version = 1, .e_entry = CODE_AT,
                                  .e_phoff = sizeof h, .e_ehsize = sizeof h, .e_phentsize = sizeof(Elf32_Phdr), .e_phnum = 2};
+    /* clang-format on */
     Elf32_Phdr p[2] = {{.p_type = PT_LOAD, .p_vaddr = CODE_AT, .p_filesz = len, .p_memsz = len, .p_flags = PF_R | PF_X},
                        {.p_type = PT_LOAD, .p_vaddr = DATA_AT, .p_filesz = 16, .p_memsz = 4096, .p_flags = PF_R | PF_W}};
     p[0].p_offset = p[1].p_offset = sizeof h + sizeof p;

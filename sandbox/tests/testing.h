@@ -8,10 +8,10 @@
 #include <stdint.h>
 
 #define CODE_AT 0x10000u
-#define CASE_AT (CODE_AT + 32)  /* the code of a case; the bundle before it returns */
+#define CASE_AT (CODE_AT + 32) /* the code of a case; the bundle before it returns */
 #define CODE_LEN 96u
 #define CODE_LIMIT 0x11000u
-#define DATA_AT 0x30000u        /* of a page of data, with the stack below it */
+#define DATA_AT 0x30000u /* of a page of data, with the stack below it */
 #define MEMORY (1u << 20)
 #define SKIPPED 77
 #define FILE_ROOM 4096u

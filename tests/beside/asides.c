@@ -9,6 +9,7 @@
 #include <sys/wait.h>
 #include <unistd.h>
 
+/* clang-format off */
 static const struct {
     uint32_t at;
     uint8_t len, code[27];
@@ -22,6 +23,7 @@ static const struct {
                   0xFF, 0x05, 0x00, 0x00, 0x11, 0x00, 0xEB, 0xE6, 0xF4}}, /* stc; jnc to the stop, six times; inc dword [COUNT]; jmp */
     {STOPS, 1, {0xF4}},
 };
+/* clang-format on */
 
 void asides_lay(uint8_t code[ASIDES_LEN]) {
     size_t k;

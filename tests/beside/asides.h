@@ -20,7 +20,7 @@ enum {
 #define ASIDES_MEMORY (4u << 20)
 
 void asides_lay(uint8_t code[ASIDES_LEN]); /* at CODE_AT */
-NcsModule *asides_module(void); /* it ends the process with SKIPPED if the system has no boxes */
+NcsModule *asides_module(void);            /* it ends the process with SKIPPED if the system has no boxes */
 NcsBox *asides_box(NcsModule *module, uint32_t milliseconds);
 NcsEnd asides_call(NcsBox *box, uint32_t function, uint32_t argument);
 
@@ -33,10 +33,10 @@ typedef struct Aside {
     NcsEnd end;
 } Aside;
 
-void asides_begin(Aside *aside);           /* its fields but thread and end are set. It returns once the thread is inside */
-NcsEnd asides_end(Aside *aside);           /* kills its call, and waits for it */
+void asides_begin(Aside *aside);                /* its fields but thread and end are set. It returns once the thread is inside */
+NcsEnd asides_end(Aside *aside);                /* kills its call, and waits for it */
 uint32_t asides_flat(NcsBox *box, uint32_t at); /* the linear address of a place in a box */
-unsigned asides_touched(NcsBox *box);      /* bytes of the box's memory above 1 MiB that aren't 0 */
+unsigned asides_touched(NcsBox *box);           /* bytes of the box's memory above 1 MiB that aren't 0 */
 
 /* Runs a row in a child, before or after the first module, and tells how that ended: its exit status, or 1000 and the signal. */
 int asides_child(int (*row)(void));

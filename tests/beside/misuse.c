@@ -472,8 +472,12 @@ static size_t lay_symbols(uint8_t *file) {
     s[3] = (Elf32_Shdr){.sh_type = SHT_SYMTAB, .sh_offset = at, .sh_size = SYMBOLS * (uint32_t)sizeof *symbol, .sh_link = 2};
     symbol = (Elf32_Sym *)(file + at);
     for (k = 0; k < SYMBOLS; k++) {
-        symbol[k] = (Elf32_Sym){.st_name = k == FIRST_IN ? 1 : k == FIRST_OUT ? 4 : 8, .st_value = CODE_AT + 32 * (k == FIRST_OUT),
-                                .st_info = ELF32_ST_INFO(STB_GLOBAL, STT_FUNC), .st_shndx = 1};
+        symbol[k] = (Elf32_Sym){.st_name = k == FIRST_IN  ? 1
+                                         : k == FIRST_OUT ? 4
+                                                          : 8,
+                                .st_value = CODE_AT + 32 * (k == FIRST_OUT),
+                                .st_info = ELF32_ST_INFO(STB_GLOBAL, STT_FUNC),
+                                .st_shndx = 1};
     }
     return at + SYMBOLS * sizeof *symbol;
 }
@@ -500,8 +504,8 @@ static const struct {
 };
 
 static void (*const ROWS[])(void) = {
-    try_jump, try_end, try_endings, try_waiting, try_outer_kill, try_fork, try_clone, try_fork_inside, try_destructors, try_table,
-    try_landing, try_guard, try_locked, try_copy, try_symbols,
+    try_jump,        try_end,   try_endings, try_waiting, try_outer_kill, try_fork, try_clone,   try_fork_inside,
+    try_destructors, try_table, try_landing, try_guard,   try_locked,     try_copy, try_symbols,
 };
 
 /* Whether the system has boxes. */

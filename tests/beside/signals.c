@@ -254,8 +254,7 @@ static int waits_for_a_signal(void) {
     uint64_t k;
     handled = 0;
     is_time = 1;
-    for (k = 0; k < 20000000000u && handled == 0; k++) {
-    }
+    for (k = 0; k < 20000000000u && handled == 0; k++) {}
     return handled == 1;
 }
 
@@ -356,7 +355,12 @@ static int lose_promised_stack(void) {
 /* ---- Promises */
 
 static int has_flag(int sig) {
-    struct { void *handler; unsigned long flags; void *restorer; uint64_t mask; } action;
+    struct {
+        void *handler;
+        unsigned long flags;
+        void *restorer;
+        uint64_t mask;
+    } action;
     CHECK(syscall(SYS_rt_sigaction, sig, NULL, &action, sizeof action.mask) == 0);
     return action.handler != NULL && (action.flags & SA_ONSTACK) != 0;
 }
@@ -449,7 +453,7 @@ static int fork_in_handler(void) {
     NcsEnd end;
     one_box = asides_box(asides_module(), 900);
     handle(SIGALRM, fork_here, 0, 0);
-    (void)ualarm(700000, 0); /* the loop has begun by then, even on a busy machine */
+    (void)ualarm(700000, 0);           /* the loop has begun by then, even on a busy machine */
     call_often(one_box, NCS_RETURNED); /* and no system call from here on */
     end = asides_call(one_box, LOOPS, 0);
     if (forked == 0) {
@@ -473,8 +477,7 @@ static int block_ticks(void) {
     uint64_t all = ~0ull, begun;
     CHECK(asides_call(box, RETURNS, 0).how == NCS_RETURNED);
     CHECK(syscall(SYS_rt_sigprocmask, SIG_SETMASK, &all, NULL, sizeof all) == 0);
-    for (begun = own_time(); own_time() < begun + 400;) {
-    }
+    for (begun = own_time(); own_time() < begun + 400;) {}
     begun = own_time();
     CHECK(asides_call(box, LOOPS, 0).how == NCS_LATE && own_time() >= begun + 200);
     return testing_wrong != 0;
@@ -616,8 +619,8 @@ static const struct {
 };
 
 static void (*const ROWS[])(void) = {
-    try_late_handler, try_held, try_going_on, try_cancel, try_cancel_inside, try_forged_ticks, try_deeds, try_ticks, try_lost_stack,
-    try_lost_handlers,
+    try_late_handler, try_held,  try_going_on, try_cancel,     try_cancel_inside,
+    try_forged_ticks, try_deeds, try_ticks,    try_lost_stack, try_lost_handlers,
 };
 
 /* Whether the system has boxes. */

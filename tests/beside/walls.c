@@ -381,8 +381,10 @@ static int is_refused(const NcsWall *wall, uint32_t kind) {
 static int build_wrongly(const void *given) {
     static int many[NCS_WALL_CALLS + 1], negative = -1, of_x32 = X32 + SYS_getpid;
     const NcsFolder nothing = {.file = -1};
-    const NcsWall walls[] = {{.calls = many, .call_count = NCS_WALL_CALLS + 1}, {.calls = &negative, .call_count = 1},
-                             {.calls = &of_x32, .call_count = 1}}, lost = {.folders = &nothing, .folder_count = 1};
+    const NcsWall walls[] = {{.calls = many, .call_count = NCS_WALL_CALLS + 1},
+                             {.calls = &negative, .call_count = 1},
+                             {.calls = &of_x32, .call_count = 1}},
+                  lost = {.folders = &nothing, .folder_count = 1};
     const NcsWall *good = given;
     int next = next_file();
     size_t k;

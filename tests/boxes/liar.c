@@ -31,7 +31,9 @@ int png_image_finish_read(u32 *image, void *background, char *out) {
     return 1;
 }
 
-u32 XML_ParserCreate(void) { return 0xFFFFFFFF; }
+u32 XML_ParserCreate(void) {
+    return 0xFFFFFFFF;
+}
 
 void XML_SetElementHandler(u32 parser, Function start, Function end) {
     (void)parser;
@@ -66,6 +68,10 @@ int XML_Parse(u32 parser, const char *text) {
     return 1;
 }
 
-u32 XML_GetErrorCode(void) { return 7; }
+u32 XML_GetErrorCode(void) {
+    return 7;
+}
 
-u32 XML_ErrorString(void) { return letter == 'i' ? 0xFFFFFFFF : 0; }
+u32 XML_ErrorString(void) {
+    return letter == 'i' ? 0xFFFFFFFF : 0;
+}

@@ -18,7 +18,9 @@ static int call(int number, long a, long b, long c) {
     return result;
 }
 
-static void write_text(const char *text, uint32_t len) { (void)call(4, 1, (long)text, (long)len); }
+static void write_text(const char *text, uint32_t len) {
+    (void)call(4, 1, (long)text, (long)len);
+}
 
 void *executable(uint32_t len) {
     const uint32_t words[6] = {0, len, 7, 0x22, ~0u, 0};
@@ -28,7 +30,9 @@ void *executable(uint32_t len) {
 #else
 #include <nc_run.h>
 
-static void write_text(const char *text, uint32_t len) { (void)nc_write(1, text, len); }
+static void write_text(const char *text, uint32_t len) {
+    (void)nc_write(1, text, len);
+}
 
 void *executable(uint32_t len) {
     (void)len;
@@ -36,7 +40,9 @@ void *executable(uint32_t len) {
 }
 #endif
 
-void forget(void) { taken = 0; }
+void forget(void) {
+    taken = 0;
+}
 
 void *malloc(size_t size) {
     uint32_t wanted = HEAD + ((uint32_t)size + 15) / 16 * 16;
@@ -60,7 +66,9 @@ void *realloc(void *old, size_t size) {
     return at;
 }
 
-void free(void *old) { (void)old; }
+void free(void *old) {
+    (void)old;
+}
 
 void *memcpy(void *to, const void *from, size_t len) {
     char *at = to;
@@ -134,8 +142,12 @@ __attribute__((noreturn, used)) static void begin(long *stack) {
 __asm__(".p2align 5\n.globl enter\nenter: movl 4(%esp), %eax\n.skip 26, 0x90\ncall *%eax\nret\n");
 __asm__(".globl _start\n_start: movl %esp, %eax\nandl $-16, %esp\nsubl $12, %esp\npushl %eax\ncall begin\n");
 #else
-void enter(void (*function)(void)) { function(); }
+void enter(void (*function)(void)) {
+    function();
+}
 
 int start(int argc, char **argv);
-int start(int argc, char **argv) { return start_with(argc, argv); }
+int start(int argc, char **argv) {
+    return start_with(argc, argv);
+}
 #endif

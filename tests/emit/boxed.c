@@ -30,7 +30,9 @@ long long nc_create(unsigned at, const void *from, unsigned len) {
     return 0;
 }
 
-long long nc_patch(unsigned at, const void *from, unsigned len) { return nc_create(at, from, len); }
+long long nc_patch(unsigned at, const void *from, unsigned len) {
+    return nc_create(at, from, len);
+}
 
 long long nc_delete(unsigned at) {
     (void)at;

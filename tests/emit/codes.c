@@ -12,7 +12,9 @@ enum { FREE, LIVE, HELD };
 static uint8_t area[BUNDLES], begins[BUNDLES];
 static uint32_t bundles, asked, refusing, stolen;
 
-static long long refused(int fault, uint32_t at) { return (long long)((uint64_t)at << 32 | (uint32_t)-(256 + fault)); }
+static long long refused(int fault, uint32_t at) {
+    return (long long)((uint64_t)at << 32 | -(uint32_t)(256 + fault));
+}
 
 int nc_hole(unsigned from, struct nc_hole *to) {
     uint32_t k = from <= BEGIN ? 0 : (from - BEGIN + 31) / 32, looks, len = 0;

@@ -135,24 +135,57 @@ static uint32_t fault_of(int which) {
     switch (which) {
     case 0: nce_jump(&c, 4, label); break;
     case 1: nce_jump(&c, 4, label + 1); break;
-    case 2: nce_bind(&c, label); nce_bind(&c, label); break;
+    case 2:
+        nce_bind(&c, label);
+        nce_bind(&c, label);
+        break;
     case 3: nce_raw(&c, "\xC3", 1); break;
     case 4: nce_raw(&c, "\xB8", 1); break;
-    case 5: nce_raw(&c, "\xB8", 1); nce_bind(&c, label); break;
-    case 6: nce_raw(&c, "\xB8", 1); nce_instruction(&c, "\x40", 1); nce_raw(&c, "\x40", 1); break;
+    case 5:
+        nce_raw(&c, "\xB8", 1);
+        nce_bind(&c, label);
+        break;
+    case 6:
+        nce_raw(&c, "\xB8", 1);
+        nce_instruction(&c, "\x40", 1);
+        nce_raw(&c, "\x40", 1);
+        break;
     case 7: nce_instruction(&c, fifteen, 0); break;
     case 8: nce_instruction(&c, fifteen, 16); break;
     case 9: nce_address(&c, label); break;
-    case 10: nce_raw(&c, "\x40", 1); nce_address(&c, label); break;
-    case 11: nce_raw(&c, "\xB8\0\0\0\0", 5); nce_bind(&c, label); nce_address(&c, label); break;
-    case 12: nce_raw(&c, "\xB8\0\0\0\0", 5); nce_bind(&c, nce_label(&c)); nce_last(&c); break;
-    case 13: nce_raw(&c, "\x40", 1); nce_far(&c); break;
-    case 14: nce_jump_to(&c, 4, 0); nce_raw(&c, "\x40", 1); nce_far(&c); break;
+    case 10:
+        nce_raw(&c, "\x40", 1);
+        nce_address(&c, label);
+        break;
+    case 11:
+        nce_raw(&c, "\xB8\0\0\0\0", 5);
+        nce_bind(&c, label);
+        nce_address(&c, label);
+        break;
+    case 12:
+        nce_raw(&c, "\xB8\0\0\0\0", 5);
+        nce_bind(&c, nce_label(&c));
+        nce_last(&c);
+        break;
+    case 13:
+        nce_raw(&c, "\x40", 1);
+        nce_far(&c);
+        break;
+    case 14:
+        nce_jump_to(&c, 4, 0);
+        nce_raw(&c, "\x40", 1);
+        nce_far(&c);
+        break;
     case 15: nce_jump_by(&c, NCE_ESP); break;
     case 16: nce_return(&c, 8); break;
     case 17: nce_last(&c); break;
     case 18: nce_raw(&c, "\x66\x66\x66\x66\x66\x66\x66\x66\x66\x66\x66\x66\x66\x66\x66\x40", 16); break;
-    case 19: nce_raw(&c, "\xB8\0\0\0\0", 5); nce_address(&c, label); nce_address(&c, label); nce_bind(&c, label); break;
+    case 19:
+        nce_raw(&c, "\xB8\0\0\0\0", 5);
+        nce_address(&c, label);
+        nce_address(&c, label);
+        nce_bind(&c, label);
+        break;
     default: nce_entry(&c, label + 1); break;
     }
     check(nce_layout(&c) == 0, "a layout in spite of a fault");

@@ -9,6 +9,7 @@
 #include <string.h>
 
 enum { F = 0, G = 0x19, PLUS_ONE = 0x39, BY_ECX = 0x3B, TWICE = 0x42, LEN = 0x4C };
+/* clang-format off */
 static const uint8_t flat[LEN] = {
     0x55, 0x89, 0xE5, 0x8B, 0x45, 0x08, 0x85, 0xC0, 0x74, 0x0D,             /* f: the sum of the numbers up to its argument */
     0x48, 0x50, 0xE8, 0xEF, 0xFF, 0xFF, 0xFF, 0x83, 0xC4, 0x04, 0x03, 0x45, /* call f */
@@ -20,16 +21,18 @@ static const uint8_t flat[LEN] = {
     0xB9, 0, 0, 0, 0, 0xFF, 0xE1,                                           /* BY_ECX: mov ecx, TWICE; jmp ecx */
     0x01, 0xC0, 0xEB, 0x01, 0xF4, 0xE9, 0, 0, 0, 0,                         /* TWICE: add eax, eax; jmp; jmp PLUS_ONE */
 };
+/* clang-format on */
 static const uint32_t entries[] = {F, G, PLUS_ONE, BY_ECX, TWICE}, foreign[] = {0x24, 0x2A, 0x3C, 0x48};
 static uint32_t pointers[2], argument, result;
 
-static uint32_t address_of(const NcFlat *f, uint32_t base, uint32_t offset) { return base + nc_flat_place(f, offset); }
+static uint32_t address_of(const NcFlat *f, uint32_t base, uint32_t offset) {
+    return base + nc_flat_place(f, offset);
+}
 
 /* Fills in what relocations would. */
 static void relocate(const NcFlat *f, uint32_t base, uint8_t *to) {
-    const uint32_t at = nc_flat_place(f, 0x48),
-                   words[] = {(uint32_t)(uintptr_t)pointers, (uint32_t)(uintptr_t)(pointers + 1), address_of(f, base, TWICE),
-                              address_of(f, base, PLUS_ONE) - (base + at + 4)};
+    const uint32_t at = nc_flat_place(f, 0x48), words[] = {(uint32_t)(uintptr_t)pointers, (uint32_t)(uintptr_t)(pointers + 1),
+                                                           address_of(f, base, TWICE), address_of(f, base, PLUS_ONE) - (base + at + 4)};
     unsigned k;
     for (k = 0; k < 4; k++) memcpy(to + nc_flat_place(f, foreign[k]), words + k, 4);
     pointers[0] = address_of(f, base, PLUS_ONE);

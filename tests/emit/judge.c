@@ -21,7 +21,9 @@ void check(int is_so, const char *what) {
     }
 }
 
-int vetted(uint32_t base, const uint8_t *code, uint32_t len) { return nc_host_vet(base, 0x04010000, code, len).fault == NC_OK; }
+int vetted(uint32_t base, const uint8_t *code, uint32_t len) {
+    return nc_host_vet(base, 0x04010000, code, len).fault == NC_OK;
+}
 
 /* ---- Memory */
 
@@ -38,13 +40,23 @@ void refuse_growth(uint32_t which) {
     grown = 0;
 }
 
-int was_refused(void) { return refused != 0 && grown >= refused; }
+int was_refused(void) {
+    return refused != 0 && grown >= refused;
+}
 
-static int is_refused(void) { return ++grown == refused; }
+static int is_refused(void) {
+    return ++grown == refused;
+}
 
-void *__wrap_malloc(size_t size) { return is_refused() ? NULL : __real_malloc(size); }
-void *__wrap_calloc(size_t count, size_t size) { return is_refused() ? NULL : __real_calloc(count, size); }
-void *__wrap_realloc(void *old, size_t size) { return is_refused() ? NULL : __real_realloc(old, size); }
+void *__wrap_malloc(size_t size) {
+    return is_refused() ? NULL : __real_malloc(size);
+}
+void *__wrap_calloc(size_t count, size_t size) {
+    return is_refused() ? NULL : __real_calloc(count, size);
+}
+void *__wrap_realloc(void *old, size_t size) {
+    return is_refused() ? NULL : __real_realloc(old, size);
+}
 
 /* ---- Programs */
 

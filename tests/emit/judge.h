@@ -6,9 +6,9 @@
 
 #include <stddef.h>
 
-void check(int is_so, const char *what);                              /* prints WRONG, and ends, if it isn't so */
-int vetted(uint32_t base, const uint8_t *code, uint32_t len);         /* whether nc_host accepts it */
-void refuse_growth(uint32_t which);                                   /* of the allocations from now on; 0: none */
+void check(int is_so, const char *what);                      /* prints WRONG, and ends, if it isn't so */
+int vetted(uint32_t base, const uint8_t *code, uint32_t len); /* whether nc_host accepts it */
+void refuse_growth(uint32_t which);                           /* of the allocations from now on; 0: none */
 int was_refused(void);
 
 void try_edges(void);

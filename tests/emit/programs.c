@@ -5,8 +5,27 @@
 #include <string.h>
 
 enum {
-    SET, ADD, SUB, XOR, AND, OR, ADD_BYTE, ADD_NUMBER, ADD_HALF, LOAD, STORE, STORE_NUMBER, ADD_CELL, LEA, TIMES, SHIFT, SET_IF, MOVE_IF,
-    STACK, NOTHING, OPS
+    SET,
+    ADD,
+    SUB,
+    XOR,
+    AND,
+    OR,
+    ADD_BYTE,
+    ADD_NUMBER,
+    ADD_HALF,
+    LOAD,
+    STORE,
+    STORE_NUMBER,
+    ADD_CELL,
+    LEA,
+    TIMES,
+    SHIFT,
+    SET_IF,
+    MOVE_IF,
+    STACK,
+    NOTHING,
+    OPS
 };
 static const uint8_t numbers[REGISTERS] = {NCE_EAX, NCE_EDX, NCE_EBX, NCE_ESI, NCE_EBP};
 
@@ -14,19 +33,23 @@ static const uint8_t numbers[REGISTERS] = {NCE_EAX, NCE_EDX, NCE_EBX, NCE_ESI, N
 
 static uint32_t random_state;
 
-void draw_from(uint32_t seed) { random_state = seed * 2654435761u + 12345; }
+void draw_from(uint32_t seed) {
+    random_state = seed * 2654435761u + 12345;
+}
 
 uint32_t draw(uint32_t below) {
     random_state = random_state * 1664525u + 1013904223u;
     return (uint32_t)((uint64_t)(random_state ^ random_state >> 15) % below);
 }
 
-static uint32_t number(void) { return draw(2) ? draw(256) - 128 : draw(65536) << 16 | draw(65536); }
+static uint32_t number(void) {
+    return draw(2) ? draw(256) - 128 : draw(65536) << 16 | draw(65536);
+}
 
 /* A step in a chunk with these labels. */
 static Step step(Program *p, uint32_t chunk, uint32_t first, uint32_t labels) {
-    static const uint8_t kinds[] = {GO, GO, GO_IF, GO_IF, GO_IF, GO_IF, GO_BY, GO_TABLE, CALL, CALL, CALL_BY, RETURN, GO_OVER, CALL_OVER,
-                                    GO_PATCHED, ALIGN};
+    static const uint8_t kinds[] = {GO,   GO,   GO_IF,   GO_IF,  GO_IF,   GO_IF,     GO_BY,      GO_TABLE,
+                                    CALL, CALL, CALL_BY, RETURN, GO_OVER, CALL_OVER, GO_PATCHED, ALIGN};
     Step made = {PLAIN, (uint8_t)draw(OPS), (uint8_t)draw(REGISTERS), (uint8_t)draw(REGISTERS), number()};
     if (draw(3) != 0) return made;
     made.kind = kinds[draw(sizeof kinds)];
@@ -114,7 +137,8 @@ static void act(const Step *x, State *s) {
 static uint32_t target(const Program *p, const State *s, const Step *x) {
     uint32_t chunk = (uint32_t)(x - p->steps) >= p->begins[1];
     switch (x->kind) {
-    case GO_OVER: case CALL_OVER: return p->begins[1 - chunk];
+    case GO_OVER:
+    case CALL_OVER: return p->begins[1 - chunk];
     case GO_PATCHED: return p->places[p->to[x->number]];
     case GO_TABLE: return p->places[x->number + (s->registers[x->a] & (TABLE - 1))];
     default: return p->places[x->number];
@@ -146,7 +170,10 @@ static void give(NceCode *c, const uint8_t *bytes, const uint8_t *lens, uint32_t
     cut = draw(all + 1);
     switch (draw(4)) {
     case 0: nce_raw(c, bytes, all); break;
-    case 1: nce_raw(c, bytes, cut); nce_raw(c, bytes + cut, all - cut); break;
+    case 1:
+        nce_raw(c, bytes, cut);
+        nce_raw(c, bytes + cut, all - cut);
+        break;
     default:
         for (k = 0; k < count; bytes += lens[k++]) nce_instruction(c, bytes, lens[k]);
     }
@@ -174,7 +201,9 @@ static void give_at(Made *m, uint32_t opcode, uint32_t reg, uint32_t offset) {
     give_words(&m->code, opcode, reg << 3 | 5, 1, m->state + offset, 0);
 }
 
-static uint32_t cell(uint32_t k) { return (uint32_t)(offsetof(State, cells) + 4 * (k % CELLS)); }
+static uint32_t cell(uint32_t k) {
+    return (uint32_t)(offsetof(State, cells) + 4 * (k % CELLS));
+}
 
 /* add r16, number; lock add [cell], number; cmp, setcc and movzx; push and pop; lea; shl */
 static void give_group(Made *m, const Step *x, uint32_t a, uint32_t b) {
@@ -210,8 +239,7 @@ static void give_group(Made *m, const Step *x, uint32_t a, uint32_t b) {
         memcpy(bytes + 3, &n, 4);
         give_one(&m->code, bytes, 7);
         break;
-    default:
-        give_one(&m->code, (const uint8_t[]){0xC1, (uint8_t)(0xE0 | a), (uint8_t)n}, 3);
+    default: give_one(&m->code, (const uint8_t[]){0xC1, (uint8_t)(0xE0 | a), (uint8_t)n}, 3);
     }
 }
 
@@ -221,7 +249,11 @@ static void give_act(Made *m, const Step *x) {
     NceCode *c = &m->code;
     switch (x->op) {
     case SET: give_words(c, 0xC7, 0xC0 | a, 1, n, 0); break;
-    case ADD: case SUB: case XOR: case AND: case OR: give_words(c, opcodes[x->op], 0xC0 | b << 3 | a, 0, 0, 0); break;
+    case ADD:
+    case SUB:
+    case XOR:
+    case AND:
+    case OR: give_words(c, opcodes[x->op], 0xC0 | b << 3 | a, 0, 0, 0); break;
     case ADD_BYTE: give_one(c, (const uint8_t[]){0x83, (uint8_t)(0xC0 | a), (uint8_t)n}, 3); break;
     case ADD_NUMBER: give_words(c, 0x81, 0xC0 | a, 1, n, 0); break;
     case LOAD: give_at(m, 0x8B, a, cell(n)); break;
@@ -236,8 +268,10 @@ static void give_act(Made *m, const Step *x) {
 /* ECX or EDI becomes a label's address, or that in the table. */
 static unsigned give_address(Made *m, const Step *x) {
     uint32_t reg = x->op & 1 ? NCE_EDI : NCE_ECX, table = m->state + (uint32_t)offsetof(State, table) + 4 * x->number, k;
+    /* clang-format off */
     uint8_t bytes[12] = {0x89, (uint8_t)(0xC0 | numbers[x->a] << 3 | reg), 0x83, (uint8_t)(0xE0 | reg), TABLE - 1,
                          0x8B, (uint8_t)(0x04 | reg << 3), (uint8_t)(0x85 | reg << 3)};
+    /* clang-format on */
     if (x->kind == GO_TABLE) {
         memcpy(bytes + 8, &table, 4);
         give(&m->code, bytes, (const uint8_t[]){2, 3, 7}, 3);
@@ -263,7 +297,8 @@ static void give_transfer(Made *m, const Program *p, const Step *x, uint32_t ove
         nce_far(c);
         m->patched[x->number] = nce_last(c);
         break;
-    case GO_BY: case GO_TABLE: nce_jump_by(c, give_address(m, x)); break;
+    case GO_BY:
+    case GO_TABLE: nce_jump_by(c, give_address(m, x)); break;
     case CALL: nce_call(c, m->labels[label]); break;
     case CALL_BY: nce_call_by(c, give_address(m, x)); break;
     case GO_OVER: nce_jump_to(c, NCE_ALWAYS, over); break;

@@ -25,7 +25,7 @@
 #define WRITE_MOST 0x20000u /* bytes that may be written in the folder */
 #define NUMBERS_MOST 1024u  /* of the files of this process */
 #define STANDARD 3
-#define CLOSE 5             /* the number of the call nc_close */
+#define CLOSE 5 /* the number of the call nc_close */
 
 /* As the program reads it. */
 typedef struct Call {
@@ -121,30 +121,24 @@ static void put_path(const Trial *t, uint32_t slot, const uint8_t parts[FOLDER_P
 
 /* A number that a call may take amiss, by a byte that says which, and three more bytes. */
 static uint32_t word(const Trial *t, uint8_t which, uint32_t extra) {
+    /* clang-format off */
     static const uint32_t edges[] = {0, 1, 2, 3, 63, 64, 0xFFFF, 0x10000, 0x7FFFFFFF, 0x80000000, 0xFFFFFFE0, 0xFFFFFFFF, RULES_ROOM,
                                      RULES_ROOM - 1, RULES_ROOM - 0x10000, BUFFER_LEN};
     static const uint32_t hows[] = {NC_OPEN_READ, NC_OPEN_WRITE, NC_OPEN_BOTH, NC_OPEN_WRITE | NC_OPEN_CREATE,
                                     NC_OPEN_BOTH | NC_OPEN_CREATE, NC_OPEN_BOTH | NC_OPEN_CREATE | NC_OPEN_NEW,
                                     NC_OPEN_WRITE | NC_OPEN_EMPTY, NC_OPEN_WRITE | NC_OPEN_APPEND, NC_OPEN_CREATE, NC_OPEN_EMPTY, 3,
                                     0x8000 | NC_OPEN_READ};
+    /* clang-format on */
     uint32_t low = which & 31;
     switch (which >> 5) {
-    case 0:
-        return low;
-    case 1:
-        return low % 8 == 7 ? t->too_long.at : t->paths.at + PATH_ROOM * (low % PATHS);
-    case 2:
-        return t->buffer.at + low * (BUFFER_LEN / 32);
-    case 3:
-        return edges[low % (sizeof edges / sizeof *edges)];
-    case 4:
-        return RULES_ROOM - low;
-    case 5:
-        return hows[low % (sizeof hows / sizeof *hows)];
-    case 6:
-        return extra >> (low % 16);
-    default:
-        return extra << (low % 16);
+    case 0: return low;
+    case 1: return low % 8 == 7 ? t->too_long.at : t->paths.at + PATH_ROOM * (low % PATHS);
+    case 2: return t->buffer.at + low * (BUFFER_LEN / 32);
+    case 3: return edges[low % (sizeof edges / sizeof *edges)];
+    case 4: return RULES_ROOM - low;
+    case 5: return hows[low % (sizeof hows / sizeof *hows)];
+    case 6: return extra >> (low % 16);
+    default: return extra << (low % 16);
     }
 }
 

@@ -24,9 +24,11 @@ typedef struct Known {
 /* What is there at first: the files in the folder, one outside of it, and links. */
 static Known inside[] = {{"dir/file", "four\n", {0}}, {"dir/sub/inner", "inner\n", {0}}};
 static Known secret = {"secret", "secret\n", {0}};
-static const struct { const char *name, *to; } links[] = {
-    {"dir/sub/up", "../file"}, {"dir/out", "../secret"}, {"dir/above", ".."}, {"dir/beyond", "../made"}, {"dir/loop", "loop"},
-    {"dir/self", "/proc/self"},
+static const struct {
+    const char *name, *to;
+} links[] = {
+    {"dir/sub/up", "../file"}, {"dir/out", "../secret"}, {"dir/above", ".."},
+    {"dir/beyond", "../made"}, {"dir/loop", "loop"},     {"dir/self", "/proc/self"},
 };
 #define LENGTH(table) (sizeof(table) / sizeof *(table))
 
@@ -121,8 +123,8 @@ const char *folder_above(void) {
 }
 
 const char *folder_part(unsigned number) {
-    static const char *const parts[] = {"file", "sub", "inner", "made", "..", ".", "", "up", "out", "above", "beyond", "loop", "self",
-                                        "root", "pipe", "secret", "dir", "d", "fd", "mem", "cwd", "more", "\n", "\xFF"};
+    static const char *const parts[] = {"file", "sub",  "inner", "made",   "..",  ".", "",   "up",  "out", "above", "beyond", "loop",
+                                        "self", "root", "pipe",  "secret", "dir", "d", "fd", "mem", "cwd", "more",  "\n",     "\xFF"};
     return parts[number % LENGTH(parts)];
 }
 
@@ -161,8 +163,7 @@ int folder_outside_is_same(void) {
 static int is_known(const char *name) {
     struct stat about;
     size_t k;
-    for (k = 0; k < LENGTH(inside) && strcmp(name, inside[k].name) != 0; k++) {
-    }
+    for (k = 0; k < LENGTH(inside) && strcmp(name, inside[k].name) != 0; k++) {}
     return k < LENGTH(inside) || (fstatat(folder, name, &about, AT_SYMLINK_NOFOLLOW) == 0 && !S_ISREG(about.st_mode));
 }
 

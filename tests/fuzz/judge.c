@@ -18,10 +18,10 @@ static NcVerdict verdict(uint32_t fault, uint32_t at) {
 /* The fault of an instruction, NC_OK if it has none. `masked` is the mark of the mask directly before it, or 0. */
 static uint32_t judge_one(const NcInstruction *says, uint32_t masked) {
     int is_indirect = says->flow == NC_FLOW_INDIRECT_JUMP || says->flow == NC_FLOW_INDIRECT_CALL;
-    return says->fault == NC_CUT_SHORT                         ? NC_CROSSES /* only its beginning is in the bundle */
-         : says->fault != NC_OK                                ? NC_NOT_PERMITTED
-         : is_indirect && masked != NC_MASKED(says->reg)       ? NC_BARE
-                                                               : NC_OK;
+    return says->fault == NC_CUT_SHORT                   ? NC_CROSSES /* only its beginning is in the bundle */
+         : says->fault != NC_OK                          ? NC_NOT_PERMITTED
+         : is_indirect && masked != NC_MASKED(says->reg) ? NC_BARE
+                                                         : NC_OK;
 }
 
 /* The first fault of a bundle's instructions but for their targets, and their marks. */
@@ -65,10 +65,10 @@ static NcVerdict judge_targets(const Judged *j) {
 /* A limit of a region is that of 2 to NC_MAX_BUNDLES bundles. */
 static uint32_t judge_span(const Judged *j) {
     int is_limit = j->limit % NC_BUNDLE == 0 && j->limit >= NC_LIMIT(NC_MIN_BUNDLES) && j->limit <= NC_LIMIT(NC_MAX_BUNDLES);
-    return j->base % NC_BUNDLE != 0 || j->base < NC_START           ? NC_BAD_BASE
-         : j->len == 0 || j->len % NC_BUNDLE != 0                   ? NC_BAD_LENGTH
-         : !is_limit || j->base + j->len > j->limit - NC_BUNDLE     ? NC_OUT_OF_RANGE
-                                                                    : NC_OK;
+    return j->base % NC_BUNDLE != 0 || j->base < NC_START       ? NC_BAD_BASE
+         : j->len == 0 || j->len % NC_BUNDLE != 0               ? NC_BAD_LENGTH
+         : !is_limit || j->base + j->len > j->limit - NC_BUNDLE ? NC_OUT_OF_RANGE
+                                                                : NC_OK;
 }
 
 NcVerdict judge_code(uint32_t base, uint32_t limit, const uint8_t *code, size_t len, uint8_t *marks) {

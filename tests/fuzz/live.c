@@ -66,8 +66,9 @@ static void create_raw(uint32_t bundle, uint32_t count) {
     fuzz_bytes(&input, code, NC_BUNDLE * count);
     verdict = nc_host_vet(AT(bundle).at, LIMIT, code, NC_BUNDLE * count);
     made = ncs_create(module, AT(bundle), code, NC_BUNDLE * count, &why);
-    judge_change(made, &why, verdict.fault != NC_OK ? (ModelAnswer){NCS_BAD_CODE, verdict.fault, verdict.at}
-                                                    : model_create(&model, bundle, MODEL_RAW, code, count, 0));
+    judge_change(made, &why,
+                 verdict.fault != NC_OK ? (ModelAnswer){NCS_BAD_CODE, verdict.fault, verdict.at}
+                                        : model_create(&model, bundle, MODEL_RAW, code, count, 0));
 }
 
 static void create_bad(uint32_t bundle, uint32_t which) {
@@ -173,7 +174,7 @@ static void leave(void) {
 }
 
 /* A thread inside the chunk stops. */
-static void delete(uint32_t bundle) {
+static void delete (uint32_t bundle) {
     NcsRefusal why;
     int made = ncs_delete(module, AT(bundle), &why);
     judge_change(made, &why, model_delete(&model, bundle));
@@ -279,8 +280,28 @@ static void reset(void) {
 
 /* ---- Acts from the input: each is four bytes */
 
-enum { CREATE, CREATE_AGAIN, CREATE_RAW, CREATE_BAD, CREATE_ODD, PATCH, PATCH_BADLY, DELETE, DELETE_ODDLY, RECLAIM, CALL, CALL_AGAIN,
-       CALL_RAW, KILL, RESET, ENTER, LEAVE, RETURN, DENY, ACTS };
+enum {
+    CREATE,
+    CREATE_AGAIN,
+    CREATE_RAW,
+    CREATE_BAD,
+    CREATE_ODD,
+    PATCH,
+    PATCH_BADLY,
+    DELETE,
+    DELETE_ODDLY,
+    RECLAIM,
+    CALL,
+    CALL_AGAIN,
+    CALL_RAW,
+    KILL,
+    RESET,
+    ENTER,
+    LEAVE,
+    RETURN,
+    DENY,
+    ACTS
+};
 
 static void act(uint8_t what, uint32_t bundle, uint32_t number) {
     switch (what) {
@@ -291,13 +312,16 @@ static void act(uint8_t what, uint32_t bundle, uint32_t number) {
     case CREATE_ODD: create_odd(bundle, number); break;
     case PATCH: patch(bundle, number * 0x01010101u); break;
     case PATCH_BADLY: patch_badly(bundle, number); break;
-    case DELETE: delete(bundle); break;
+    case DELETE: delete (bundle); break;
     case DELETE_ODDLY: delete_oddly(bundle, number); break;
     case RECLAIM: reclaim(); break;
     case CALL:
     case CALL_AGAIN: call(bundle); break;
     case CALL_RAW: call_raw(bundle); break;
-    case KILL: ncs_kill(box); is_killed = 1; break;
+    case KILL:
+        ncs_kill(box);
+        is_killed = 1;
+        break;
     case RESET: reset(); break;
     case ENTER: enter(bundle); break;
     case LEAVE: leave(); break;
@@ -369,7 +393,7 @@ static void end(void) {
     leave();
     for (k = 0; k < BUNDLES; k++) {
         if (model.bundles[k].state == MODEL_LIVE && model.bundles[k].part == 0) {
-            delete(k);
+            delete (k);
         }
     }
     reclaim();

@@ -18,21 +18,11 @@ void model_begin(Model *m) {
 uint32_t model_code(uint8_t *code, uint32_t kind, uint32_t bundle, uint32_t wanted, uint32_t number) {
     uint32_t k;
     switch (kind) {
-    case MODEL_CALLS:
-        codes_call(code, NC_START + NC_BUNDLE * bundle);
-        return 2;
-    case MODEL_WAITS:
-        codes_wait(code, SHARED);
-        return 1;
-    case MODEL_LOADS:
-        codes_load(code, 0);
-        return 1;
-    case MODEL_BEYOND:
-        codes_load(code, ROOM);
-        return 1;
-    case MODEL_JUMPS:
-        codes_jump(code, LIMIT);
-        return 1;
+    case MODEL_CALLS: codes_call(code, NC_START + NC_BUNDLE * bundle); return 2;
+    case MODEL_WAITS: codes_wait(code, SHARED); return 1;
+    case MODEL_LOADS: codes_load(code, 0); return 1;
+    case MODEL_BEYOND: codes_load(code, ROOM); return 1;
+    case MODEL_JUMPS: codes_jump(code, LIMIT); return 1;
     default:
         for (k = 0; k < wanted; k++) {
             codes_number(code + NC_BUNDLE * k, number + k);

@@ -9,12 +9,12 @@ enum { MODEL_FREE, MODEL_LIVE, MODEL_RETIRED };
 
 /* What the code of a bundle does when it is called. */
 enum {
-    MODEL_NUMBER,  /* returns its number */
-    MODEL_CALLS,   /* calls call-back 0, and returns what that returns: two bundles */
-    MODEL_WAITS,   /* says that it is there, and waits until it may return */
-    MODEL_LOADS,   /* loads from address 0: a page fault */
-    MODEL_BEYOND,  /* loads from behind the memory: a general protection */
-    MODEL_JUMPS,   /* jumps to the limit: the same, at its last instruction */
+    MODEL_NUMBER, /* returns its number */
+    MODEL_CALLS,  /* calls call-back 0, and returns what that returns: two bundles */
+    MODEL_WAITS,  /* says that it is there, and waits until it may return */
+    MODEL_LOADS,  /* loads from address 0: a page fault */
+    MODEL_BEYOND, /* loads from behind the memory: a general protection */
+    MODEL_JUMPS,  /* jumps to the limit: the same, at its last instruction */
     MODEL_KINDS,
     MODEL_RAW = MODEL_KINDS /* any code that is accepted */
 };

@@ -66,13 +66,13 @@ static uint32_t judge_header(const Reader *r) {
 /* The first of the faults from 56 to 61 of a loaded segment, or NC_OK. `reached` is where those before it end. */
 static uint32_t judge_segment(const Reader *r, const NcSegment *s, uint64_t reached) {
     int runs = (s->flags & EXECUTABLE_FLAG) != 0;
-    return !has(r, s->offset, s->file_len)                      ? NC_ELF_BEYOND_FILE
-         : s->file_len > s->memory_len                          ? NC_ELF_BEYOND_MEMORY
-         : (uint64_t)s->address + s->memory_len > 1ull << 32    ? NC_ELF_WRAPS
-         : s->address < reached                                 ? NC_ELF_OUT_OF_ORDER
-         : runs && (s->flags & WRITABLE_FLAG) != 0              ? NC_ELF_WRITABLE_CODE
-         : runs && s->memory_len > s->file_len                  ? NC_ELF_UNFILLED_CODE
-                                                                : NC_OK;
+    return !has(r, s->offset, s->file_len)                   ? NC_ELF_BEYOND_FILE
+         : s->file_len > s->memory_len                       ? NC_ELF_BEYOND_MEMORY
+         : (uint64_t)s->address + s->memory_len > 1ull << 32 ? NC_ELF_WRAPS
+         : s->address < reached                              ? NC_ELF_OUT_OF_ORDER
+         : runs && (s->flags & WRITABLE_FLAG) != 0           ? NC_ELF_WRITABLE_CODE
+         : runs && s->memory_len > s->file_len               ? NC_ELF_UNFILLED_CODE
+                                                             : NC_OK;
 }
 
 static void keep_segment(Reader *r, const NcSegment *s) {

@@ -20,8 +20,8 @@ typedef struct ReaderSymbol {
 typedef struct Reader {
     const uint8_t *file;
     size_t len;
-    uint32_t fault;  /* what nc_host_elf has to say of the file, if it has room */
-    uint32_t header; /* of a segment's fault */
+    uint32_t fault;                      /* what nc_host_elf has to say of the file, if it has room */
+    uint32_t header;                     /* of a segment's fault */
     NcSegment segments[READER_SEGMENTS]; /* those loaded that have bytes in memory, as far as there is room */
     size_t segment_count;                /* of all of them */
     int is_program;                      /* whether the library takes it, as far as its headers say */

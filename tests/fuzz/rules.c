@@ -10,9 +10,9 @@
 #include <string.h>
 
 #define MEMORY_FIRST 0x10000u
-#define BLOCK 4096u       /* what a file that is made counts, and a write behind a read or a seek, besides the bytes */
-#define AROUND 64u        /* bytes on each side of a range that a read may not touch */
-#define ERROR_MOST 4095   /* errors are numbers from 1 on */
+#define BLOCK 4096u     /* what a file that is made counts, and a write behind a read or a seek, besides the bytes */
+#define AROUND 64u      /* bytes on each side of a range that a read may not touch */
+#define ERROR_MOST 4095 /* errors are numbers from 1 on */
 #define STANDARD 3u
 
 REAL(NcsAt, ncs_callback, NcsBox *box, NcsCallback function, void *user, unsigned args);

@@ -14,19 +14,33 @@ static atomic_size_t largest;
 static atomic_bool refuses, holds;
 
 /* How many allocations there were, and how many blocks aren't freed. */
-long allocations_asked(void) { return asked; }
-long blocks_kept(void) { return kept; }
+long allocations_asked(void) {
+    return asked;
+}
+long blocks_kept(void) {
+    return kept;
+}
 
 /* The most bytes that one allocation asked for since the last call of this. */
-size_t largest_allocation(void) { return atomic_exchange(&largest, 0); }
+size_t largest_allocation(void) {
+    return atomic_exchange(&largest, 0);
+}
 
 /* Has each allocation refused from now on, or no longer. */
-void refuse_allocations(bool wanted) { refuses = wanted; }
+void refuse_allocations(bool wanted) {
+    refuses = wanted;
+}
 
 /* Has the nth allocation from now on wait until it is let go; with 0 none. */
-void hold_allocation(long nth) { until_held = nth; }
-bool allocation_is_held(void) { return holds; }
-void let_go(void) { holds = false; }
+void hold_allocation(long nth) {
+    until_held = nth;
+}
+bool allocation_is_held(void) {
+    return holds;
+}
+void let_go(void) {
+    holds = false;
+}
 
 static bool is_allowed(size_t size) {
     asked++;

@@ -19,7 +19,7 @@
 #define NUMBER 2u
 #define NEXT 0x1E
 static const uint8_t bundle[NC_BUNDLE] = {
-    0xEB, NEXT, 0xB8, 1, 0, 0, 0, 0x83, 0xE0, 0xE0, 0xFF, 0xE0, 0x90, 0x90, 0x90, 0x90,
+    0xEB, NEXT, 0xB8, 1,    0,    0,    0,    0x83, 0xE0, 0xE0, 0xFF, 0xE0, 0x90, 0x90, 0x90, 0x90,
     0x90, 0x90, 0x90, 0x90, 0x90, 0x90, 0x90, 0x90, 0x90, 0x90, 0x90, 0x90, 0x90, 0x90, 0x90, 0x90,
 };
 static const uint8_t number[5] = {0xB8, 2, 0, 0, 0};
@@ -70,7 +70,7 @@ static void judge_each(Trial *own, NcRegion *region) {
     last[1] = NEXT;
 }
 
-static void delete(Trial *own, NcRegion *region, uint32_t base) {
+static void delete (Trial *own, NcRegion *region, uint32_t base) {
     expect(own, nc_region_begin_delete(region, base, NULL, 0).fault == NC_OK);
     expect(own, nc_region_deletion_runs(region, own->acts, own->room).fault == NC_OK);
     expect(own, nc_region_end_delete(region).fault == NC_OK);
@@ -86,7 +86,7 @@ static void hold_large(Trial *own, NcRegion *region) {
     expect(own, nc_region_walk(region, NC_START, own->choices, own->bundles, own->places, own->bundles + 1).fault == NC_OK);
     expect(own, nc_region_chunk(region, 0).fault == NC_OK && nc_region_place(region, NC_START).fault == NC_OK);
     expect(own, nc_region_chunk_at(region, above - 1).base == NC_START && nc_region_chunk_at(region, above).fault == NC_NO_CHUNK);
-    delete(own, region, NC_START);
+    delete (own, region, NC_START);
     expect(own, nc_vetted_new(above, own->limit, own->code, own->len, &vetted).fault == NC_OK);
     expect(own, nc_region_load(region, &vetted, own->acts, own->room).fault == NC_OK);
     expect(own, nc_region_begin_delete(region, above, own->acts, own->room).fault == NC_OK);
@@ -101,7 +101,7 @@ static void hold_many(Trial *own, NcRegion *region, NcSeat *seat) {
     }
     for (uint32_t odd = 0; odd < 2; odd++) {
         for (uint32_t i = odd; i < own->bundles; i += 2) {
-            delete(own, region, NC_START + 2 * i * NC_BUNDLE);
+            delete (own, region, NC_START + 2 * i * NC_BUNDLE);
         }
         expect(own, nc_seat_check_in(seat) == NC_OK);
         expect(own, nc_region_reclaim(region).count == (own->bundles + 1 - odd) / 2);
@@ -159,11 +159,13 @@ static size_t depth(Trial *own) {
    wrongly. */
 size_t most_stack(uint32_t bundles) {
     size_t len = (size_t)bundles * NC_BUNDLE, room = len + sizeof number * 3;
+    /* clang-format off */
     Trial own = {
         .bundles = bundles, .limit = NC_LIMIT(2 * bundles + 1), .len = len, .room = room, .code = malloc(len), .marks = malloc(len),
         .text = malloc((2 * bundles + 1) * NC_BUNDLE), .acts = malloc(room * sizeof(NcAct)), .choices = malloc(bundles * sizeof(uint32_t)),
         .places = malloc((bundles + 1) * sizeof(uint32_t)),
     };
+    /* clang-format on */
     size_t found = SIZE_MAX;
     if (own.code && own.marks && own.text && own.acts && own.choices && own.places) {
         for (size_t i = 0; i < len; i += NC_BUNDLE) {

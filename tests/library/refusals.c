@@ -21,25 +21,25 @@
 
 #define BUNDLES 4u
 #define LIMIT NC_LIMIT(BUNDLES)
-#define MOST_CHUNKS 8003u        /* of a list */
+#define MOST_CHUNKS 8003u                                   /* of a list */
 #define LIST_BUNDLES(chunks) (128 + 2 * (chunks) + BUNDLES) /* one page, and every other bundle */
-#define ROOM (2 * NC_BUNDLE + 2) /* acts, enough for each chunk */
-#define UNTOUCHED UINT32_MAX     /* what a buffer has where nothing was written into it */
+#define ROOM (2 * NC_BUNDLE + 2)                            /* acts, enough for each chunk */
+#define UNTOUCHED UINT32_MAX                                /* what a buffer has where nothing was written into it */
 
 /* Code without a byte of zeros, so that a text can hold it. */
 #define NOPS3 "\x90\x90\x90"
 #define NOPS9 NOPS3 NOPS3 NOPS3
 #define NOPS27 NOPS9 NOPS9 NOPS9
 #define NOPS30 NOPS27 NOPS3
-#define PAIR "\x83\xE0\xE0\xFF\xE0"                              /* and eax, -32; jmp *eax */
-#define NUMBER "\xB8\x01\x01\x01\x01"                            /* mov eax, 01010101 */
-#define JUMP "\xEB\x1E" NOPS30                                   /* to the next bundle */
-#define RETURN "\xC3" NOPS30 "\x90"                              /* refused */
-#define JUMPS "\xEB\x3C" NOPS30 NOPS30 "\xEB\xC0"                /* at both ends of two bundles, each to the other */
+#define PAIR "\x83\xE0\xE0\xFF\xE0"               /* and eax, -32; jmp *eax */
+#define NUMBER "\xB8\x01\x01\x01\x01"             /* mov eax, 01010101 */
+#define JUMP "\xEB\x1E" NOPS30                    /* to the next bundle */
+#define RETURN "\xC3" NOPS30 "\x90"               /* refused */
+#define JUMPS "\xEB\x3C" NOPS30 NOPS30 "\xEB\xC0" /* at both ends of two bundles, each to the other */
 #define JUMP8 JUMP JUMP JUMP JUMP JUMP JUMP JUMP JUMP
 #define JUMP64 JUMP8 JUMP8 JUMP8 JUMP8 JUMP8 JUMP8 JUMP8 JUMP8
-#define ASTRAY "\xEB\xFF" NOPS30                                 /* refused: into itself */
-#define SEVERAL "\xEB\xFE" NUMBER PAIR NOPS9 NOPS9 "\x90\x90"    /* a jump to itself, and some more */
+#define ASTRAY "\xEB\xFF" NOPS30                              /* refused: into itself */
+#define SEVERAL "\xEB\xFE" NUMBER PAIR NOPS9 NOPS9 "\x90\x90" /* a jump to itself, and some more */
 
 /* A text as bytes and their number: two arguments. */
 #define BYTES(text) (const uint8_t *)(text), strlen(text)
@@ -52,8 +52,8 @@ typedef struct Call {
     const char *name;
     const char *code;
     Stand stand;
-    uint32_t chunks; /* of the list: the code at every other bundle, from the second one on */
-    uint32_t bundle; /* where the call's code begins */
+    uint32_t chunks;        /* of the list: the code at every other bundle, from the second one on */
+    uint32_t bundle;        /* where the call's code begins */
     uint32_t (*make)(void); /* its fault; what it answers besides is printed */
     void (*show)(void);     /* what stands after it */
 } Call;
@@ -82,15 +82,33 @@ static void need(bool holds) {
 
 /* ---- Calls that take memory */
 
-static uint32_t vet(void) { return nc_host_vet(base, LIMIT, BYTES(code)).fault; }
-static uint32_t vet_many(void) { return nc_host_vet(base, NC_LIMIT(100), BYTES(code)).fault; }
-static uint32_t mark(void) { return nc_host_marks(base, LIMIT, BYTES(code), buffers.marks, sizeof buffers.marks).fault; }
-static uint32_t image(void) { return nc_host_image(base, BYTES(code), buffers.image, sizeof buffers.image).fault; }
-static uint32_t new_region(void) { return nc_region_new(BUNDLES, 1, &region); }
-static uint32_t seat(void) { return nc_region_seat(&region, &seats[0]); }
-static uint32_t create(void) { return nc_region_create(&region, base, BYTES(code), buffers.acts, ROOM).fault; }
-static uint32_t new_vetted(void) { return nc_vetted_new(base, LIMIT, BYTES(code), &vetted).fault; }
-static uint32_t load(void) { return nc_region_load(&region, &vetted, buffers.acts, ROOM).fault; }
+static uint32_t vet(void) {
+    return nc_host_vet(base, LIMIT, BYTES(code)).fault;
+}
+static uint32_t vet_many(void) {
+    return nc_host_vet(base, NC_LIMIT(100), BYTES(code)).fault;
+}
+static uint32_t mark(void) {
+    return nc_host_marks(base, LIMIT, BYTES(code), buffers.marks, sizeof buffers.marks).fault;
+}
+static uint32_t image(void) {
+    return nc_host_image(base, BYTES(code), buffers.image, sizeof buffers.image).fault;
+}
+static uint32_t new_region(void) {
+    return nc_region_new(BUNDLES, 1, &region);
+}
+static uint32_t seat(void) {
+    return nc_region_seat(&region, &seats[0]);
+}
+static uint32_t create(void) {
+    return nc_region_create(&region, base, BYTES(code), buffers.acts, ROOM).fault;
+}
+static uint32_t new_vetted(void) {
+    return nc_vetted_new(base, LIMIT, BYTES(code), &vetted).fault;
+}
+static uint32_t load(void) {
+    return nc_region_load(&region, &vetted, buffers.acts, ROOM).fault;
+}
 
 static uint32_t create_in_list(void) {
     uint32_t fault = create();
@@ -170,6 +188,7 @@ static uint32_t tell_runs(void) {
 
 /* A file with a segment of code, which is its headers, and one of memory alone. */
 static uint32_t read_file(void) {
+    /* clang-format off */
     struct {
         Elf32_Ehdr header;
         Elf32_Phdr segments[2];
@@ -179,6 +198,7 @@ static uint32_t read_file(void) {
         {{.p_type = PT_LOAD, .p_vaddr = NC_START, .p_filesz = NC_BUNDLE, .p_memsz = NC_BUNDLE, .p_flags = PF_R | PF_X},
          {.p_type = PT_LOAD, .p_vaddr = 2 * NC_START, .p_memsz = NC_BUNDLE, .p_flags = PF_R | PF_W}},
     };
+    /* clang-format on */
     NcSegment segments[2];
     NcSegments found = nc_host_elf((const uint8_t *)&file, sizeof file, segments, 1);
     printf("segments: %zu\n", found.count);
@@ -205,8 +225,7 @@ static void show_image(void) {
     }
 }
 
-static void show_nothing(void) {
-}
+static void show_nothing(void) {}
 
 static void show_acts(void) {
     unsigned written = 0;

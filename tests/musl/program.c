@@ -67,9 +67,11 @@ static int blocks(void) {
         for (size_t i = 0; i < lens[k]; i++) assert(at[k][i] == (unsigned char)k);
         unsigned how = seed >> 17 & 7, align = 1u << (how + 3);
         if (how < 2) at[k] = realloc(at[k], len + 1);
-        else free(at[k]), at[k] = how < 4 ? malloc(len + 1) : how < 6 ? calloc(len + 1, 1) : aligned_alloc(align, (len / align + 1) * align);
+        else
+            free(at[k]), at[k] = how < 4 ? malloc(len + 1) : how < 6 ? calloc(len + 1, 1) : aligned_alloc(align, (len / align + 1) * align);
         assert(at[k] && (uintptr_t)at[k] % 8 == 0 && (how < 6 || (uintptr_t)at[k] % align == 0));
-        if (how == 4 || how == 5) for (size_t i = 0; i <= len; i++) assert(at[k][i] == 0);
+        if (how == 4 || how == 5)
+            for (size_t i = 0; i <= len; i++) assert(at[k][i] == 0);
         lens[k] = len + 1;
         memset(at[k], (int)k, len + 1);
     }
@@ -136,15 +138,22 @@ static int clocks(void) {
     clock_t before = clock();
     int good = clock_gettime(CLOCK_MONOTONIC, &a) == 0;
     for (volatile int k = 0; k < MILLION; k++) {}
-    good &= clock_gettime(CLOCK_MONOTONIC, &b) == 0 && (b.tv_sec - a.tv_sec) * 1e9 + (double)(b.tv_nsec - a.tv_nsec) > 0 && clock() > before;
+    good &=
+        clock_gettime(CLOCK_MONOTONIC, &b) == 0 && (b.tv_sec - a.tv_sec) * 1e9 + (double)(b.tv_nsec - a.tv_nsec) > 0 && clock() > before;
     struct tm *day = gmtime(&now);
     printf("%d %d\n", good, day->tm_year >= 126 && day->tm_year < 400);
     return 0;
 }
 
-static void last(void) { puts("last"); }
-static void first(void) { puts("first"); }
-__attribute__((constructor)) static void begins(void) { setvbuf(stdout, NULL, _IOFBF, 3000); }
+static void last(void) {
+    puts("last");
+}
+static void first(void) {
+    puts("first");
+}
+__attribute__((constructor)) static void begins(void) {
+    setvbuf(stdout, NULL, _IOFBF, 3000);
+}
 
 static int ends(void) {
     atexit(last);

@@ -75,11 +75,11 @@ void objects() {
     const auto wide = std::make_unique<Wide>();
     const std::variant<int, double> one = 2.5;
     const std::optional<std::tuple<int, char>> two = std::make_tuple(1, 'x');
-    std::printf("%d %g %d %g %c\n", Counted::alive, shape->area(), (int)(reinterpret_cast<std::uintptr_t>(wide.get()) % 64), std::get<1>(one),
-                std::get<1>(*two));
+    std::printf("%d %g %d %g %c\n", Counted::alive, shape->area(), (int)(reinterpret_cast<std::uintptr_t>(wide.get()) % 64),
+                std::get<1>(one), std::get<1>(*two));
 }
 
-}  // namespace
+} // namespace
 
 int main(int argc, char **argv) {
     const std::string_view what = argc > 1 ? argv[1] : "";

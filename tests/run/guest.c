@@ -15,12 +15,15 @@ static int same(const char *a, const char *b) {
     while (*a != 0 && *a == *b) a++, b++;
     return *a == *b;
 }
-static void put(int file, const char *text) { nc_write(file, text, length(text)); }
+static void put(int file, const char *text) {
+    nc_write(file, text, length(text));
+}
 static void put_number(int file, long long number) {
     char digits[24], *at = digits + sizeof digits;
     unsigned left = (unsigned)(number < 0 ? -number : number);
     *--at = 0;
-    do *--at = (char)('0' + left % 10); while ((left /= 10) != 0);
+    do *--at = (char)('0' + left % 10);
+    while ((left /= 10) != 0);
     if (number < 0) *--at = '-';
     put(file, at);
 }
@@ -53,7 +56,8 @@ static int cat(int from) {
 }
 static int reads(void) {
     int got;
-    do line(1, "read", got = nc_read(0, bytes, sizeof bytes)); while (got > 0);
+    do line(1, "read", got = nc_read(0, bytes, sizeof bytes));
+    while (got > 0);
     return 0;
 }
 /* Writes until a write fails. */
@@ -190,7 +194,8 @@ static u32 next_random(u32 *state) {
 }
 /* A number that a call may take amiss, a path, a range of memory, or any number. */
 static u32 any(u32 *state) {
-    static const char *const paths[] = {"file", "sub/inner", "made", "sub/more", "out", "../secret", "../made", "/made", "beyond", "pipe", "."};
+    static const char *const paths[] = {"file",    "sub/inner", "made",   "sub/more", "out", "../secret",
+                                        "../made", "/made",     "beyond", "pipe",     "."};
     const u32 edges[] = {0, 1, 2, 3, 4, 63, 64, 0x41, 0x242, 0x7FFFFFFF, 0x80000000, 0xFFFFFFFF, 0xFFFF, 0x10000, nc_memory(), 4096};
     u32 k = next_random(state), way = next_random(state) % 8;
     if (way < 4) return edges[k % (sizeof edges / sizeof *edges)];
@@ -201,7 +206,7 @@ static u32 any(u32 *state) {
 static int random_calls(u32 state) {
     for (u32 k = 0; k < 200000; k++) {
         u32 at = 0x100 + 32 * (next_random(&state) % 12), a = any(&state), b = any(&state), c = any(&state), d = any(&state);
-        ((u32 (*)(u32, u32, u32, u32))at)(a, b, c, d);
+        ((u32(*)(u32, u32, u32, u32))at)(a, b, c, d);
     }
     return 9;
 }
@@ -209,7 +214,8 @@ static int random_calls(u32 state) {
 /* Whether the memory is there up to its end, behind the data, and the words lie above. */
 static int memory(char **argv) {
     char *end = (char *)nc_memory();
-    for (char *at = _end; at < end; at++) if (*at != 0) return 1;
+    for (char *at = _end; at < end; at++)
+        if (*at != 0) return 1;
     for (char *at = _end; at < end; at += 4096) *at = 1;
     end[-1] = 1;
     line(1, "of argv", (char *)argv - end);
@@ -284,10 +290,14 @@ int start(int argc, char **argv) {
 }
 
 /* For --call */
-unsigned add(unsigned a, unsigned b) { return a + b; }
+unsigned add(unsigned a, unsigned b) {
+    return a + b;
+}
 unsigned sum(unsigned a, unsigned b, unsigned c, unsigned d, unsigned e, unsigned f, unsigned g, unsigned h, unsigned i, unsigned j,
              unsigned k, unsigned l, unsigned m, unsigned n, unsigned o, unsigned p) {
     return a + b + c + d + e + f + g + h + i + j + k + l + m + n + o + p;
 }
-void leave(int status) { nc_exit(status); }
+void leave(int status) {
+    nc_exit(status);
+}
 unsigned table[4] = {1, 2, 3, 4};

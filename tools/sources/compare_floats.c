@@ -51,8 +51,12 @@ static u32 truncated(u64 a) {
 }
 
 /* Within the range of the whole number these are the processor's conversions, and beyond it what floating.c promises. */
-static i32 to_i32(double a) { return a != a || a >= 0x1p31 ? INT32_MAX : a <= -0x1p31 ? INT32_MIN : (i32)a; }
-static i64 to_i64(double a) { return a != a || a >= 0x1p63 ? INT64_MAX : a <= -0x1p63 ? INT64_MIN : (i64)a; }
+static i32 to_i32(double a) {
+    return a != a || a >= 0x1p31 ? INT32_MAX : a <= -0x1p31 ? INT32_MIN : (i32)a;
+}
+static i64 to_i64(double a) {
+    return a != a || a >= 0x1p63 ? INT64_MAX : a <= -0x1p63 ? INT64_MIN : (i64)a;
+}
 
 static u32 to_u32(double a) {
     if (a != a || a >= 0x1p32) return UINT32_MAX;
@@ -64,38 +68,43 @@ static u64 to_u64(double a) {
     return a <= 0 ? 0 : a < 0x1p63 ? (u64)(i64)a : (u64)(i64)(a - 0x1p63) + (1ull << 63);
 }
 
-static int sign_of(int answer) { return (answer > 0) - (answer < 0); }
+static int sign_of(int answer) {
+    return (answer > 0) - (answer < 0);
+}
 
 /* What floating.c gives for one number and for two, by their bits `a` and `b`, beside the numbers `x` and `y`. */
-#define ONE(mode, a, x, sign) do { \
-    SAME("__neg" #mode "2", a, 0, __neg##mode##2(a), (a) ^ (sign)); \
-    SAME("__fix" #mode "si", a, 0, (u32)__fix##mode##si(a), (u32)to_i32(x)); \
-    SAME("__fix" #mode "di", a, 0, __fix##mode##di(a), to_i64(x)); \
-    SAME("__fixuns" #mode "si", a, 0, __fixuns##mode##si(a), to_u32(x)); \
-    SAME("__fixuns" #mode "di", a, 0, __fixuns##mode##di(a), to_u64(x)); \
-} while (0)
+#define ONE(mode, a, x, sign) \
+    do { \
+        SAME("__neg" #mode "2", a, 0, __neg##mode##2(a), (a) ^ (sign)); \
+        SAME("__fix" #mode "si", a, 0, (u32)__fix##mode##si(a), (u32)to_i32(x)); \
+        SAME("__fix" #mode "di", a, 0, __fix##mode##di(a), to_i64(x)); \
+        SAME("__fixuns" #mode "si", a, 0, __fixuns##mode##si(a), to_u32(x)); \
+        SAME("__fixuns" #mode "di", a, 0, __fixuns##mode##di(a), to_u64(x)); \
+    } while (0)
 
-#define TWO(mode, a, b, x, y) do { \
-    int none = x != x || y != y, order = x < y ? -1 : x > y; \
-    SAME("__add" #mode "3", a, b, __add##mode##3(a, b), add_##mode(a, b)); \
-    SAME("__sub" #mode "3", a, b, __sub##mode##3(a, b), sub_##mode(a, b)); \
-    SAME("__mul" #mode "3", a, b, __mul##mode##3(a, b), mul_##mode(a, b)); \
-    SAME("__div" #mode "3", a, b, __div##mode##3(a, b), div_##mode(a, b)); \
-    SAME("__eq" #mode "2", a, b, __eq##mode##2(a, b) == 0, x == y); \
-    SAME("__ne" #mode "2", a, b, __ne##mode##2(a, b) != 0, x != y); \
-    SAME("__lt" #mode "2", a, b, sign_of(__lt##mode##2(a, b)), none ? 1 : order); \
-    SAME("__le" #mode "2", a, b, sign_of(__le##mode##2(a, b)), none ? 1 : order); \
-    SAME("__gt" #mode "2", a, b, sign_of(__gt##mode##2(a, b)), none ? -1 : order); \
-    SAME("__ge" #mode "2", a, b, sign_of(__ge##mode##2(a, b)), none ? -1 : order); \
-    SAME("__unord" #mode "2", a, b, __unord##mode##2(a, b) != 0, none); \
-} while (0)
+#define TWO(mode, a, b, x, y) \
+    do { \
+        int none = x != x || y != y, order = x < y ? -1 : x > y; \
+        SAME("__add" #mode "3", a, b, __add##mode##3(a, b), add_##mode(a, b)); \
+        SAME("__sub" #mode "3", a, b, __sub##mode##3(a, b), sub_##mode(a, b)); \
+        SAME("__mul" #mode "3", a, b, __mul##mode##3(a, b), mul_##mode(a, b)); \
+        SAME("__div" #mode "3", a, b, __div##mode##3(a, b), div_##mode(a, b)); \
+        SAME("__eq" #mode "2", a, b, __eq##mode##2(a, b) == 0, x == y); \
+        SAME("__ne" #mode "2", a, b, __ne##mode##2(a, b) != 0, x != y); \
+        SAME("__lt" #mode "2", a, b, sign_of(__lt##mode##2(a, b)), none ? 1 : order); \
+        SAME("__le" #mode "2", a, b, sign_of(__le##mode##2(a, b)), none ? 1 : order); \
+        SAME("__gt" #mode "2", a, b, sign_of(__gt##mode##2(a, b)), none ? -1 : order); \
+        SAME("__ge" #mode "2", a, b, sign_of(__ge##mode##2(a, b)), none ? -1 : order); \
+        SAME("__unord" #mode "2", a, b, __unord##mode##2(a, b) != 0, none); \
+    } while (0)
 
-#define OF_WHOLE(mode, whole, type, to) do { \
-    SAME("__floatsi" #mode, whole, 0, __floatsi##mode((i32)(whole)), to((type)(i32)(whole))); \
-    SAME("__floatunsi" #mode, whole, 0, __floatunsi##mode((u32)(whole)), to((type)(u32)(whole))); \
-    SAME("__floatdi" #mode, whole, 0, __floatdi##mode((i64)(whole)), to((type)(i64)(whole))); \
-    SAME("__floatundi" #mode, whole, 0, __floatundi##mode(whole), to((type)(whole))); \
-} while (0)
+#define OF_WHOLE(mode, whole, type, to) \
+    do { \
+        SAME("__floatsi" #mode, whole, 0, __floatsi##mode((i32)(whole)), to((type)(i32)(whole))); \
+        SAME("__floatunsi" #mode, whole, 0, __floatunsi##mode((u32)(whole)), to((type)(u32)(whole))); \
+        SAME("__floatdi" #mode, whole, 0, __floatdi##mode((i64)(whole)), to((type)(i64)(whole))); \
+        SAME("__floatundi" #mode, whole, 0, __floatundi##mode(whole), to((type)(whole))); \
+    } while (0)
 
 static void try_one(u64 a) {
     ONE(df, a, number(a), 1ull << 63);

@@ -18,12 +18,16 @@ TO_LONG(DECLARE_LONG)
 TO_LONG_LONG(DECLARE_LONG_LONG)
 u64 own_fmod(u64, u64);
 
-static u64 as_one(double made) { return made != made ? bits_of((double)NAN) : bits_of(made); }
+static u64 as_one(double made) {
+    return made != made ? bits_of((double)NAN) : bits_of(made);
+}
 
 #define TRY_DOUBLE(name) SAME(#name, a, 0, as_one(number(own_##name(a))), as_one(name(x)));
 #define TRY_FLOAT(name) SAME(#name, a, 0, as_one(number_s(own_##name(bits_of_s((float)x)))), as_one(name((float)x)));
+/* clang-format off */
 #define TRY_LONG(name) if (fabs(x) < 0x1p31 - 1) SAME(#name, a, 0, own_##name(a), name(x));
 #define TRY_LONG_LONG(name) if (fabs(x) < 0x1p63) SAME(#name, a, 0, own_##name(a), name(x));
+/* clang-format on */
 
 static void try_one(u64 a) {
     double x = number(a);
@@ -33,7 +37,9 @@ static void try_one(u64 a) {
     TO_LONG_LONG(TRY_LONG_LONG)
 }
 
-static void try_two(u64 a, u64 b) { SAME("fmod", a, b, as_one(number(own_fmod(a, b))), as_one(fmod(number(a), number(b)))); }
+static void try_two(u64 a, u64 b) {
+    SAME("fmod", a, b, as_one(number(own_fmod(a, b))), as_one(fmod(number(a), number(b))));
+}
 
 int main(int count, char **words) {
     static u64 made[MOST];

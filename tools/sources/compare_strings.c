@@ -19,7 +19,9 @@ static void *plain_memmove(void *to, const void *from, size_t len) {
     return to;
 }
 
-static void *plain_memcpy(void *to, const void *from, size_t len) { return plain_memmove(to, from, len); }
+static void *plain_memcpy(void *to, const void *from, size_t len) {
+    return plain_memmove(to, from, len);
+}
 
 static void *plain_memset(void *at, int byte, size_t len) {
     for (size_t k = 0; k < len; k++) ((Byte *)at)[k] = (u8)byte;
@@ -52,13 +54,19 @@ static int plain_strncmp(const char *one, const char *other, size_t len) {
     return 0;
 }
 
-static int plain_strcmp(const char *a, const char *b) { return plain_strncmp(a, b, SIZE_MAX); }
+static int plain_strcmp(const char *a, const char *b) {
+    return plain_strncmp(a, b, SIZE_MAX);
+}
 
-static void end(void) { nc_exit(1); }
+static void end(void) {
+    nc_exit(1);
+}
 #else
 #define RIGHT(name) name
 
-static void end(void) { _exit(1); }
+static void end(void) {
+    _exit(1);
+}
 #endif
 
 /* ---- What is tried */
@@ -104,11 +112,12 @@ static void report(const char *name, const void *a, const void *b, size_t len) {
     if (same(name, ending)) end();
 }
 
-#define CHECK(name, is_right, a, b, len) do { \
-    calls++; \
-    doing = name; \
-    if (!(is_right)) report(name, a, b, len); \
-} while (0)
+#define CHECK(name, is_right, a, b, len) \
+    do { \
+        calls++; \
+        doing = name; \
+        if (!(is_right)) report(name, a, b, len); \
+    } while (0)
 
 #ifndef IN_A_BOX
 static void go_astray(int number) {
@@ -119,12 +128,18 @@ static void go_astray(int number) {
 }
 #endif
 
-static int sign(int number) { return (number > 0) - (number < 0); }
+static int sign(int number) {
+    return (number > 0) - (number < 0);
+}
 
-static void fill(u8 *at, size_t len) { RIGHT(memcpy)(at, noise + chance(NOISE - (u32)len), len); }
+static void fill(u8 *at, size_t len) {
+    RIGHT(memcpy)(at, noise + chance(NOISE - (u32)len), len);
+}
 
 /* Where `len` bytes begin: at 8 places around the end of a page, or so that they end where memory ends. */
-static u8 *place(int which, unsigned k, size_t len) { return k < 8 ? ends[which] - 2 * PAGE - len / 2 - 4 + k : ends[which] - len; }
+static u8 *place(int which, unsigned k, size_t len) {
+    return k < 8 ? ends[which] - 2 * PAGE - len / 2 - 4 + k : ends[which] - len;
+}
 
 /* All sizes up to 72, then those around powers of 2 and around the least that `rep` moves or sets, up to LARGEST. */
 static size_t next_size(size_t len) {
@@ -138,7 +153,9 @@ static size_t next_size(size_t len) {
 /* ---- Bytes that are moved or set */
 
 /* What lies around a result, up to where its memory ends. */
-static u8 *behind(int which, u8 *at) { return at + AROUND < ends[which] ? at + AROUND : ends[which]; }
+static u8 *behind(int which, u8 *at) {
+    return at + AROUND < ends[which] ? at + AROUND : ends[which];
+}
 
 static void try_memcpy(int which, u8 *to, u8 *from, size_t len) {
     u8 *low = to - AROUND;
@@ -178,7 +195,7 @@ static void each_memcpy(int which) {
 static void each_memmove(int which) {
     for (size_t len = 0; len <= LARGEST; len = next_size(len))
         for (unsigned k = 0; k < PLACES; k++)
-            for (size_t by = 0; by < len + 9; by += len > 72 && by > 72 && by < len - 72 ? 7 : 1) {
+            for (size_t by = 0; by < len + 9; by += 72 < by && by + 72 < len ? 7 : 1) {
                 u8 *at = place(which, k, len);
                 try_memmove(which, at, at - by, len);
                 try_memmove(which, at - by, at, len);
@@ -268,7 +285,7 @@ static void each_memcmp(int which) {
             u8 *a = place(which, k % PLACES, len), *b = place(!which, k / PLACES, len);
             lay_two(a, b, len, 0);
             try_memcmp(a, b, len);
-            for (size_t first = 0; first < len; first += len > 40 ? chance(9) + 1 : 1) {
+            for (size_t first = 0; first < len; first += 40 < len ? chance(9) + 1 : 1) {
                 lay_two(a, b, len, 0);
                 a[first] = VALUES[chance(COUNT(VALUES))];
                 b[first] = VALUES[chance(COUNT(VALUES))];
@@ -303,7 +320,9 @@ static void each_text(int which, int has_limit) {
             for (unsigned v = 0; v < COUNT(VALUES) * COUNT(VALUES); v += 1 + chance(5)) try_texts(which, k, len, v, has_limit);
 }
 
-static void each_strcmp(int which) { each_text(which, 0); }
+static void each_strcmp(int which) {
+    each_text(which, 0);
+}
 
 /* Also texts without an end. */
 static void each_strncmp(int which) {
@@ -358,6 +377,7 @@ static void random_round(int which) {
     try_strncmp(a, b, chance((u32)len + 9));
 }
 
+/* clang-format off */
 static const struct {
     const char *name;
     void (*each)(int);
@@ -365,6 +385,7 @@ static const struct {
     {"memcpy", each_memcpy}, {"memmove", each_memmove}, {"memset", each_memset}, {"strlen", each_strlen},
     {"memchr", each_memchr}, {"memcmp", each_memcmp}, {"strcmp", each_strcmp}, {"strncmp", each_strncmp},
 };
+/* clang-format on */
 
 int main(int count, char **words) {
     u32 rounds = count > 2 ? number_of(words[1]) : 0;

@@ -29,8 +29,7 @@ static long started;
 static long opened;
 static long writes;
 
-__attribute__((constructor)) static void begin(void)
-{
+__attribute__((constructor)) static void begin(void) {
     calls_to_it = number("FAILING_CALL", -1);
     error = number("FAILING_ERROR", -1);
     report = number("FAILING_REPORT", -1);
@@ -42,53 +41,40 @@ __attribute__((constructor)) static void begin(void)
 }
 
 /* Whether this call is the one that fails. */
-static int fails(int file)
-{
-    if (file != failing || ++calls != calls_to_it)
-        return 0;
+static int fails(int file) {
+    if (file != failing || ++calls != calls_to_it) return 0;
     syscall(SYS_write, (int)report, "f", 1);
     errno = error;
     return 1;
 }
 
-static size_t at_most(size_t count)
-{
+static size_t at_most(size_t count) {
     return count < size ? count : size;
 }
 
-ssize_t read(int file, void *bytes, size_t count)
-{
-    if (file != STDIN_FILENO)
-        return syscall(SYS_read, file, bytes, count);
+ssize_t read(int file, void *bytes, size_t count) {
+    if (file != STDIN_FILENO) return syscall(SYS_read, file, bytes, count);
     return fails(file) ? -1 : syscall(SYS_read, file, bytes, at_most(count));
 }
 
-ssize_t write(int file, const void *bytes, size_t count)
-{
-    if (file != STDOUT_FILENO)
-        return syscall(SYS_write, file, bytes, count);
-    if (writes >= 0)
-        syscall(SYS_write, (int)writes, "w", 1);
-    if (fails(file))
-        return error ? -1 : 0;
+ssize_t write(int file, const void *bytes, size_t count) {
+    if (file != STDOUT_FILENO) return syscall(SYS_write, file, bytes, count);
+    if (writes >= 0) syscall(SYS_write, (int)writes, "w", 1);
+    if (fails(file)) return error ? -1 : 0;
     return syscall(SYS_write, file, bytes, at_most(count));
 }
 
-int open(const char *name, int flags, ...)
-{
+int open(const char *name, int flags, ...) {
     va_list rest;
     va_start(rest, flags);
     int mode = flags & O_CREAT ? va_arg(rest, int) : 0;
     va_end(rest);
-    if (opened >= 0)
-        syscall(SYS_write, (int)opened, "o", 1);
+    if (opened >= 0) syscall(SYS_write, (int)opened, "o", 1);
     return (int)syscall(SYS_openat, AT_FDCWD, name, flags, mode);
 }
 
-int pthread_create(pthread_t *thread, const pthread_attr_t *attributes, void *(*routine)(void *), void *argument)
-{
+int pthread_create(pthread_t *thread, const pthread_attr_t *attributes, void *(*routine)(void *), void *argument) {
     int (*create)(pthread_t *, const pthread_attr_t *, void *(*)(void *), void *) = dlsym(RTLD_NEXT, "pthread_create");
-    if (started >= 0)
-        syscall(SYS_write, (int)started, "t", 1);
+    if (started >= 0) syscall(SYS_write, (int)started, "t", 1);
     return create(thread, attributes, routine, argument);
 }

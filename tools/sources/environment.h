@@ -2,8 +2,7 @@
 #include <stdlib.h>
 
 /* The number that a variable gives, or another where it isn't set. */
-static long number(const char *name, long otherwise)
-{
+static long number(const char *name, long otherwise) {
     const char *text = getenv(name);
     return text ? atol(text) : otherwise;
 }

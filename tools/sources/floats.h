@@ -31,10 +31,11 @@ static void report(const char *name, u64 a, u64 b, u64 made, u64 right) {
     if (strcmp(name, ending) == 0) exit(1);
 }
 
-#define SAME(name, a, b, made, right) do { \
-    u64 made_ = (u64)(made), right_ = (u64)(right); \
-    if (__builtin_expect(made_ != right_, 0)) report(name, a, b, made_, right_); \
-} while (0)
+#define SAME(name, a, b, made, right) \
+    do { \
+        u64 made_ = (u64)(made), right_ = (u64)(right); \
+        if (__builtin_expect(made_ != right_, 0)) report(name, a, b, made_, right_); \
+    } while (0)
 
 static double number(u64 bits) {
     double made;
@@ -66,7 +67,7 @@ enum { MOST = 2000 };
    those of floats, and the distances at which a sum's smaller operand goes out. Fractions are near the ends and the middle, a tie of
    floats, and any. */
 static int boundaries(u64 *made, int digits, int top) {
-    static const int from_middle[] = {-151, -150, -149, -148, -127, -126, -125, -2, -1, 0,  1,  2,  22, 23,  24,  25,  26, 29,
+    static const int from_middle[] = {-151, -150, -149, -148, -127, -126, -125, -2, -1, 0,  1,  2,  22, 23, 24, 25,  26,  29,
                                       30,   31,   32,   33,   51,   52,   53,   54, 55, 56, 61, 62, 63, 64, 65, 126, 127, 128};
     static const int from_ends[] = {0, 1, 2, 3, 22, 23, 24, 25, 26, 51, 52, 53, 54, 55, 56};
     const u64 one = 1ull << digits, half = one / 2, tie = digits > 23 ? 3ull << (digits - 24) : 3;

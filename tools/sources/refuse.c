@@ -32,8 +32,7 @@ static atomic_long allocations;
 static atomic_long writes;
 static atomic_long kept;
 
-__attribute__((constructor)) static void begin(void)
-{
+__attribute__((constructor)) static void begin(void) {
     later = number("REFUSE_LATER", 0);
     marked = number("REFUSE_MARKED", 0);
     report = number("REFUSE_REPORT", 0);
@@ -41,89 +40,69 @@ __attribute__((constructor)) static void begin(void)
 }
 
 /* Whether this allocation is to be refused. */
-static int refuses(void)
-{
+static int refuses(void) {
     asked++;
-    if (nth == 0 || (marked && writes != 2))
-        return 0;
+    if (nth == 0 || (marked && writes != 2)) return 0;
     long now = ++allocations;
-    if (now != nth && !(later && now > nth))
-        return 0;
+    if (now != nth && !(later && now > nth)) return 0;
     syscall(SYS_write, (int)report, "refused\n", 8);
     errno = ENOMEM;
     return 1;
 }
 
 /* Counts an allocation, if there is one. */
-static void *counted(void *found)
-{
-    if (found)
-        kept++;
+static void *counted(void *found) {
+    if (found) kept++;
     return found;
 }
 
-void *malloc(size_t size)
-{
+void *malloc(size_t size) {
     return refuses() ? NULL : counted(__libc_malloc(size));
 }
 
-void *calloc(size_t count, size_t size)
-{
+void *calloc(size_t count, size_t size) {
     return refuses() ? NULL : counted(__libc_calloc(count, size));
 }
 
-void *realloc(void *old, size_t size)
-{
-    if (refuses())
-        return NULL;
+void *realloc(void *old, size_t size) {
+    if (refuses()) return NULL;
     void *found = __libc_realloc(old, size);
     return old ? found : counted(found);
 }
 
-void free(void *old)
-{
-    if (old)
-        kept--;
+void free(void *old) {
+    if (old) kept--;
     __libc_free(old);
 }
 
-void *memalign(size_t align, size_t size)
-{
+void *memalign(size_t align, size_t size) {
     return refuses() ? NULL : counted(__libc_memalign(align, size));
 }
 
-void *aligned_alloc(size_t align, size_t size)
-{
+void *aligned_alloc(size_t align, size_t size) {
     return memalign(align, size);
 }
 
-int posix_memalign(void **place, size_t align, size_t size)
-{
+int posix_memalign(void **place, size_t align, size_t size) {
     void *found = memalign(align, size);
-    if (!found)
-        return ENOMEM;
+    if (!found) return ENOMEM;
     *place = found;
     return 0;
 }
 
-ssize_t write(int file, const void *bytes, size_t count)
-{
-    if (file == STDOUT_FILENO)
-        writes++;
+ssize_t write(int file, const void *bytes, size_t count) {
+    if (file == STDOUT_FILENO) writes++;
     return syscall(SYS_write, file, bytes, count);
 }
 
 /* Says what is kept, as the program ends. */
-__attribute__((destructor)) static void end(void)
-{
+__attribute__((destructor)) static void end(void) {
     char line[64];
     int length = snprintf(line, sizeof line, "%ld %ld\n", (long)asked, (long)kept);
     syscall(SYS_write, (int)report, line, length);
 }
 
-void _exit(int status)
-{
+void _exit(int status) {
     end();
-    for (;;)
-        syscall(SYS_exit_group, status);
+    for (;;) syscall(SYS_exit_group, status);
 }

@@ -35,7 +35,9 @@ static void make_memory(void) {
     ends[1] = ends[0] - ROOM - PAGE;
 }
 
-static void print(const char *text, size_t len) { nc_write(1, text, len); }
+static void print(const char *text, size_t len) {
+    nc_write(1, text, len);
+}
 #else
 #include <signal.h>
 #include <string.h>

@@ -8,7 +8,9 @@ FUNCTIONS(DECLARE_MUSL)
 #endif
 
 #ifdef IN_A_BOX
-static u64 now(void) { return (u64)nc_clock(NC_CLOCK_STEADY); }
+static u64 now(void) {
+    return (u64)nc_clock(NC_CLOCK_STEADY);
+}
 #else
 #include <time.h>
 
@@ -23,7 +25,9 @@ enum { TURNS = 300, ENOUGH = 20000, SLOTS = 16, APART = 128 };
 
 /* How all of them can be called, by the conventions of i386. */
 typedef size_t Function(u8 *, size_t, size_t);
-typedef struct { Function *of[4]; } Makers;
+typedef struct {
+    Function *of[4];
+} Makers;
 
 static size_t times; /* how often each call of a turn is made */
 
@@ -39,6 +43,7 @@ static size_t times; /* how often each call of a turn is made */
 #define OF_SYSTEM(name) OF(, name)
 #endif
 
+/* clang-format off */
 static const struct {
     const char *name;
     Makers makers;
@@ -46,6 +51,7 @@ static const struct {
 #define ROW(type, name, arguments) {#name, {{OF(own_, name) OF_MUSL(name) OF_SYSTEM(name) 0}}},
     FUNCTIONS(ROW)
 };
+/* clang-format on */
 
 typedef struct {
     u8 *at;

@@ -8,9 +8,9 @@ enum { LABEL, ALIGN, PLAIN, JUMP, CALL, ADDRESS, JUMP_TO, CALL_TO, JUMP_BY, CALL
 #define MASK (NCE_BUNDLE - 1)
 #define SHORT_LEN 2u
 #define WANTED (NCE_NOWHERE - 1) /* the item of a label that is used, and isn't bound yet */
-#define NEAR 120u /* given bytes between a jump and its label ahead, up to which it is short at first */
-#define SLACK 16u /* bytes after the given ones, so that decoding may read on */
-#define SPARE 4u  /* bytes of `borders` before the first bit and after the last one, so that a window can be read as a word */
+#define NEAR 120u                /* given bytes between a jump and its label ahead, up to which it is short at first */
+#define SLACK 16u                /* bytes after the given ones, so that decoding may read on */
+#define SPARE 4u /* bytes of `borders` before the first bit and after the last one, so that a window can be read as a word */
 #define BORDERS(room) ((room) == 0 ? 0 : (room) / 8 + 2 * SPARE)
 #define INLINE static inline __attribute__((always_inline))
 
@@ -22,6 +22,7 @@ enum { N = 0, B = 1, O = 4, M = 16, W = 32, G = 64, Y = M | B, Z = M | W, U = M 
 #define OPERATIONS M, M, M, M, B, W, X, X, M, M, M, M, B, W, X
 #define SIX(x) x, x, x, x, x, x
 #define ALL(x) SIX(x), SIX(x), x, x, x, x
+/* clang-format off */
 static const uint8_t lengths[512] = {
     OPERATIONS, E, OPERATIONS, X, OPERATIONS, X, OPERATIONS, X, ALL(N), ALL(N),             /* 00 to 5F */
     X, X, X, X, X, X, P, X, W, Z, B, Y, X, X, X, X, ALL(X),                                 /* 60 */
@@ -34,6 +35,7 @@ static const uint8_t lengths[512] = {
     X, X, N, M, Y, M, X, X, X, X, X, M, Y, M, X, M, M, M, X, M, X, X, M, M, X, X, Y, M, M, M, M, M, /* 0F A0 */
     M, M, X, X, X, X, X, M, N, N, SIX(N), ALL(X), ALL(X), ALL(X),                           /* 0F C0 to 0F FF */
 };
+/* clang-format on */
 
 /* Of a ModRM byte's mod and rm, the bytes of its displacement. SIB: a second byte comes before that. */
 enum { SIB = 8 };
@@ -307,15 +309,15 @@ void nce_return(NceCode *c, unsigned reg) {
 /* ---- Layout */
 
 /* How many bytes of the instructions from `raw` on fit into `room`, which they exceed. */
-static inline uint32_t fitting(const NceCode *c, uint32_t raw, uint32_t room) {
-    return room - back_to_border(c, raw + room);
-}
+static inline uint32_t fitting(const NceCode *c, uint32_t raw, uint32_t room) { return room - back_to_border(c, raw + room); }
 
 /* Writes nops up to a place. */
 static void fill(uint8_t *to, uint32_t from, uint32_t end) {
+    /* clang-format off */
     static const uint8_t nops[9][9] = {
         {0x90}, {0x66, 0x90}, {0x0F, 0x1F, 0}, {0x0F, 0x1F, 0x40, 0}, {0x0F, 0x1F, 0x44, 0, 0}, {0x66, 0x0F, 0x1F, 0x44, 0, 0},
         {0x0F, 0x1F, 0x80, 0, 0, 0, 0}, {0x0F, 0x1F, 0x84, 0, 0, 0, 0, 0}, {0x66, 0x0F, 0x1F, 0x84, 0, 0, 0, 0, 0}};
+    /* clang-format on */
     while (from < end) {
         uint32_t room = NCE_BUNDLE - (from & MASK), len = end - from < room ? end - from : room;
         len = len < 9 ? len : 9;
@@ -343,9 +345,7 @@ INLINE uint32_t run(const NceCode *c, uint32_t raw, uint32_t end, uint32_t at, u
 }
 
 /* Whether a short jump at a place doesn't reach its label. */
-static inline uint32_t is_beyond(uint32_t place, uint32_t target) {
-    return target - (place + SHORT_LEN) + 128 > 255;
-}
+static inline uint32_t is_beyond(uint32_t place, uint32_t target) { return target - (place + SHORT_LEN) + 128 > 255; }
 
 /* The length of a jump that need not be long. Back, the label's place is known. */
 static inline uint32_t jump_length(const NceCode *c, const NceItem *one, uint32_t at) {
@@ -452,8 +452,10 @@ static void write_item(const NceCode *c, const NceItem *one, uint32_t base, uint
     }
     copy_few(to, raw, len);
     switch (one->kind) {
-    case JUMP: case CALL: word = c->labels[one->label].place - end; break;
-    case JUMP_TO: case CALL_TO: word = one->label - (base + end); break; /* which is an address here */
+    case JUMP:
+    case CALL: word = c->labels[one->label].place - end; break;
+    case JUMP_TO:
+    case CALL_TO: word = one->label - (base + end); break; /* which is an address here */
     case ADDRESS: word = base + c->labels[one->label].place; break;
     default: return;
     }

@@ -20,10 +20,10 @@ typedef struct NcFlat {
     struct NcFlatByte *of;
 } NcFlat;
 
-int nc_flat_begin(NcFlat *flat, uint32_t len);       /* 0 if there is no memory */
-void nc_flat_foreign(NcFlat *flat, uint32_t offset); /* four bytes that a relocation fills in; before nc_flat_read */
-void nc_flat_entry(NcFlat *flat, uint32_t offset);   /* its address is taken; before nc_flat_read */
-int nc_flat_read(NcFlat *flat, const uint8_t *code); /* 0 if something isn't understood; then nce_layout(&flat->code) */
+int nc_flat_begin(NcFlat *flat, uint32_t len);               /* 0 if there is no memory */
+void nc_flat_foreign(NcFlat *flat, uint32_t offset);         /* four bytes that a relocation fills in; before nc_flat_read */
+void nc_flat_entry(NcFlat *flat, uint32_t offset);           /* its address is taken; before nc_flat_read */
+int nc_flat_read(NcFlat *flat, const uint8_t *code);         /* 0 if something isn't understood; then nce_layout(&flat->code) */
 uint32_t nc_flat_place(const NcFlat *flat, uint32_t offset); /* where an entry or foreign bytes are then; or NCE_NOWHERE */
 void nc_flat_end(NcFlat *flat);
 

@@ -1,6 +1,8 @@
 /* System calls of musl, by way of the host: it gets the number and six arguments. It comes before musl's own header of this name. */
 
+/* clang-format off */
 #define __SYSCALL_LL_E(x) ((union { long long all; long half[2]; }){.all = x}).half[0], ((union { long long all; long half[2]; }){.all = x}).half[1]
+/* clang-format on */
 #define __SYSCALL_LL_O(x) __SYSCALL_LL_E((x))
 #define SYSCALL_NO_TLS 1
 #define SYSCALL_USE_SOCKETCALL

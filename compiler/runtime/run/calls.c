@@ -23,13 +23,9 @@ static long transfer(int call(int, const struct iovec *), int file, const struct
     return all;
 }
 
-static int read_part(int file, const struct iovec *part) {
-    return nc_read(file, part->iov_base, part->iov_len);
-}
+static int read_part(int file, const struct iovec *part) { return nc_read(file, part->iov_base, part->iov_len); }
 
-static int write_part(int file, const struct iovec *part) {
-    return nc_write(file, part->iov_base, part->iov_len);
-}
+static int write_part(int file, const struct iovec *part) { return nc_write(file, part->iov_base, part->iov_len); }
 
 /* A clock's time, or its resolution, as two numbers of 64 bits. */
 static long tell_time(long clock, long long *to) {
@@ -67,7 +63,8 @@ static long open_file(const char *path, long how, long mode) {
 long host_syscall(long number, long a, long b, long c, long d, long e, long f) {
     (void)f;
     switch (number) {
-    case SYS_exit: case SYS_exit_group: nc_exit((int)a);
+    case SYS_exit:
+    case SYS_exit_group: nc_exit((int)a);
     case SYS_tkill: nc_exit(ENDED_BY_SIGNAL + (int)b); /* what abort and raise come to */
     case SYS_read: return nc_read((int)a, (void *)b, (unsigned)c);
     case SYS_write: return nc_write((int)a, (const void *)b, (unsigned)c);
@@ -80,7 +77,8 @@ long host_syscall(long number, long a, long b, long c, long d, long e, long f) {
     case SYS_fstat64: return tell_file((int)a, (struct kstat *)b);
     case SYS_clock_gettime64: return tell_time(a, (long long *)b);
     case SYS_ioctl: return -ENOTTY;
-    case SYS_gettid: case SYS_getpid: return 1;
+    case SYS_gettid:
+    case SYS_getpid: return 1;
     case SYS_rt_sigprocmask: return 0; /* no signal comes in */
     default: return -ENOSYS;
     }

@@ -25,6 +25,7 @@ struct nothrow_t {};
 extern const nothrow_t nothrow;
 const nothrow_t nothrow = {};
 
+/* clang-format off */
 #define THROWS(name) [[noreturn]] void __throw_##name() { ends(#name, "no exceptions"); }
 THROWS(bad_alloc) THROWS(bad_array_new_length) THROWS(bad_cast) THROWS(bad_exception) THROWS(bad_function_call) THROWS(bad_typeid)
 THROWS(bad_weak_ptr)
@@ -32,8 +33,9 @@ THROWS(bad_weak_ptr)
 #define THROWS_TEXT(name) [[noreturn]] void __throw_##name(const char *why) { ends(#name, why); }
 THROWS_TEXT(domain_error) THROWS_TEXT(invalid_argument) THROWS_TEXT(ios_failure) THROWS_TEXT(length_error) THROWS_TEXT(logic_error)
 THROWS_TEXT(out_of_range) THROWS_TEXT(overflow_error) THROWS_TEXT(range_error) THROWS_TEXT(runtime_error) THROWS_TEXT(underflow_error)
+    /* clang-format on */
 
-[[noreturn]] void __throw_out_of_range_fmt(const char *format, ...) {
+    [[noreturn]] void __throw_out_of_range_fmt(const char *format, ...) {
     char why[256];
     __builtin_va_list values;
     __builtin_va_start(values, format);
@@ -49,7 +51,7 @@ struct _Sp_make_shared_tag {
 bool _Sp_make_shared_tag::_S_eq(const type_info &) noexcept { return false; }
 
 [[noreturn]] void __glibcxx_assert_fail(const char *, int, const char *, const char *what) { ends("assertion", what); }
-}
+} // namespace std
 
 extern "C" [[noreturn]] void __cxa_pure_virtual() { ends("pure virtual function", "called"); }
 

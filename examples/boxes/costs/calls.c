@@ -23,9 +23,9 @@ static const struct {
     uint32_t at;
     uint8_t len, code[9];
 } PARTS[] = {
-    {RETURNS, 6, {0x59, 0x83, 0xE1, 0xE0, 0xFF, 0xE1}},                              /* pop ecx; and ecx, -32; jmp ecx */
-    {CALLS_BACK, 4, {0x8B, 0x5C, 0x24, 0x04}},                                       /* mov ebx, [esp + 4] */
-    {CALLS_BACK + 2 * BUNDLE - 5, 5, {0xE8, 0xA0, 0x00, 0xFF, 0xFF}},                /* call 00000100 */
+    {RETURNS, 6, {0x59, 0x83, 0xE1, 0xE0, 0xFF, 0xE1}},                                   /* pop ecx; and ecx, -32; jmp ecx */
+    {CALLS_BACK, 4, {0x8B, 0x5C, 0x24, 0x04}},                                            /* mov ebx, [esp + 4] */
+    {CALLS_BACK + 2 * BUNDLE - 5, 5, {0xE8, 0xA0, 0x00, 0xFF, 0xFF}},                     /* call 00000100 */
     {CALLS_BACK + 2 * BUNDLE, 9, {0x4B, 0x75, 0xDD, 0x59, 0x83, 0xE1, 0xE0, 0xFF, 0xE1}}, /* dec ebx; jnz back; and as above */
 };
 

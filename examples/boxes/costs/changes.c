@@ -197,7 +197,8 @@ int main(int argc, char **argv) {
     make_box(argv[1]);
     memset(code, 0x90, sizeof code);
     code[0] = 0xB8;
-    printf("by the host: the clock itself %.0f; reclaim, nothing due %.0f; patch %.0f\n", least(clocks, 0), least(reclaims, 0), least(patches, 32));
+    printf("by the host: the clock itself %.0f; reclaim, nothing due %.0f; patch %.0f\n", least(clocks, 0), least(reclaims, 0),
+           least(patches, 32));
     printf("by the host: create 32 bytes %.0f, 1024 %.0f; delete 32 %.0f, 1024 %.0f\n", least(creations, 32), least(creations, 1024),
            least(deletions, 32), least(deletions, 1024));
     alone = speed_beside(0);

@@ -189,8 +189,13 @@ static void tell(const char *what, int clock, double (*some)(void)) {
         double count = some(), took = (double)(time_by(clock) - begun) / count;
         least = k == 0 || took < least ? took : least;
     }
-    printf(least < 1e3 ? "| %s | %.0f ns |\n" : least < 1e6 ? "| %s | %.1f us |\n" : "| %s | %.1f ms |\n", what,
-           least < 1e3 ? least : least < 1e6 ? least / 1e3 : least / 1e6);
+    printf(least < 1e3   ? "| %s | %.0f ns |\n"
+           : least < 1e6 ? "| %s | %.1f us |\n"
+                         : "| %s | %.1f ms |\n",
+           what,
+           least < 1e3   ? least
+           : least < 1e6 ? least / 1e3
+                         : least / 1e6);
     fflush(stdout);
 }
 

@@ -1,4 +1,5 @@
 /* sljit's jumps and constants that can be changed. Each change is a patch of code that runs before and after it. */
+/* clang-format off */
 #define SLJIT_CONFIG_AUTO 1
 #define SLJIT_CONFIG_STATIC 1
 #define SLJIT_DEBUG 0

@@ -4,6 +4,7 @@
  * sljit's first pass emits records: instructions, labels, jumps, constants, and addresses of labels. Here the second pass gives them to the
  * bundler, and the host makes the code. A fourth kind of record is an indirect jump or call.
  */
+/* clang-format off */
 
 enum { NC_STOP = 0xf4 /* hlt */, NC_RECORD = 4, NC_IS_CALL = 8, NC_REGISTER = 7 };
 

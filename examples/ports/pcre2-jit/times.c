@@ -112,8 +112,8 @@ static void measure(const char *pattern, unsigned options, int runs, int interpr
     if (interpreted != 0 && runs != 0 && (by[0].count != by[1].count || by[0].sum != by[1].sum)) {
         exit(4);
     }
-    printf("%d %u %.3f %.3f %.2f %u %s\n", by[1].count, by[1].sum, interpreted ? by[0].best : 0, runs ? by[1].best : 0, took, (unsigned)size,
-           pattern);
+    printf("%d %u %.3f %.3f %.2f %u %s\n", by[1].count, by[1].sum, interpreted ? by[0].best : 0, runs ? by[1].best : 0, took,
+           (unsigned)size, pattern);
     pcre2_jit_stack_free(stack);
     pcre2_match_context_free(context);
     pcre2_match_data_free(data);

@@ -1,4 +1,5 @@
 /* What `tcc -run` does otherwise in the sandbox. tccrun.c includes it. */
+/* clang-format off */
 
 #include <nc_code.h>
 #include <nc_flat.h>

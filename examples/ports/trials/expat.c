@@ -10,9 +10,15 @@ static void begin(void *data, const char *name, const char **attributes) {
     printf(">");
 }
 
-static void end(void *data, const char *name) { (void)data; printf("</%s>\n", name); }
+static void end(void *data, const char *name) {
+    (void)data;
+    printf("</%s>\n", name);
+}
 
-static void text(void *data, const char *characters, int count) { (void)data; printf("[%.*s]", count, characters); }
+static void text(void *data, const char *characters, int count) {
+    (void)data;
+    printf("[%.*s]", count, characters);
+}
 
 static void parse(XML_Parser parser, const char *source) {
     XML_SetElementHandler(parser, begin, end);

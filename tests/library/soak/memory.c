@@ -49,18 +49,13 @@ static bool may_be_at(uint32_t at, uint32_t masked) {
 static bool is_right(uint32_t at, const NcInstruction *in) {
     uint32_t next = at + in->length, target = next + (uint32_t)in->rel;
     switch (in->flow) {
-    case NC_FLOW_NEXT:
-        return may_be_at(next, in->masks);
-    case NC_FLOW_BRANCH:
-        return may_be_at(next, 0) && may_be_at(target, 0);
+    case NC_FLOW_NEXT: return may_be_at(next, in->masks);
+    case NC_FLOW_BRANCH: return may_be_at(next, 0) && may_be_at(target, 0);
     case NC_FLOW_JUMP:
-    case NC_FLOW_CALL:
-        return may_be_at(target, 0);
+    case NC_FLOW_CALL: return may_be_at(target, 0);
     case NC_FLOW_INDIRECT_JUMP:
-    case NC_FLOW_INDIRECT_CALL:
-        return memory_mark(at) == NC_MASKED(in->reg);
-    default:
-        return in->flow == NC_FLOW_STOP;
+    case NC_FLOW_INDIRECT_CALL: return memory_mark(at) == NC_MASKED(in->reg);
+    default: return in->flow == NC_FLOW_STOP;
     }
 }
 

@@ -16,8 +16,8 @@
 enum { NUMBER = 0, BRANCH = 5, JUMP = 12, SINGLES = 17, MASK = 27 };
 
 static const uint8_t bundle[NC_BUNDLE] = {
-    0xB8, 0, 0, 0, 0, 0x74, 0x0A, 0xB8, 1, 0, 0, 0, 0xE9, 0, 0, 0, 0, 0x90, 0x90, 0x90, 0x90, 0x90, 0x90, 0x90, 0x90, 0x90, 0x90,
-    0x83, 0xE1, 0xE0, 0xFF, 0xE1,
+    0xB8, 0,    0,    0,    0,    0x74, 0x0A, 0xB8, 1,    0,    0,    0,    0xE9, 0,    0,    0,
+    0,    0x90, 0x90, 0x90, 0x90, 0x90, 0x90, 0x90, 0x90, 0x90, 0x90, 0x83, 0xE1, 0xE0, 0xFF, 0xE1,
 };
 static const uint8_t marks[NC_BUNDLE] = {
     1, 0, 0, 0, 0, 1, 0, 1, 0, 0, 0, 0, 1, 0, 0, 0, 0, 1, 1, 1, 1, 1, 1, 1, 1, 1, 1, 1, 0, 0, NC_MASKED(1), 0,
@@ -89,9 +89,7 @@ static void draw_code(uint8_t *code, uint32_t base, uint32_t length) {
 static Patch draw_patch(uint32_t base) {
     Patch drawn = {.at = base, .length = 5};
     switch (draw(7)) {
-    case 0:
-        put_number(drawn.bytes, bundle[NUMBER], draw(UINT32_MAX));
-        return drawn;
+    case 0: put_number(drawn.bytes, bundle[NUMBER], draw(UINT32_MAX)); return drawn;
     case 1:
         drawn.at += JUMP;
         put_jump(drawn.bytes, base, draw_start());
@@ -103,12 +101,9 @@ static Patch draw_patch(uint32_t base) {
             drawn.bytes[i] = draw(2) ? bundle[SINGLES] : (uint8_t)(0x40 + draw(8));
         }
         return drawn;
-    case 3: /* the condition */
-        return (Patch){base + BRANCH, 2, {0x74 + (uint8_t)draw(2), 0x0A}, NC_OK};
-    case 4: /* another mask */
-        return (Patch){base + MASK, 3, {0x83, 0xC1, 0x01}, NC_PATCH_PAIR_TOUCHED};
-    case 5: /* shorter instructions */
-        return (Patch){base + JUMP, 5, {0x90, 0x90, 0x90, 0x90, 0x90}, NC_PATCH_BOUNDARIES};
+    case 3: /* the condition */ return (Patch){base + BRANCH, 2, {0x74 + (uint8_t)draw(2), 0x0A}, NC_OK};
+    case 4: /* another mask */ return (Patch){base + MASK, 3, {0x83, 0xC1, 0x01}, NC_PATCH_PAIR_TOUCHED};
+    case 5: /* shorter instructions */ return (Patch){base + JUMP, 5, {0x90, 0x90, 0x90, 0x90, 0x90}, NC_PATCH_BOUNDARIES};
     default:
         drawn.at += JUMP;
         drawn.fault = NC_PATCH_BAD_TARGET;
@@ -146,7 +141,7 @@ static void patch(NcRegion *region, const Chunk *chunk) {
     }
 }
 
-static void delete(NcRegion *region, Chunk *chunk) {
+static void remove_chunk(NcRegion *region, Chunk *chunk) {
     NcChange made = nc_region_begin_delete(region, chunk->base, acts, ROOM);
     if (is_made(made.fault, chunk->stamp ? NC_NO_CHUNK : NC_OK, &done.deleted)) {
         memory_make(acts, made.count, marks);
@@ -253,7 +248,7 @@ void writer_step(Host *host) {
     if (kind < 5 && count > 0) {
         patch(&host->region, &chunks[draw(count)]);
     } else if (kind == 5 && count > 0) {
-        delete(&host->region, &chunks[draw(count)]);
+        remove_chunk(&host->region, &chunks[draw(count)]);
     } else if (kind > 5) {
         reclaim(&host->region);
     }

@@ -22,9 +22,15 @@ __attribute__((noinline)) static unsigned second(unsigned char *ids, unsigned co
 
 struct Row;
 typedef int (*Import)(struct Row *);
-struct Row { int which, value; };
-static int expand(struct Row *row) { return row->value * 2; }
-static int shrink(struct Row *row) { return row->value / 2; }
+struct Row {
+    int which, value;
+};
+static int expand(struct Row *row) {
+    return row->value * 2;
+}
+static int shrink(struct Row *row) {
+    return row->value / 2;
+}
 Import import_expand = expand, import_shrink = shrink;
 
 __attribute__((noinline)) int import(struct Row *row) {

@@ -21,9 +21,16 @@ struct Shared : virtual Shape {
     int area(int scale) override { return scale * 3 + size; }
 };
 
-template <class T> __attribute__((noinline)) T larger(T a, T b) { return a < b ? b : a; }
-__attribute__((noinline)) int both(Shape *shape, Named *named) { return larger(shape->area(3), named->name(4)); }
-__attribute__((noinline)) int by_member(Named *named, int (Named::*member)(int)) { return (named->*member)(7); }
+template <class T>
+__attribute__((noinline)) T larger(T a, T b) {
+    return a < b ? b : a;
+}
+__attribute__((noinline)) int both(Shape *shape, Named *named) {
+    return larger(shape->area(3), named->name(4));
+}
+__attribute__((noinline)) int by_member(Named *named, int (Named::*member)(int)) {
+    return (named->*member)(7);
+}
 int (Named::*virtual_member)(int) = &Named::name;
 
 int total;
@@ -41,7 +48,9 @@ inline __attribute__((noinline)) int remembered(int n) {
 struct Large {
     int numbers[5];
 };
-__attribute__((noinline)) Large made(int n) { return {{n, n + 1, n + 2, n + 3, n + 4}}; }
+__attribute__((noinline)) Large made(int n) {
+    return {{n, n + 1, n + 2, n + 3, n + 4}};
+}
 
 void operator delete(void *) {}
 void operator delete(void *, unsigned) {}

@@ -17,10 +17,13 @@ __attribute__((noinline)) static double sum(int count, ...) {
     return all;
 }
 
-__attribute__((noinline)) static long double halved(long double number) { return number / 2; }
+__attribute__((noinline)) static long double halved(long double number) {
+    return number / 2;
+}
 
 int wrong(void) {
-    int failed = (long long)large != 6000000000 || (unsigned long long)(large * 2) != 12000000000 || (int)below != -3 || (unsigned)(half * 9) != 4;
+    int failed =
+        (long long)large != 6000000000 || (unsigned long long)(large * 2) != 12000000000 || (int)below != -3 || (unsigned)(half * 9) != 4;
     failed += (double)whole != -5e9 || (float)top != 18446744073709551616.0f || (long long)below != -3;
     failed += third * 3 != 1.0f || half + third == half || !(below < third) || -below != 3.75;
     failed += sizeof twelve != sizeof half || halved(twelve) != 6 || (long long)(twelve * 1e9L) != 12000000000;

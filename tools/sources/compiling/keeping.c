@@ -4,9 +4,13 @@
 #pragma GCC target("general-regs-only") /* gcc wants that for such functions */
 #endif
 
-struct Three { int first, second, third; };
+struct Three {
+    int first, second, third;
+};
 
-__attribute__((no_caller_saved_registers, noinline)) static void quiet(void) { __asm__ volatile(""); }
+__attribute__((no_caller_saved_registers, noinline)) static void quiet(void) {
+    __asm__ volatile("");
+}
 
 __attribute__((noinline)) static int keeps(int a, int b, int c, int d, int e, int f, int g) {
     int p = a * b, q = b * c, r = c * d, s = d * e, t = e * f, u = f * g;
@@ -15,14 +19,24 @@ __attribute__((noinline)) static int keeps(int a, int b, int c, int d, int e, in
 }
 
 #ifdef __clang__
-__attribute__((preserve_most, noinline)) static void most(void) { __asm__ volatile(""); }
-__attribute__((regcall, noinline)) static struct Three three(int a, int b) { return (struct Three){a + b, a - b, a * b}; }
-__attribute__((swiftcall, noinline)) static struct Three swift(int a, int b) { return (struct Three){a ^ b, a | b, a & b}; }
+__attribute__((preserve_most, noinline)) static void most(void) {
+    __asm__ volatile("");
+}
+__attribute__((regcall, noinline)) static struct Three three(int a, int b) {
+    return (struct Three){a + b, a - b, a * b};
+}
+__attribute__((swiftcall, noinline)) static struct Three swift(int a, int b) {
+    return (struct Three){a ^ b, a | b, a & b};
+}
 static struct Three __regcall (*volatile pointer)(int, int) = three;
 #else
 static void most(void) {}
-__attribute__((noinline)) static struct Three three(int a, int b) { return (struct Three){a + b, a - b, a * b}; }
-__attribute__((noinline)) static struct Three swift(int a, int b) { return (struct Three){a ^ b, a | b, a & b}; }
+__attribute__((noinline)) static struct Three three(int a, int b) {
+    return (struct Three){a + b, a - b, a * b};
+}
+__attribute__((noinline)) static struct Three swift(int a, int b) {
+    return (struct Three){a ^ b, a | b, a & b};
+}
 static struct Three (*volatile pointer)(int, int) = three;
 #endif
 

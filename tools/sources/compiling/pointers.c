@@ -5,12 +5,26 @@ typedef int __attribute__((fastcall)) Fast(int, int, int);
 typedef int __attribute__((thiscall)) Own(struct Object *, int);
 typedef int __attribute__((regparm(3))) Three(int, int, int);
 typedef int __attribute__((fastcall)) Chosen(struct Object *, int);
-struct Object { int value; Fast *fast; Own *own; Three *three; Chosen *chosen; };
+struct Object {
+    int value;
+    Fast *fast;
+    Own *own;
+    Three *three;
+    Chosen *chosen;
+};
 
-static int __attribute__((fastcall)) fast(int a, int b, int c) { return a * 100 + b * 10 + c; }
-static int __attribute__((thiscall)) own(struct Object *object, int n) { return object->value + n; }
-static int __attribute__((regparm(3))) three(int a, int b, int c) { return a * 9 + b * 3 + c; }
-static int __attribute__((fastcall)) chosen(struct Object *object, int n) { return object->own(object, n) - object->value; }
+static int __attribute__((fastcall)) fast(int a, int b, int c) {
+    return a * 100 + b * 10 + c;
+}
+static int __attribute__((thiscall)) own(struct Object *object, int n) {
+    return object->value + n;
+}
+static int __attribute__((regparm(3))) three(int a, int b, int c) {
+    return a * 9 + b * 3 + c;
+}
+static int __attribute__((fastcall)) chosen(struct Object *object, int n) {
+    return object->own(object, n) - object->value;
+}
 
 struct Object object = {7, fast, own, three, chosen};
 struct Object *volatile pointer = &object;
@@ -22,10 +36,18 @@ __attribute__((noinline)) static int calls(struct Object *at, int n) {
 }
 
 /* These pass on what they got, in the same registers. */
-__attribute__((noinline, fastcall)) int passes(struct Object *at, int n) { return at->chosen(at, n); }
-__attribute__((noinline, thiscall)) int passes_own(struct Object *at, int n) { return at->own(at, n); }
-__attribute__((noinline, regparm(3))) int passes_three(int a, int b, int c) { return three_pointer(a, b, c); }
-__attribute__((noinline, fastcall)) int passes_fast(int a, int b, int c) { return fast_pointer(a, b, c); }
+__attribute__((noinline, fastcall)) int passes(struct Object *at, int n) {
+    return at->chosen(at, n);
+}
+__attribute__((noinline, thiscall)) int passes_own(struct Object *at, int n) {
+    return at->own(at, n);
+}
+__attribute__((noinline, regparm(3))) int passes_three(int a, int b, int c) {
+    return three_pointer(a, b, c);
+}
+__attribute__((noinline, fastcall)) int passes_fast(int a, int b, int c) {
+    return fast_pointer(a, b, c);
+}
 
 int count;
 __attribute__((noinline)) int sometimes(int n, int (*next)(int)) {
@@ -34,7 +56,9 @@ __attribute__((noinline)) int sometimes(int n, int (*next)(int)) {
     count++;
     return 2;
 }
-__attribute__((noinline)) static int halved(int n) { return n / 2; }
+__attribute__((noinline)) static int halved(int n) {
+    return n / 2;
+}
 int (*volatile sometimes_next)(int) = halved;
 
 volatile int first, second;

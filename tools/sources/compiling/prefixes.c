@@ -4,7 +4,9 @@
 #define NOPS30 NOPS5 NOPS5 NOPS5 NOPS5 NOPS5 NOPS5
 #define AT_THE_END "jmp 9f; .p2align 6; 9: " NOPS30 "nop; "
 
-struct Large { int numbers[28]; };
+struct Large {
+    int numbers[28];
+};
 struct Large from = {{1, 2, 3}}, to;
 
 __attribute__((noinline)) static int swapped(int *place, int old, int new) {

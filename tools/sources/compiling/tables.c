@@ -7,8 +7,12 @@
 volatile int seen;
 
 /* The callers' arguments stay in their registers from the beginning of a function, past the jump, to the call. */
-FAST int fast_sum(int a, int b) { return a * 10 + b; }
-FAST int fast_difference(int a, int b) { return a * 10 - b; }
+FAST int fast_sum(int a, int b) {
+    return a * 10 + b;
+}
+FAST int fast_difference(int a, int b) {
+    return a * 10 - b;
+}
 FAST int fast_both(int a, int b, int which) {
     switch (which) {
     case 0: return fast_sum(a, b);
@@ -22,8 +26,12 @@ FAST int fast_both(int a, int b, int which) {
     }
 }
 
-THREE int three_sum(int a, int b, int c) { return a * 100 + b * 10 + c; }
-THREE int three_product(int a, int b, int c) { return a * b * c; }
+THREE int three_sum(int a, int b, int c) {
+    return a * 100 + b * 10 + c;
+}
+THREE int three_product(int a, int b, int c) {
+    return a * b * c;
+}
 THREE int three_both(int which, int b, int c) {
     switch (which) {
     case 0: return three_product(which, b, c);
@@ -88,14 +96,19 @@ PLAIN int outside(const unsigned char *code, int a, int b, int c) {
         case 2: b += from_object(c); break;
         case 3: c = from_object(b) - a; /* fall through */
         case 4: a = from_object(b) ^ d; break;
-        case 5: from_object(c); c++; break;
+        case 5:
+            from_object(c);
+            c++;
+            break;
         case 6: b = from_object(d) - c; break;
         }
     }
 }
 
 /* A case that hardly ever comes may be apart from its function. */
-__attribute__((cold, noinline)) static int rare(int a) { return seen = a; }
+__attribute__((cold, noinline)) static int rare(int a) {
+    return seen = a;
+}
 __attribute__((section(".text.elsewhere"), noinline)) int parted(int which, int a) {
     switch (which) {
     case 10: return a + 1;

@@ -94,7 +94,8 @@ static void compare(Run *run, const uint8_t *bytes, const NcInstruction *ours, u
     }
     theirs = read_text(&seen, at);
     run->compared++;
-    if (seen.length == 0 || theirs.length != ours->length || theirs.flow != ours->flow || theirs.rel != ours->rel || theirs.reg != ours->reg) {
+    if (seen.length == 0 || theirs.length != ours->length || theirs.flow != ours->flow || theirs.rel != ours->rel ||
+        theirs.reg != ours->reg) {
         differs(run, bytes, ours, &theirs, &seen);
     }
 }

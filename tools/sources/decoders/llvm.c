@@ -30,7 +30,8 @@ void other_look(const uint8_t *bytes, uint32_t at, Seen *seen) {
     char text[sizeof seen->text];
     uint32_t before = 0, length;
     do {
-        length = (uint32_t)LLVMDisasmInstruction(decoder, (uint8_t *)(uintptr_t)bytes + before, 15 - before, at + before, text, sizeof text);
+        length =
+            (uint32_t)LLVMDisasmInstruction(decoder, (uint8_t *)(uintptr_t)bytes + before, 15 - before, at + before, text, sizeof text);
         strcpy(seen->text, length == 0 ? "" : text + strspn(text, "\t "));
         seen->length = length == 0 ? 0 : before + length;
         before += length;

@@ -16,8 +16,7 @@ const char *other_begin(const char *path) {
         exit(2);
     }
     name[strcspn(name, "\n")] = 0;
-    while (fgets(line, sizeof line, version) != NULL) {
-    }
+    while (fgets(line, sizeof line, version) != NULL) {}
     pclose(version);
     snprintf(command, sizeof command, "objdump -D -z -w -b binary -m i386 -M intel --adjust-vma=0x%x '%s'", FIRST_AT, path);
     lines = popen(command, "r");
@@ -31,8 +30,7 @@ const char *other_begin(const char *path) {
 void other_look(const uint8_t *bytes, uint32_t at, Seen *seen) {
     char *text, *hex;
     (void)bytes;
-    while ((strchr(line, '\t') == NULL || strtoul(line, NULL, 16) < at) && fgets(line, sizeof line, lines) != NULL) {
-    }
+    while ((strchr(line, '\t') == NULL || strtoul(line, NULL, 16) < at) && fgets(line, sizeof line, lines) != NULL) {}
     hex = strchr(line, '\t');
     if (hex == NULL || strtoul(line, NULL, 16) != at || (text = strchr(hex + 1, '\t')) == NULL) {
         return;

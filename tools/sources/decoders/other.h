@@ -7,9 +7,9 @@
 #define FIRST_AT 0x400000u /* where the first instruction stands; each next one stands behind it */
 
 typedef struct Seen {
-    uint32_t length;  /* 0: it knows no such instruction */
-    char text[256];   /* in Intel's syntax */
-    int relative;     /* whether a target is written as what is added to the next instruction's address */
+    uint32_t length; /* 0: it knows no such instruction */
+    char text[256];  /* in Intel's syntax */
+    int relative;    /* whether a target is written as what is added to the next instruction's address */
 } Seen;
 
 /* Begins; all instructions stand in this file too. The name and version of the decoder. */

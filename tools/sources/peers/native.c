@@ -12,14 +12,9 @@ void host_put(const uint8_t *bytes, uint32_t len) {
 
 uint32_t host_call(HostCall call, uint32_t operation) {
     switch (call) {
-    case HOST_PREPARE:
-        unit_prepare();
-        return 0;
-    case HOST_RUN:
-        unit_run(operation);
-        return 0;
-    case HOST_SUM:
-        return unit_sum();
+    case HOST_PREPARE: unit_prepare(); return 0;
+    case HOST_RUN: unit_run(operation); return 0;
+    case HOST_SUM: return unit_sum();
     }
     return 0;
 }

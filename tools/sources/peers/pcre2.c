@@ -5,6 +5,7 @@
 #include "pcre2.h"
 
 enum { PATTERNS = 5, COMPILATIONS = 400, PLACES = 20 };
+/* clang-format off */
 static const char *const PATTERN[PATTERNS] = {
     "[A-Za-z_]+\\s*\\(",
     "(?i)box_\\w+_(?:text|blob|int)\\b",
@@ -12,6 +13,7 @@ static const char *const PATTERN[PATTERNS] = {
     "(\\w)\\w*\\1\\s",
     "\"(?:[^\"\\\\]|\\\\.)*\"",
 };
+/* clang-format on */
 static pcre2_code *compiled[PATTERNS];
 static pcre2_match_data *data;
 

@@ -55,11 +55,13 @@ static int no_error(sqlite3_vfs *vfs, int len, char *out) {
 }
 
 int sqlite3_os_init(void) {
+    /* clang-format off */
     static sqlite3_vfs vfs = {
         .iVersion = 1, .szOsFile = sizeof(sqlite3_file), .mxPathname = 512, .zName = "none", .xOpen = no_open, .xDelete = no_delete,
         .xAccess = no_access, .xFullPathname = same_name, .xRandomness = same_bytes, .xSleep = no_sleep, .xCurrentTime = same_day,
         .xGetLastError = no_error,
     };
+    /* clang-format on */
     return sqlite3_vfs_register(&vfs, 1);
 }
 

@@ -20,14 +20,9 @@ void host_put(const uint8_t *bytes, uint32_t len) {
 
 uint32_t host_call(HostCall call, uint32_t operation) {
     switch (call) {
-    case HOST_PREPARE:
-        Z_unitZ_unit_prepare(&unit);
-        return 0;
-    case HOST_RUN:
-        Z_unitZ_unit_run(&unit, operation);
-        return 0;
-    case HOST_SUM:
-        return Z_unitZ_unit_sum(&unit);
+    case HOST_PREPARE: Z_unitZ_unit_prepare(&unit); return 0;
+    case HOST_RUN: Z_unitZ_unit_run(&unit, operation); return 0;
+    case HOST_SUM: return Z_unitZ_unit_sum(&unit);
     }
     return 0;
 }

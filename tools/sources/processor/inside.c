@@ -125,8 +125,10 @@ static int map_all(void) {
     writable = mmap(NULL, PAGE, PROT_READ | PROT_WRITE, MAP_SHARED, file, 0);
     if (writable == MAP_FAILED ||
         mmap((void *)(uintptr_t)CODE_AT, PAGE, PROT_READ | PROT_EXEC, MAP_SHARED | MAP_FIXED_NOREPLACE, file, 0) == MAP_FAILED ||
-        mmap((void *)(uintptr_t)(CODE_AT + PAGE), PAGE, PROT_READ, MAP_PRIVATE | MAP_ANONYMOUS | MAP_FIXED_NOREPLACE, -1, 0) == MAP_FAILED ||
-        mmap((void *)(uintptr_t)DATA_AT, DATA_LEN, PROT_READ | PROT_WRITE, MAP_PRIVATE | MAP_ANONYMOUS | MAP_FIXED_NOREPLACE, -1, 0) == MAP_FAILED) {
+        mmap((void *)(uintptr_t)(CODE_AT + PAGE), PAGE, PROT_READ, MAP_PRIVATE | MAP_ANONYMOUS | MAP_FIXED_NOREPLACE, -1, 0) ==
+            MAP_FAILED ||
+        mmap((void *)(uintptr_t)DATA_AT, DATA_LEN, PROT_READ | PROT_WRITE, MAP_PRIVATE | MAP_ANONYMOUS | MAP_FIXED_NOREPLACE, -1, 0) ==
+            MAP_FAILED) {
         return -1;
     }
     close(file);

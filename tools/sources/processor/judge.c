@@ -212,9 +212,11 @@ static void judge_instruction(Judge *j, unsigned step) {
 
 /* Divisions whose quotient is too large whatever the registers hold: by AH, by EDX and by DX. */
 static int never_divides(const Beginning *b) {
+    /* clang-format off */
     static const struct {
         uint8_t count, bytes[3];
     } known[] = {{2, {0xF6, 0xF4}}, {2, {0xF7, 0xF2}}, {3, {0x66, 0xF7, 0xF2}}};
+    /* clang-format on */
     size_t i;
     for (i = 0; i < sizeof known / sizeof *known; i++) {
         if (b->count == known[i].count && memcmp(b->bytes, known[i].bytes, b->count) == 0) {

@@ -25,8 +25,7 @@ static uint32_t checksum = 0xFFFFFFFF;
 
 static void transparent_crc(uint64_t value, const char *name, int shows) {
     (void)name, (void)shows;
-    for (int bit = 0; bit < 64; bit++, value >>= 1)
-        checksum = checksum >> 1 ^ (((checksum ^ (uint32_t)value) & 1) ? 0xEDB88320 : 0);
+    for (int bit = 0; bit < 64; bit++, value >>= 1) checksum = checksum >> 1 ^ (((checksum ^ (uint32_t)value) & 1) ? 0xEDB88320 : 0);
 }
 
 static inline void transparent_crc_bytes(const void *place, int length, const char *name, int shows) {
@@ -47,4 +46,6 @@ static inline void platform_main_end(uint32_t sum, int shows) {
     host_write(text, sizeof text);
 }
 
-__attribute__((section(".text.start"))) void start(void) { host_exit(main()); }
+__attribute__((section(".text.start"))) void start(void) {
+    host_exit(main());
+}

@@ -5,9 +5,9 @@
 #include <stddef.h>
 #include <stdint.h>
 
-#define LENGTH 5u         /* bytes of the instruction, which is `mov $number, %register` */
-#define REGISTERS 7u      /* all but %esp */
-#define VERSIONS 49u      /* a multiple of REGISTERS */
+#define LENGTH 5u    /* bytes of the instruction, which is `mov $number, %register` */
+#define REGISTERS 7u /* all but %esp */
+#define VERSIONS 49u /* a multiple of REGISTERS */
 #define MOST_ACTS 16u
 #define SERIALIZATIONS 3u /* the two of a change, and one between two changes, which no region makes */
 

@@ -65,8 +65,9 @@ static void show(const Race *race, const Tally *t) {
     const struct {
         const char *name;
         uint64_t count;
-    } counts[] = {{"changes", t->changes}, {"executions", t->executions}, {"beside", t->beside}, {"whole", t->whole}, {"stops", t->stops},
-                  {"late", t->late_whole}, {"late-stops", t->late_stops}, {"mixed", sum_of_mixed(t)}, {"outside", t->outside}};
+    } counts[] = {{"changes", t->changes},       {"executions", t->executions}, {"beside", t->beside},
+                  {"whole", t->whole},           {"stops", t->stops},           {"late", t->late_whole},
+                  {"late-stops", t->late_stops}, {"mixed", sum_of_mixed(t)},    {"outside", t->outside}};
     size_t i;
     printf("%s at %u, left out %s, %u mixtures in the views:", race->name, race->offset, race->left_out, mixtures_in(&race->views));
     for (i = 0; i < sizeof counts / sizeof *counts; i++) {

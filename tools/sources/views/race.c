@@ -13,8 +13,8 @@
 #include <time.h>
 
 #define SHOWN 3u
-#define FOREIGN 4u /* how many versions ahead a foreign byte is; no view has it */
-#define TRAP 0xCCu /* int3 */
+#define FOREIGN 4u        /* how many versions ahead a foreign byte is; no view has it */
+#define TRAP 0xCCu        /* int3 */
 #define CHANGES_A_LOOK 8u /* how many changes are made between two looks at the clock */
 
 typedef struct Reader {

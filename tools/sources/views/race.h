@@ -18,13 +18,13 @@ typedef struct Tally {
 
 typedef struct Race {
     const char *name, *left_out;
-    Acts acts;           /* what the writer does */
-    Views views, text;   /* what is expected */
-    unsigned made;       /* a bit for each serialization that is made */
-    unsigned offset;     /* of the instruction in its bundle */
+    Acts acts;         /* what the writer does */
+    Views views, text; /* what is expected */
+    unsigned made;     /* a bit for each serialization that is made */
+    unsigned offset;   /* of the instruction in its bundle */
     unsigned readers;
     double seconds;
-    int ahead;           /* whether each act is counted as made before it is, as in a control */
+    int ahead; /* whether each act is counted as made before it is, as in a control */
 } Race;
 
 Tally race_run(const Race *race);

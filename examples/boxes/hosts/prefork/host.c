@@ -60,8 +60,7 @@ static void fork_workers(const char *path, const Unpacker *servers, Told told[WO
 }
 
 static void wait_for_workers(void) {
-    while (wait(NULL) > 0) {
-    }
+    while (wait(NULL) > 0) {}
 }
 
 static void print_workers(Told told[WORKERS], const char *when) {
