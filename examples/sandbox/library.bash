@@ -5,7 +5,8 @@ top=${here:?}/../..
 if [ -d "$top/crates" ]; then
     kit=${RATTLE_KIT:-$(dirname "$(rt doc)")}
     include=(-I"$top/include" -I"$top/sandbox") nc_cc=$top/compiler/nc-cc
-    boxes=("$top"/sandbox/*.c "$top/sandbox/switch.S")
+    make -s -C "$top/sandbox" library || exit 2
+    boxes=("$top/out/sandbox/libnc_sandbox.a")
     archives=("$top/crates/nc_host/out/libnc_host.a" "$kit/c/liblibc_c.a")
 else
     prefix=$(cd "$top/../../.." && pwd)

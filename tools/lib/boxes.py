@@ -2,8 +2,11 @@
 
 from __future__ import annotations
 
+import collections
+import functools
 import os
 import re
+import shutil
 import subprocess
 import sys
 from collections.abc import Iterable
@@ -12,12 +15,10 @@ from typing import NamedTuple
 
 from examples import TOP
 from executing import missing
-from native import INCLUDE, archives, compiler
+from native import archives, compiler
 
 SANDBOX = os.path.join(TOP, "sandbox")
 NC_CC = os.path.join(TOP, "compiler", "nc-cc")
-FLAGS = ["-std=gnu11", "-O2", "-Wall", "-Wextra", "-pthread", "-I" + INCLUDE, "-I" + SANDBOX]
-CHECKED = ["-g1", "-fsanitize=address,undefined", "-fno-sanitize-recover=all"]
 FAULT = re.compile(r"^([\w-]+) (\S+) (\S+) (.+)\n    (.*)\n", re.M)
 SYSTEM_LACKS = 123  # a status of nc-run
 # Calls without end fill a stack of 1 MiB long before their time is over.
@@ -43,9 +44,36 @@ def faults(path: str) -> list[Fault]:
             for test, line in zip(tests.split(","), lines.split(" | "))]
 
 
+@functools.lru_cache(None)
+def told() -> dict[str, list[str]]:
+    """What sandbox/Makefile tells, by names: flags, sources, and with what each of its tests is linked and started."""
+    if shutil.which("make") is None:
+        return collections.defaultdict(list)  # executing.missing names it
+    words = ["make", "-s", "-C", SANDBOX, "show"]
+    text = subprocess.run(words, stdin=subprocess.DEVNULL, capture_output=True, text=True, check=True).stdout
+    return {name: rest.split() for name, _, rest in (line.partition(":") for line in text.splitlines())}
+
+
+def flags() -> list[str]:
+    """Those by which everything of sandbox/ is compiled."""
+    return told()["flags"]
+
+
+def sanitizers() -> list[str]:
+    """Those of AddressSanitizer and UndefinedBehaviorSanitizer."""
+    return told()["checked"]
+
+
+def make(folder: str, *words: str) -> None:
+    """Has sandbox/Makefile make something in a folder."""
+    call(["make", "-s", "-C", SANDBOX, "CC=" + compiler(), "OUT=" + os.path.abspath(folder), *words])
+
+
 def sources(*folder: str) -> list[str]:
-    """The paths of the sources in C and assembly of a folder, or of sandbox/."""
-    place = os.path.join(TOP, *(folder or ["sandbox"]))
+    """The paths of the sources in C and assembly of a folder, or of the library of boxes."""
+    if not folder:
+        return [os.path.join(SANDBOX, name) for name in told()["library"]]
+    place = os.path.join(TOP, *folder)
     return [os.path.join(place, name) for name in sorted(os.listdir(place)) if name.endswith((".c", ".S"))]
 
 
@@ -53,21 +81,21 @@ def call(words: list[str]) -> None:
     subprocess.run(words, stdin=subprocess.DEVNULL, check=True)
 
 
-def compile_one(source: str, made: str, flags: list[str]) -> str:
-    call([compiler()] + FLAGS + flags + ["-c", source, "-o", made])
+def compile_one(source: str, made: str, more: list[str]) -> str:
+    call([compiler()] + flags() + more + ["-c", source, "-o", made])
     return made
 
 
-def compile_all(pool: Executor, paths: list[str], folder: str, flags: list[str]) -> dict[str, str]:
+def compile_all(pool: Executor, paths: list[str], folder: str, more: list[str]) -> dict[str, str]:
     """The objects of sources, by their paths."""
     made = {path: os.path.join(folder, os.path.relpath(path, TOP).replace(os.sep, "-") + ".o") for path in paths}
-    list(pool.map(lambda path: compile_one(path, made[path], ["-Werror"] + flags), made))
+    list(pool.map(lambda path: compile_one(path, made[path], ["-Werror"] + more), made))
     return made
 
 
-def link(objects: Iterable[str], made: str, flags: Iterable[str] = (), over: list[str] | None = None) -> str:
+def link(objects: Iterable[str], made: str, more: Iterable[str] = (), over: list[str] | None = None) -> str:
     """A program, over the built library nc_host or over other archives."""
-    call([compiler(), "-pthread", *flags, *objects, *(archives() if over is None else over), "-o", made])
+    call([compiler(), "-pthread", *more, *objects, *(archives() if over is None else over), "-o", made])
     return made
 
 
@@ -79,15 +107,15 @@ def run(line: list[str], folder: str, seconds: int) -> tuple[int, str, str]:
     return done.returncode, done.stdout, done.stderr
 
 
-def has_sanitizers(folder: str, flags: Iterable[str] = ()) -> bool:
+def has_sanitizers(folder: str, by: Iterable[str] = ()) -> bool:
     """Whether the compiler has them, with their libraries."""
     made = os.path.join(folder, "nothing")
-    words = [compiler(), *(flags or CHECKED), "-x", "c", "-", "-o", made]
+    words = [compiler(), *(by or sanitizers()), "-x", "c", "-", "-o", made]
     built = subprocess.run(words, input="int main(void) { return 0; }\n", capture_output=True, text=True)
     return built.returncode == 0 and subprocess.run([made], capture_output=True).returncode == 0
 
 
-def plant(fault: Fault, folder: str, library: dict[str, str], flags: Iterable[str] = ()) -> dict[str, str]:
+def plant(fault: Fault, folder: str, library: dict[str, str], more: Iterable[str] = ()) -> dict[str, str]:
     """The objects of the library with this fault."""
     source = os.path.normpath(os.path.join(SANDBOX, fault.source))
     planted = os.path.join(folder, "planted-%s%s" % (fault.name, os.path.splitext(source)[1]))
@@ -97,7 +125,7 @@ def plant(fault: Fault, folder: str, library: dict[str, str], flags: Iterable[st
             sys.exit("faults.txt: %s changes nothing in %s" % (fault.name, fault.source))
     with open(planted, "w", encoding="utf-8") as file:
         file.write(text)
-    return dict(library, **{source: compile_one(planted, planted + ".o", ["-w", *flags])})
+    return dict(library, **{source: compile_one(planted, planted + ".o", ["-w", *more])})
 
 
 def try_fault(fault: Fault, wanted: list[str], ended: tuple[int, str, str]) -> bool:
@@ -113,9 +141,9 @@ def try_fault(fault: Fault, wanted: list[str], ended: tuple[int, str, str]) -> b
 
 def nc_run(folder: str) -> str:
     """The path of the program, which is made in a folder."""
-    made = os.path.join(folder, "nc-run")
-    call([compiler(), *FLAGS, *sources(), *sources("sandbox", "run"), *archives(), "-o", made])
-    return made
+    archives()
+    make(folder, os.path.join(os.path.abspath(folder), "nc-run"))
+    return os.path.join(folder, "nc-run")
 
 
 def no_boxes(program: str, folder: str) -> str | None:

@@ -14,7 +14,7 @@ def missing() -> str | None:
     """What isn't here without which neither can be built, or None."""
     if lacking():
         return lacking()
-    for tool in ("as", "ld", "objcopy"):
+    for tool in ("as", "ld", "objcopy", "make"):
         if shutil.which(tool) is None:
             return tool
     run = subprocess.run([compiler(), "-m32", "-x", "c", "-c", os.devnull, "-o", os.devnull], capture_output=True)

@@ -9,7 +9,7 @@ from collections.abc import Iterable
 from concurrent.futures import Executor
 from typing import NamedTuple
 
-from boxes import FLAGS, SANDBOX, Fault, compile_all, has_sanitizers, link, plant, sources
+from boxes import SANDBOX, Fault, compile_all, flags, has_sanitizers, link, plant, sources
 from examples import TOP
 from first_inputs import COMPILED, compiled
 from native import archives, compiler
@@ -73,8 +73,8 @@ class Build:
         guest = compiled(COMPILED["replay"], os.path.join(folder, "replay.elf"))
         own = [path for path in sources("tests", "fuzz") if os.path.basename(path) not in NOT_HELPERS]
         library = [path for path in sources() + sources("sandbox", "run") if path != MAIN]
-        flags = [*made_by.flags, *INCLUDES, '-DGUEST="%s"' % guest]
-        self.made = compile_all(pool, [*library, *own, *HELPERS, os.path.join(FUZZ, "mutator.c")], folder, flags)
+        more = [*made_by.flags, *INCLUDES, '-DGUEST="%s"' % guest]
+        self.made = compile_all(pool, [*library, *own, *HELPERS, os.path.join(FUZZ, "mutator.c")], folder, more)
         self.archive = os.path.join(folder, "all.a")
         targets = [self.object(name) for name in [*TARGETS, "mutator"]]
         subprocess.run(["ar", "rcs", self.archive, *[made for made in self.made.values() if made not in targets]], check=True)
@@ -98,5 +98,5 @@ class Build:
 def mutator_library(path: str) -> str:
     """The mutator of ELF files, as AFL++ loads it."""
     files = [os.path.join(FUZZ, name) for name in ("afl.c", "fields.c", "fuzz.c")]
-    subprocess.run([os.environ["NC_CC"], *FLAGS, *INCLUDES, "-shared", "-fPIC", *files, *archives(), "-o", path], check=True)
+    subprocess.run([os.environ["NC_CC"], *flags(), *INCLUDES, "-shared", "-fPIC", *files, *archives(), "-o", path], check=True)
     return path

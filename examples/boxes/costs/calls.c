@@ -1,8 +1,8 @@
 /* What a call of a box and a call-back cost, by each way to treat the host's signals (ncs_signals). It needs no library but nc_host. From the
    top of the repository:
 
-       kit=$(dirname "$(rt doc)") && mkdir -p out
-       gcc -std=gnu11 -O2 -pthread -Iinclude -Isandbox examples/boxes/costs/calls.c sandbox/[a-z]*.c sandbox/switch.S \
+       make -C sandbox && kit=$(dirname "$(rt doc)")
+       gcc -std=gnu11 -O2 -pthread -Iinclude -Isandbox examples/boxes/costs/calls.c out/sandbox/libnc_sandbox.a \
            crates/nc_host/out/libnc_host.a "$kit/c/liblibc_c.a" -o out/calls && out/calls
 
    It prints the least processor time of 25 turns, in nanoseconds. In the last two columns the host makes a system call each time. */

@@ -1,9 +1,9 @@
 /* What changes of live code cost, by the host and by code in a box, and what two other threads keep of their speed beside a box that changes
    its code without pause. It needs no library but nc_host. From the top of the repository:
 
-       kit=$(dirname "$(rt doc)") && mkdir -p out
+       make -C sandbox && kit=$(dirname "$(rt doc)")
        compiler/nc-cc -O2 --data 00110000 examples/boxes/costs/changing.c -o out/changing.elf
-       gcc -std=gnu11 -O2 -pthread -Iinclude -Isandbox examples/boxes/costs/changes.c sandbox/[a-z]*.c sandbox/switch.S \
+       gcc -std=gnu11 -O2 -pthread -Iinclude -Isandbox examples/boxes/costs/changes.c out/sandbox/libnc_sandbox.a \
            crates/nc_host/out/libnc_host.a "$kit/c/liblibc_c.a" -o out/changes && out/changes out/changing.elf
 
    It prints the least processor time of 15 turns, in nanoseconds each. The speed of other threads is per second of their own processor
