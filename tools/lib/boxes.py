@@ -1,47 +1,25 @@
-"""What the scripts share that build the library of sandbox/ with programs over it, such as nc-run, and plant faults in them."""
+"""What the scripts share that build the library of sandbox/ with programs over it, such as nc-run, and try mutants of them."""
 
 from __future__ import annotations
 
 import collections
 import functools
 import os
-import re
 import shutil
 import subprocess
-import sys
 from collections.abc import Iterable
 from concurrent.futures import Executor
-from typing import NamedTuple
 
 from examples import TOP
 from executing import missing
+from mutants import Mutant, planted, source_of
 from native import archives, compiler
 
 SANDBOX = os.path.join(TOP, "sandbox")
 NC_CC = os.path.join(TOP, "compiler", "nc-cc")
-FAULT = re.compile(r"^([\w-]+) (\S+) (\S+) (.+)\n    (.*)\n", re.M)
 SYSTEM_LACKS = 123  # a status of nc-run
 # Calls without end fill a stack of 1 MiB long before their time is over.
 LIMITS = 'ulimit -c 0 && ulimit -s 1024 && ulimit -St "$0" && ulimit -Ht $(($0 + 1)) && exec "$@"'
-
-
-class Fault(NamedTuple):
-    name: str
-    source: str
-    test: str
-    edit: str
-    line: str
-
-
-def faults(path: str) -> list[Fault]:
-    """Those of a faults.txt. One with several tests, and as many lines between bars, is found by each of them."""
-    with open(path, encoding="utf-8") as file:
-        text = file.read()
-    other = [line for line in FAULT.sub("", text).splitlines() if line and not line.startswith("#")]
-    if other:
-        sys.exit("%s: neither a fault nor its line: %s" % (path, other[0]))
-    return [Fault(name, source, test, edit, line) for name, source, tests, edit, lines in FAULT.findall(text)
-            for test, line in zip(tests.split(","), lines.split(" | "))]
 
 
 @functools.lru_cache(None)
@@ -115,27 +93,23 @@ def has_sanitizers(folder: str, by: Iterable[str] = ()) -> bool:
     return built.returncode == 0 and subprocess.run([made], capture_output=True).returncode == 0
 
 
-def plant(fault: Fault, folder: str, library: dict[str, str], more: Iterable[str] = ()) -> dict[str, str]:
-    """The objects of the library with this fault."""
-    source = os.path.normpath(os.path.join(SANDBOX, fault.source))
-    planted = os.path.join(folder, "planted-%s%s" % (fault.name, os.path.splitext(source)[1]))
-    text = subprocess.run(["sed", "--", fault.edit, source], capture_output=True, text=True, check=True).stdout
-    with open(source, encoding="utf-8") as file:
-        if file.read() == text:
-            sys.exit("faults.txt: %s changes nothing in %s" % (fault.name, fault.source))
-    with open(planted, "w", encoding="utf-8") as file:
-        file.write(text)
-    return dict(library, **{source: compile_one(planted, planted + ".o", ["-w", *more])})
+def plant(mutant: Mutant, folder: str, library: dict[str, str], more: Iterable[str] = ()) -> dict[str, str]:
+    """The objects of the library with this mutant."""
+    source = source_of(mutant)
+    path = os.path.join(folder, "mutant-%s%s" % (mutant.name, os.path.splitext(source)[1]))
+    with open(path, "w", encoding="utf-8") as file:
+        file.write(planted(mutant))
+    return dict(library, **{source: compile_one(path, path + ".o", ["-w", *more])})
 
 
-def try_fault(fault: Fault, wanted: list[str], ended: tuple[int, str, str]) -> bool:
-    """Whether the test doesn't find the fault where faults.txt says: the first of the lines it has to print that it doesn't print."""
+def try_mutant(mutant: Mutant, wanted: list[str], ended: tuple[int, str, str]) -> bool:
+    """Whether the test doesn't find the mutant where its `line:` says: the first of the lines it has to print that it doesn't print."""
     status, output, _ = ended
     found = output.splitlines()
     first = next((line for k, line in enumerate(wanted) if k >= len(found) or found[k] != line), "")
-    right = first.split(":")[0] == fault.line
-    told = "found" if right else "DIFFERS, with status %d, at %r\n%s" % (status, first, output)
-    print("a library with the fault %s, by %s: %s" % (fault.name, fault.test, told), flush=True)
+    right = first.split(":")[0] == mutant.line
+    told_it = "found" if right else "DIFFERS, with status %d, at %r\n%s" % (status, first, output)
+    print("the mutant %s, by %s: %s" % (mutant.name, mutant.test, told_it), flush=True)
     return not right
 
 

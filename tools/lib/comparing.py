@@ -1,4 +1,4 @@
-"""What the scripts share that compare sources of compiler/runtime, as gcc and clang make them, and plant faults in them."""
+"""What the scripts share that compare sources of compiler/runtime, as gcc and clang make them, and try mutants of them."""
 
 from __future__ import annotations
 
@@ -6,16 +6,15 @@ import functools
 import os
 import re
 import subprocess
-import sys
 from collections.abc import Callable, Iterable
 
 from boxes import NC_CC
 from examples import TOP
+from mutants import Mutant, planted
 
 RUNTIME = os.path.join(TOP, "compiler", "runtime")
 COMPILERS, LEVELS = ["gcc", "clang"], ["-O0", "-O2", "-Os"]
 STRICT = ["-Wall", "-Wextra", "-Werror"]
-FAULT = re.compile(r"([\w-]+) (\w+) (.*)")
 
 
 @functools.lru_cache(None)
@@ -45,25 +44,13 @@ def tried(program: str, *words: object) -> bool:
     return status != 0
 
 
-def faults(path: str) -> list[str]:
-    """The lines of a list of faults."""
-    with open(path, encoding="utf-8") as file:
-        return [line.rstrip("\n") for line in file if line.strip() and not line.startswith("#")]
-
-
-def planted(folder: str, source: str, line: str, make: Callable[[str], str], words: list[object]) -> bool:
-    """Whether the fault of a line isn't found in a source. `make` compiles what has this stem and `.c` to a program. For the words and the
-    function's name that has to print a line that begins with the name."""
-    name, function, edit = FAULT.fullmatch(line).groups()
-    stem = os.path.join(folder, "planted-" + name)
-    with open(os.path.join(RUNTIME, source), encoding="utf-8") as file:
-        text = file.read()
-    changed = subprocess.run(["sed", "--", edit], input=text, capture_output=True, text=True, check=True).stdout
-    if changed == text:
-        sys.exit("%s changes nothing in %s" % (name, source))
+def missed(mutant: Mutant, folder: str, make: Callable[[str], str], words: list[object]) -> bool:
+    """Whether a mutant isn't found. `make` compiles what has this stem and `.c` to a program. For the words and the name of the function
+    that is the mutant's test, this has to print a line that begins with the name."""
+    stem = os.path.join(folder, "mutant-" + mutant.name)
     with open(stem + ".c", "w", encoding="utf-8") as file:
-        file.write(changed)
-    said = run(make(stem), *words, function)[1]
-    found = re.search(r"^%s " % function, said, re.M) is not None
-    print("%s with the fault %s, by %s: %s" % (source, name, function, "found" if found else "NOT FOUND\n" + said), flush=True)
+        file.write(planted(mutant))
+    said = run(make(stem), *words, mutant.test)[1]
+    found = re.search(r"^%s " % mutant.test, said, re.M) is not None
+    print("the mutant %s, by %s: %s" % (mutant.name, mutant.test, "found" if found else "NOT FOUND\n" + said), flush=True)
     return not found

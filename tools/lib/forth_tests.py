@@ -121,18 +121,18 @@ def try_all(place, is_slice):
 
 
 # Each is a text of compile.c, and what stands there then.
-FAULTS = [("nce_jump(code, 4,", "nce_jump(code, 5,"), ("nce_jump(code, 12,", "nce_jump(code, 14,"),
-          ("nc_code_patch(at, jump, nce_transfer(jump, NCE_ALWAYS, at, address_of(target)), NULL)", "1"),
-          ("memcpy(place, &at, sizeof at);", ""), ("nce_call(code, own);", "nce_jump(code, NCE_ALWAYS, own);"),
-          ("first + value);\n        RAW(code, \"\\x5F", "first + value + 1);\n        RAW(code, \"\\x5F")]
+MUTANTS = [("nce_jump(code, 4,", "nce_jump(code, 5,"), ("nce_jump(code, 12,", "nce_jump(code, 14,"),
+           ("nc_code_patch(at, jump, nce_transfer(jump, NCE_ALWAYS, at, address_of(target)), NULL)", "1"),
+           ("memcpy(place, &at, sizeof at);", ""), ("nce_call(code, own);", "nce_jump(code, NCE_ALWAYS, own);"),
+           ("first + value);\n        RAW(code, \"\\x5F", "first + value + 1);\n        RAW(code, \"\\x5F")]
 
 
-def try_faults(place):
+def try_mutants(place):
     own, right = native(place), True
-    for number, (old, new) in enumerate(FAULTS):
+    for number, (old, new) in enumerate(MUTANTS):
         def change(text, old=old, new=new):
             assert text.count(old) == 1, old
             return text.replace(old, new)
-        found = differences(place, own, build(place, "forth-fault-%d" % number, change), 3)
-        right = tell("forth with the fault %d" % number, found != 0, "found") and right
+        found = differences(place, own, build(place, "forth-mutant-%d" % number, change), 3)
+        right = tell("the mutant %d of forth" % number, found != 0, "found") and right
     return right

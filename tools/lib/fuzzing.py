@@ -9,9 +9,10 @@ from collections.abc import Iterable
 from concurrent.futures import Executor
 from typing import NamedTuple
 
-from boxes import SANDBOX, Fault, compile_all, flags, has_sanitizers, link, plant, sources
+from boxes import SANDBOX, compile_all, flags, has_sanitizers, link, plant, sources
 from examples import TOP
 from first_inputs import COMPILED, compiled
+from mutants import Mutant, source_of
 from native import archives, compiler
 
 FUZZ = os.path.join(TOP, "tests", "fuzz")
@@ -82,17 +83,16 @@ class Build:
     def object(self, name: str) -> str:
         return self.made[os.path.join(FUZZ, name + ".c")]
 
-    def link(self, name: str, path: str, planted: Iterable[str] = ()) -> str:
-        """A target's program. An object with a fault comes first, so it is taken in place of the archive's."""
+    def link(self, name: str, path: str, mutant: Iterable[str] = ()) -> str:
+        """A target's program. An object with a bug comes first, so it is taken in place of the archive's."""
         target = TARGETS[name]
-        objects = [self.object(name), *([self.object("mutator")] if target.gets_files else []), *planted, self.archive]
+        objects = [self.object(name), *([self.object("mutator")] if target.gets_files else []), *mutant, self.archive]
         return link(objects, path, [*self.made_by.flags, *self.made_by.linked, *target.linked])
 
-    def link_planted(self, fault: Fault, folder: str) -> str:
-        """The program of a fault's target, with the fault."""
-        source = os.path.normpath(os.path.join(SANDBOX, fault.source))
-        made = plant(fault, folder, self.made, [*self.made_by.flags, *INCLUDES])
-        return self.link(fault.test, os.path.join(folder, fault.test), [made[source]])
+    def link_mutant(self, mutant: Mutant, folder: str) -> str:
+        """The program of a mutant's target, with its bug."""
+        made = plant(mutant, folder, self.made, [*self.made_by.flags, *INCLUDES])
+        return self.link(mutant.test, os.path.join(folder, mutant.test), [made[source_of(mutant)]])
 
 
 def mutator_library(path: str) -> str:

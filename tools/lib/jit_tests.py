@@ -84,10 +84,10 @@ def try_all(place, is_slice):
     return all(good)
 
 
-# ---- Planted faults: an edit left out or another one, or a line of sljitNcX86_32.c. pcre2_jit_test has to fail, or nc-cc to refuse it.
+# ---- Mutants: an edit left out or another one, or a line of sljitNcX86_32.c. pcre2_jit_test has to fail, or nc-cc to refuse it.
 
 OWN_FILE = "src/sljit/sljitNcX86_32.c"
-FAULTS = {
+MUTANTS = {
     # PCRE2 as it is: 36 cases, and 5 of invalid UTF-8.
     "flags": (None, 41),
     "return": (None, None),
@@ -104,7 +104,7 @@ LINES = {
 }
 
 
-def with_fault(place, name, edits, line):
+def mutant(place, name, edits, line):
     """PCRE2's sources with these edits, and one line of ours changed."""
     top = place.sources(NAME, edits, name)
     shutil.copy(own("sljitNcX86_32.c"), os.path.join(top, OWN_FILE))
@@ -113,7 +113,7 @@ def with_fault(place, name, edits, line):
 
 
 def find(place, what, top, name, wanted):
-    """Whether the fault in these sources is found. Only what has the JIT is compiled again."""
+    """Whether the bug in these sources is found. Only what has the JIT is compiled again."""
     folder = place.below(name + "-objects")
     good = place.below("pcre2-box")
     try:
@@ -127,18 +127,18 @@ def find(place, what, top, name, wanted):
     return tell(what, status != 0 and wanted in (None, failed), "status %d, %d cases fail" % (status, failed))
 
 
-def try_faults(place):
-    """Whether each fault is found."""
+def try_mutants(place):
+    """Whether each mutant is found."""
     edits = edits_of(NAME).EDITS
     compiler, top, folder = compiler_of(place), place.sources(NAME, edits.values(), "pcre2"), place.below("pcre2-box")
     pcre2_jit_test(compiler, top, folder, WIDTHS[:1], pcre2_library(compiler, top, folder, WIDTHS[:1]))
     found = []
-    for name, (lines, wanted) in FAULTS.items():
+    for name, (lines, wanted) in MUTANTS.items():
         kept = [(key, edit) for key, edit in edits.items() if key.split(" end")[0] != name or lines]
         others = [edit._replace(lines=lines) if key == name else edit for key, edit in kept]
-        place_name = "fault-" + name.replace(" ", "-")
-        found.append(find(place, "edit `%s`" % name, with_fault(place, place_name, others, []), place_name, wanted))
+        place_name = "mutant-" + name.replace(" ", "-")
+        found.append(find(place, "edit `%s`" % name, mutant(place, place_name, others, []), place_name, wanted))
     for k, (old, new) in enumerate(LINES.items()):
-        top = with_fault(place, "line-%d" % k, edits.values(), [Edit(OWN_FILE, "instead", old, new)])
+        top = mutant(place, "line-%d" % k, edits.values(), [Edit(OWN_FILE, "instead", old, new)])
         found.append(find(place, "`%s`" % new, top, "line-%d" % k, None))
     return all(found)

@@ -66,4 +66,4 @@ PEERS = {
     "opus": Peer("Opus", (PORTS["opus"],), "sound", (Operation("fixed, encode 2 s", by_words=True), Operation("decode", by_words=True))),
 }
 SLICE = ("cjson",)  # that of the gate, which takes seconds
-FAULTS = {"cjson": "-DCJSON_NESTING_LIMIT=1"}  # the flag with which a library of the slice refuses the input
+MUTANTS = {"cjson": "-DCJSON_NESTING_LIMIT=1"}  # the flag with which a library of the slice refuses the input

@@ -53,10 +53,10 @@ def same_sums(name: str, built: dict[str, Built], folder: str) -> bool:
     return not said
 
 
-def tells(name: str, built: Built, planted: Built, folder: str) -> bool:
-    """Whether a library is told from one with a planted fault. Prints a line."""
-    said = found(name, {"without": built, "with": planted}, folder)
-    print("%s with a fault: %s" % (name, "found" if said else "NOT FOUND"), flush=True)
+def tells(name: str, built: Built, mutant: Built, folder: str) -> bool:
+    """Whether a library is told from a mutant. Prints a line."""
+    said = found(name, {"without": built, "with": mutant}, folder)
+    print("a mutant of %s: %s" % (name, "found" if said else "NOT FOUND"), flush=True)
     return bool(said)
 
 

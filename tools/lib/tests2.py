@@ -125,10 +125,10 @@ def try_all(place, is_slice):
     return tell("tests2 by tcc", counts["differs"] == 0 and counts["expected"] > 0, said)
 
 
-# ---- Planted faults in nc_run_code.c: a line that is left out. Some programs have to differ then.
+# ---- Mutants of nc_run_code.c: a line that is left out. Some programs have to differ then.
 
-FAULTS = ["nc_flat_entry(flat", "rels[k].r_offset = to", "memcpy(made + to", "sym->st_value = nc_flat_place", "nc_flat_foreign(flat",
-          "memcpy(file->buffer"]
+MUTANTS = ["nc_flat_entry(flat", "rels[k].r_offset = to", "memcpy(made + to", "sym->st_value = nc_flat_place", "nc_flat_foreign(flat",
+           "memcpy(file->buffer"]
 TRIED = ["03_struct", "15_recursion", "42_function_pointer", "54_goto", "60_errors_and_warnings", "90_struct-init"]
 
 
@@ -139,12 +139,12 @@ def leave_out(text):
     return change
 
 
-def try_faults(place):
-    """Whether each fault is found."""
+def try_mutants(place):
+    """Whether each mutant is found."""
     own, top = native(place)
     good = []
-    for k, fault in enumerate(FAULTS):
-        box = built(place, "tcc-fault-%d" % k, leave_out(fault))
+    for k, line in enumerate(MUTANTS):
+        box = built(place, "tcc-mutant-%d" % k, leave_out(line))
         ends = [compare(place, box, own, os.path.join(top, BELOW), name)[0] for name in TRIED]
-        good.append(tell("without `%s`" % fault, "differs" in ends, "found by %d of %d programs" % (ends.count("differs"), len(ends))))
+        good.append(tell("without `%s`" % line, "differs" in ends, "found by %d of %d programs" % (ends.count("differs"), len(ends))))
     return all(good)

@@ -7,12 +7,11 @@ import os
 import re
 import shutil
 import subprocess
-import sys
 from collections.abc import Iterable, Iterator
 from typing import Callable, NamedTuple
 
-from boxes import Fault
 from examples import TOP
+from mutants import Mutant, planted, source_of
 from native import INCLUDE
 
 CPP = os.path.join(TOP, "bindings", "cpp")
@@ -126,16 +125,12 @@ def try_cxx_misuses(header: str, known: list[Misuse], flags: Iterable[str] = ())
     return try_misuses(header, [(way, misuse, compiler) for compiler, way in ways for misuse in known])
 
 
-def plant(fault: Fault, tree: str, folder: str) -> str:
-    """A copy of a tree with this fault in one of its files."""
-    made = os.path.join(folder, "-".join(["planted", os.path.basename(tree), fault.name]))
-    shutil.copytree(tree, made, ignore=shutil.ignore_patterns("target"))
-    path = os.path.join(made, fault.source)
-    with open(path, encoding="utf-8") as file:
-        right = file.read()
-    wrong = subprocess.run(["sed", "--", fault.edit], input=right, capture_output=True, text=True, check=True).stdout
-    if wrong == right:
-        sys.exit("faults.txt: %s changes nothing in %s" % (fault.name, fault.source))
+def plant(mutant: Mutant, tree: str, folder: str) -> str:
+    """A copy of a tree with this mutant of one of its files."""
+    made = os.path.join(folder, "-".join(["mutant", os.path.basename(tree), mutant.name]))
+    shutil.copytree(tree, made, ignore=shutil.ignore_patterns("target", "mutants"))
+    path = os.path.join(made, os.path.relpath(source_of(mutant), tree))
+    wrong = planted(mutant, path)
     with open(path, "w", encoding="utf-8") as file:
         file.write(wrong)
     return made
@@ -147,13 +142,13 @@ def said_of_misuse(compile_text: CompileText, known: Iterable[Misuse], name: str
     return run.stderr if run.returncode else name
 
 
-def try_faults(name: str, known: list[Fault], said_of: Callable[[Fault], str]) -> int:
-    """How many faults aren't found. `said_of` plants one, and returns what its test then says, in which the fault's line has to be."""
+def try_mutants(name: str, known: list[Mutant], said_of: Callable[[Mutant], str]) -> int:
+    """How many mutants aren't found. `said_of` plants one, and returns what its test then says, in which the mutant's line has to be."""
     with concurrent.futures.ThreadPoolExecutor(os.cpu_count()) as pool:
-        missed = [(fault, said) for fault, said in zip(known, pool.map(said_of, known)) if fault.line not in said]
-    for fault, said in missed:
-        print("%s with the fault %s: NOT FOUND by %s\n%s" % (name, fault.name, fault.test, said[:2000]))
-    print("%s: %d faults planted, %d not found" % (name, len(known), len(missed)))
+        missed = [(mutant, said) for mutant, said in zip(known, pool.map(said_of, known)) if mutant.line not in said]
+    for mutant, said in missed:
+        print("%s with the mutant %s: NOT FOUND by %s\n%s" % (name, mutant.name, mutant.test, said[:2000]))
+    print("%s: %d mutants, %d not found" % (name, len(known), len(missed)))
     return len(missed)
 
 

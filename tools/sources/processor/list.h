@@ -23,7 +23,7 @@ typedef struct List {
 /* All of them. A list without memory ends the program. */
 List list_beginnings(void);
 
-/* A copy, in which faults can be planted. */
+/* A copy, in which bugs can be planted. */
 List list_copy(const List *list);
 
 /* The entry with these bytes, which has to be there. */

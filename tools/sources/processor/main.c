@@ -19,13 +19,13 @@ static void show(const Counts *n) {
     printf("%llu differences\n", (unsigned long long)n->wrong);
 }
 
-/* Four faults are planted in a copy of the list: these and nothing else have to be found. */
+/* Four mutants of the list, in one copy: these and nothing else have to be found. */
 static int controls(const List *list) {
     static const struct {
         const char *name;
         uint8_t count, bytes[2];
         int length, flow, reg;
-    } planted[] = {
+    } mutants[] = {
         {"83 c0 as one byte longer", 2, {0x83, 0xC0}, 1, 0, 0},
         {"69 c0 as one byte shorter", 2, {0x69, 0xC0}, -1, 0, 0},
         {"74 as no branch", 1, {0x74, 0}, 0, NC_FLOW_NEXT, 0},
@@ -33,16 +33,16 @@ static int controls(const List *list) {
     };
     List copy = list_copy(list);
     size_t i, missed = 0, others = 0;
-    for (i = 0; i < sizeof planted / sizeof *planted; i++) {
-        Beginning *b = list_find(&copy, planted[i].bytes, planted[i].count);
-        b->length = (uint8_t)(b->length + planted[i].length);
-        b->flow = planted[i].flow ? (uint8_t)planted[i].flow : b->flow;
-        b->reg = (uint8_t)(b->reg + planted[i].reg);
+    for (i = 0; i < sizeof mutants / sizeof *mutants; i++) {
+        Beginning *b = list_find(&copy, mutants[i].bytes, mutants[i].count);
+        b->length = (uint8_t)(b->length + mutants[i].length);
+        b->flow = mutants[i].flow ? (uint8_t)mutants[i].flow : b->flow;
+        b->reg = (uint8_t)(b->reg + mutants[i].reg);
     }
     judge(&copy, SLICE, NULL);
-    for (i = 0; i < sizeof planted / sizeof *planted; i++) {
-        Beginning *b = list_find(&copy, planted[i].bytes, planted[i].count);
-        printf("planted: %s: %s\n", planted[i].name, b->wrong ? "found" : "MISSED");
+    for (i = 0; i < sizeof mutants / sizeof *mutants; i++) {
+        Beginning *b = list_find(&copy, mutants[i].bytes, mutants[i].count);
+        printf("mutant: %s: %s\n", mutants[i].name, b->wrong ? "found" : "MISSED");
         missed += !b->wrong;
         b->wrong = 0;
     }

@@ -1,4 +1,4 @@
-/* Tries the views on this processor. `views SECONDS` makes all runs, and `views SECONDS FAULT CHOICE` makes one, with a planted fault.
+/* Tries the views on this processor. `views SECONDS` makes all runs, and `views SECONDS MUTANT CHOICE` makes one, with a mutant.
    tools/try/views compiles and starts this program. */
 #define _GNU_SOURCE
 #include "race.h"
@@ -78,39 +78,39 @@ static void show(const Race *race, const Tally *t) {
     fflush(stdout);
 }
 
-/* Changes what the writer does, or what is expected. Returns 0 where there is no such fault. */
-static int plant(Race *race, const char *fault) {
+/* Changes what the writer does, or what is expected. Returns 0 where there is no such mutant. */
+static int plant(Race *race, const char *mutant) {
     Act *first = race->acts.all;              /* puts the stop */
     Act *last = first + race->acts.count - 2; /* puts the first byte; the serialization between two changes comes next */
     Act *before = last - 2;                   /* puts the last byte; the change's last serialization comes next */
     Act kept = *last;
-    if (strcmp(fault, "no-stop-view") == 0) {
+    if (strcmp(mutant, "no-stop-view") == 0) {
         race->views = without_stops(race->views);
-    } else if (strcmp(fault, "no-stop") == 0 || strcmp(fault, "no-stop-expected") == 0) {
+    } else if (strcmp(mutant, "no-stop") == 0 || strcmp(mutant, "no-stop-expected") == 0) {
         first->kind = PUT_NEW;
-        race->views = strcmp(fault, "no-stop") == 0 ? race->views : views_of(&race->acts, race->made);
-    } else if (strcmp(fault, "late-byte") == 0) {
+        race->views = strcmp(mutant, "no-stop") == 0 ? race->views : views_of(&race->acts, race->made);
+    } else if (strcmp(mutant, "late-byte") == 0) {
         *last = *before;
         *before = kept;
-    } else if (strcmp(fault, "other-byte") == 0) {
+    } else if (strcmp(mutant, "other-byte") == 0) {
         before->kind = PUT_FOREIGN;
-    } else if (strcmp(fault, "trap") == 0) {
+    } else if (strcmp(mutant, "trap") == 0) {
         last->kind = PUT_TRAP;
     } else {
-        race->ahead = strcmp(fault, "late-puts") == 0;
-        return race->ahead || strcmp(fault, "nothing") == 0;
+        race->ahead = strcmp(mutant, "late-puts") == 0;
+        return race->ahead || strcmp(mutant, "nothing") == 0;
     }
     return 1;
 }
 
-static int try_one(Race race, size_t choice, const char *planted) {
+static int try_one(Race race, size_t choice, const char *mutant) {
     Tally t;
     race.left_out = choices[choice].name;
     race.made = choices[choice].made;
     race.views = views_of(&race.acts, race.made);
     race.text = text_of(&race.acts);
-    if (planted != NULL && !plant(&race, planted)) {
-        fprintf(stderr, "views: no fault %s\n", planted);
+    if (mutant != NULL && !plant(&race, mutant)) {
+        fprintf(stderr, "views: no mutant %s\n", mutant);
         exit(2);
     }
     t = race_run(&race);
@@ -164,7 +164,7 @@ int main(int argc, char **argv) {
     double seconds;
     int status;
     if (argc != 2 && argc != 4) {
-        fprintf(stderr, "usage: views SECONDS [FAULT CHOICE]\n");
+        fprintf(stderr, "usage: views SECONDS [MUTANT CHOICE]\n");
         return 2;
     }
     seconds = seconds_named(argv[1]);
