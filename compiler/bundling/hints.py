@@ -19,7 +19,7 @@ LIBC = (r"_?_?(?:assert_fail|errno(?:_location)?|v?[fs]?n?(?:printf|scanf)|f?put
         r"|[mc]alloc|realloc|free|exit|abort|qsort|bsearch|s?rand|ato[if]|str\w+|memchr|time|clock|setjmp|longjmp"
         r"|(?:sin|cos|tan|exp|log|pow|sqrt|floor|ceil|round|fabs|fmod)[fl]?)")
 
-# The first that fits a name counts. {library} is the folder compiler/runtime, installed as share/doc/reedbodkin/examples/library.
+# The first that fits a name counts. {library} is the folder compiler/runtime, installed as share/reedbodkin/runtime.
 HINTS = [
     Hint("start", 'C++ calls this function _Z5startv: declare it extern "C"', rb"_Z5start"),
     Hint("start", "a program begins there, and nothing calls main: a C library does (tools/install --musl installs one), or "

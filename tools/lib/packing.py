@@ -20,10 +20,14 @@ from runtime import runtime
 PROGRAMS = ["nc_check", "nc_replay"]
 REWRITER, DRIVER = "compiler/nc-bundle", "compiler/nc-cc"
 SHARE, DOC = "share/reedbodkin/", "share/doc/reedbodkin/"
+RUNTIME = SHARE + "runtime/"
 
 # What has a manual page and completions, and the crates for Rust.
 COMMANDS = ["nc-bundle", "nc-cc", "nc_check", "nc_replay", "nc-run"]
 CRATES = ["nc_sandbox", "nc_host"]
+
+# What a C library for the sandbox is made of, and what nc-cc's hints name.
+RUNTIME_FILES = "division.c floating.c heap.h making.py math.c runtime.py setup.h start.c strings.c".split()
 
 # What stands where it is installed as it does in the repository.
 PAGES_AND_EXAMPLES = [
@@ -32,6 +36,7 @@ PAGES_AND_EXAMPLES = [
     "examples/boxes/costs", "examples/boxes/document", "examples/boxes/picture", "examples/boxes/plugins",
     *["examples/boxes/hosts" + part for part in ("", "/java", "/node", "/perl", "/postgres", "/prefork", "/python")],
     "examples/compile/sample.c", "examples/good.bin", "examples/bad.bin",
+    *["examples/ports/" + name for name in ("build", "host.s", "load.c", "trials")],
     "examples/first.script", "examples/first.replies", "examples/vet.lines", "examples/vet.replies",
 ]
 
@@ -55,29 +60,13 @@ FILES = [
     *[("packaging/completions/_" + name, "share/zsh/site-functions/_" + name) for name in COMMANDS],
     ("packaging/NOTICE", DOC + "NOTICE"),
     *[(path, DOC + path) for path in PAGES_AND_EXAMPLES],
-    ("compiler/runtime/division.c", DOC + "examples/library/division.c"),
-    ("compiler/runtime/floating.c", DOC + "examples/library/floating.c"),
-    ("compiler/runtime/heap.h", DOC + "examples/library/heap.h"),
-    ("compiler/runtime/making.py", DOC + "examples/library/making.py"),
-    ("compiler/runtime/math.c", DOC + "examples/library/math.c"),
-    ("compiler/runtime/runtime.py", DOC + "examples/library/runtime.py"),
-    ("compiler/runtime/setup.h", DOC + "examples/library/setup.h"),
-    ("compiler/runtime/start.c", DOC + "examples/library/start.c"),
-    ("compiler/runtime/strings.c", DOC + "examples/library/strings.c"),
-    ("examples/ports/build", DOC + "examples/library/build"),
-    ("examples/ports/host.s", DOC + "examples/library/host.s"),
-    ("examples/ports/load.c", DOC + "examples/library/load.c"),
-    ("examples/ports/trials", DOC + "examples/library/trials"),
-    ("compiler/runtime/musl", DOC + "examples/library/musl"),
-    ("compiler/runtime/run", DOC + "examples/library/run"),
-    ("compiler/runtime/code", DOC + "examples/library/code"),
-    ("compiler/runtime/templates/bits", DOC + "examples/library/templates/bits"),
-    ("compiler/runtime/musl/bits", DOC + "examples/library/musl/bits"),
+    *[("compiler/runtime/" + name, RUNTIME + name) for name in RUNTIME_FILES],
+    *[("compiler/runtime/" + name, RUNTIME + name) for name in ("code", "musl", "musl/bits", "run", "templates/bits")],
 ]
 
 # Folders and files of the repository that pages name and that aren't installed, and what stands before their names on an installed page.
 ELSEWHERE = [".ci/", "bench/", "bindings/", "compiler/", "crates/", "examples/compile/build", "examples/compile/host.s", "examples/mapped/",
-             "examples/ports/", "packaging/", "sandbox/", "tests/", "tools/"]
+             "examples/ports/generators", "examples/ports/opus.c", "examples/ports/webp", "packaging/", "sandbox/", "tests/", "tools/"]
 ONLY_THERE = "Named on this page, and only in the source repository: "
 
 # Templates of packaging/, and where they go.
