@@ -1,4 +1,7 @@
-"""Whether a value fits a JSON schema, for the words that docs/nc_check.schema.json uses. Another word is an error."""
+"""Whether a value fits a JSON schema, for the words that docs/nc_check.schema.json uses. Another word is an error.
+
+The schema is open to members of later versions. What this version writes it has to describe, so the check also looks for other members.
+"""
 
 from __future__ import annotations
 
@@ -49,3 +52,28 @@ def misfits_of_word(value: Any, word: str, wanted: Any, whole: dict[str, Any]) -
 def misfits(value: Any, schema: dict[str, Any], whole: dict[str, Any]) -> list[str]:
     """What of a value doesn't fit a schema, which is a part of a whole one."""
     return [it for word, wanted in schema.items() for it in misfits_of_word(value, word, wanted, whole)]
+
+
+def forms(schema: dict[str, Any], whole: dict[str, Any]) -> list[dict[str, Any]]:
+    """A schema with those that it refers to, and those of which one has to fit."""
+    parts = [at(whole, schema["$ref"])] if "$ref" in schema else []
+    return [schema] + [form for part in parts + schema.get("oneOf", []) for form in forms(part, whole)]
+
+
+def undescribed(value: Any, schemas: list[dict[str, Any]], whole: dict[str, Any]) -> list[str]:
+    """The members of a value, at any depth, that none of these schemas describes."""
+    every = [form for schema in schemas for form in forms(schema, whole)]
+    found: list[str] = []
+    if type(value) is list:
+        for part in value:
+            found += undescribed(part, [form["items"] for form in every if "items" in form], whole)
+    elif type(value) is dict:
+        for name, part in value.items():
+            described = [form["properties"][name] for form in every if name in form.get("properties", {})]
+            found += undescribed(part, described, whole) if described else ["%r isn't described" % name]
+    return found
+
+
+def strict_misfits(value: Any, schema: dict[str, Any]) -> list[str]:
+    """What of a value doesn't fit a whole schema, or isn't described there."""
+    return misfits(value, schema, schema) + undescribed(value, [schema], schema)
