@@ -1,5 +1,5 @@
 // Tests of nc_sandbox.hpp: beside_test ASKER, on modules of sandbox/tests/asker.c. Boxes beside one another, and code that boxes make. What
-// failed is printed with its line. tools/try/box-bindings compiles and runs them.
+// failed is printed with its line. tests/sandbox/box-bindings compiles and runs them.
 #include "checks.hpp"
 
 #include <atomic>

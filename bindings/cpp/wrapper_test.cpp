@@ -1,5 +1,5 @@
 // Tests of nc_sandbox.hpp: wrapper_test GUEST, on a module of sandbox/tests/guest.c. What failed is printed with its line.
-// tools/try/box-bindings compiles and runs them.
+// tests/sandbox/box-bindings compiles and runs them.
 #include "checks.hpp"
 
 #include <csignal>

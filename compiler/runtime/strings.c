@@ -13,7 +13,7 @@ typedef __SIZE_TYPE__ size_t;
 typedef u32 __attribute__((may_alias, aligned(1))) Word; /* at any place */
 
 /* On an Intel Xeon (Cascade Lake) `rep movsl` and `rep stosl` take 15 ns to begin. `rep movsl` takes 20 ns more in segments whose base
-   isn't 0: there a loop is faster up to some 400 bytes, and elsewhere up to some 180 (tools/try/strings --time). */
+   isn't 0: there a loop is faster up to some 400 bytes, and elsewhere up to some 180 (tests/compiler/strings/run --time). */
 enum { LONG_COPY = 256, LONG_FILL = 192 };
 enum { PAGE = 4096 };
 

@@ -1,7 +1,7 @@
 /*
  * A first host in C. It creates, patches and deletes a chunk, and uses its span again, while memory follows by the acts.
  *
- * It executes nothing, and has no thread but its own. tools/try/host compares its output with first.txt.
+ * It executes nothing, and has no thread but its own. tests/nc_host/host compares its output with first.txt.
  */
 #define NC_FAULT_NAMES
 #include "nc_host.h"

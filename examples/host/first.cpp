@@ -1,6 +1,6 @@
 // A first host in C++. It does the same as first.c, by the values of nc_host.hpp.
 //
-// It executes nothing, and has no thread but its own. tools/try/bindings compares its output with first.txt. From the top of the
+// It executes nothing, and has no thread but its own. tests/nc_host/bindings compares its output with first.txt. From the top of the
 // repository, with the library built and `kit` set as in docs/INSTALL.md:
 //
 //     g++ -std=c++17 -Iinclude -Ibindings/cpp examples/host/first.cpp crates/nc_host/out/libnc_host.a "$kit/c/liblibc_c.a" -o host && ./host

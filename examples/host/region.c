@@ -2,7 +2,7 @@
  * A host in C with a region by a handle. Memory of its own follows the region by the acts that each call writes. Before that it decodes
  * instructions, and has code judged without a region.
  *
- * It executes nothing. After each call it compares its memory with the region's bytes. tools/try/host compiles it as C and as C++ and
+ * It executes nothing. After each call it compares its memory with the region's bytes. tests/nc_host/host compiles it as C and as C++ and
  * compares its output with region.txt.
  */
 #define NC_FAULT_NAMES

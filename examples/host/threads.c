@@ -7,7 +7,7 @@
  * of its name, which is four equal bytes, at places that differ from chunk to chunk. A thread is astray if it finds a name of unequal bytes,
  * or a byte that begins nothing. So it is if it stands in one chunk while another one is put there, or if it reads an instruction before
  * that is whole. With --control the host draws the stamp of a deletion before its stops stand in the memory, and threads go astray.
- * tools/try/host compiles it as C and as C++.
+ * tests/nc_host/host compiles it as C and as C++.
  */
 #define _POSIX_C_SOURCE 199506L
 #define NC_FAULT_NAMES

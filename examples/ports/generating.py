@@ -1,4 +1,4 @@
-"""Compiles programs that generate code: PCRE2 with its JIT, and tcc. `generators` and tools/try/generators share this."""
+"""Compiles programs that generate code: PCRE2 with its JIT, and tcc. `generators` and tests/compiler/generators share this."""
 
 import concurrent.futures
 import glob

@@ -1,4 +1,4 @@
-"""The libraries that tools/try/ports compiles: where their sources come from, how they are compiled, and a program that uses each.
+"""The libraries that tests/compiler/ports compiles: where their sources come from, how they are compiled, and a program that uses each.
 
 `generators` compiles programs that generate code. `build` compiles others with the programs of trials/, and runs these by a host for Linux
 (load.c, host.s).
@@ -90,7 +90,7 @@ PORTS = {
 }
 SLICE = ("cjson", "giflib")  # those of the gate, which take seconds
 
-# Programs that generate code. tools/try/generators compiles them with edits (editing.py).
+# Programs that generate code. tests/compiler/generators compiles them with edits (editing.py).
 GENERATORS = {
     "pcre2-jit": PORTS["pcre2"],
     "tcc": Port(

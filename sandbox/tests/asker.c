@@ -1,4 +1,4 @@
-/* A program for a box that makes code, compiled by nc-cc. tools/try/boxes gives it the addresses of the calls (-Wl,--defsym). */
+/* A program for a box that makes code, compiled by nc-cc. tests/sandbox/boxes gives it the addresses of the calls (-Wl,--defsym). */
 #include <nc_run.h>
 
 void rest(void); /* a call of the host that does nothing. A thread that makes none holds back what is deleted */

@@ -1,4 +1,4 @@
-/* Functions for a box, compiled by nc-cc. The host's calls are at addresses that tools/try/boxes gives them (-Wl,--defsym). */
+/* Functions for a box, compiled by nc-cc. The host's calls are at addresses that tests/sandbox/boxes gives them (-Wl,--defsym). */
 void ncs_exit(int status);            /* NCS_EXIT */
 unsigned log_number(unsigned number); /* NCS_CALLBACK(0) */
 

@@ -1,4 +1,4 @@
-/* Functions that stand in for others. tools/try/boxes has the linker lead all calls of the library from those to these. */
+/* Functions that stand in for others. tests/sandbox/boxes has the linker lead all calls of the library from those to these. */
 #ifndef WRAPPING_H
 #define WRAPPING_H
 

@@ -50,7 +50,7 @@ def lines_words(workers: int) -> list[str]:
 
 def give_up(message: str) -> NoReturn:
     """Ends the script with status 2."""
-    print(f"{os.path.basename(sys.argv[0])}: {message}", file=sys.stderr)
+    print(f"{os.path.relpath(sys.argv[0], TOP)}: {message}", file=sys.stderr)
     sys.exit(2)
 
 
@@ -88,8 +88,8 @@ def built_tests(name: str) -> str:
 
 
 def library(folder: str, name: str) -> str:
-    """A shared library from a file of C in tools/sources, for LD_PRELOAD."""
+    """A shared library from a file of C in tests/lib, for LD_PRELOAD."""
     path = os.path.join(folder, name + ".so")
-    subprocess.run(["cc", "-O1", "-Wall", "-Werror", "-shared", "-fPIC", "-o", path, os.path.join(TOP, "tools", "sources", name + ".c")],
-                   check=True)
+    source = os.path.join(TOP, "tests", "lib", name + ".c")
+    subprocess.run(["cc", "-O1", "-Wall", "-Werror", "-shared", "-fPIC", "-o", path, source], check=True)
     return path

@@ -1,7 +1,12 @@
 """The life of a span, call by call: the list of chunks, the bytes and marks of its page, and the seats."""
 
-from sources import Unread, constant
+import os
+import sys
+
+from sources import TOP, Unread, constant
 from svg import BLUE, FILLS, GRAY, GREEN, INK, ORANGE, RED, Picture
+
+sys.path += [os.path.join(TOP, "tests", "lib")]
 from transcripts import scripts
 
 FILE, ABOUT = "reuse.txt", "The life of a span: "
@@ -13,7 +18,7 @@ COLORS = {"unused": GRAY, "live": BLUE, "retired": ORANGE}
 
 # The columns, the first row, and how high a row is. Of the bundle's places the first ones are drawn, and the last.
 STATE, CALL, LIST, PAGE, SEATS = 14, 92, 262, 396, [704, 786, 850]
-TOP, HIGH = 98, 54
+FIRST, HIGH = 98, 54
 PLACES, CELL = [0, 1, 2, 3, 4, 5, 6, BUNDLE - 1], 30
 
 
@@ -72,7 +77,7 @@ def lines_of_script():
         if run.about.startswith(ABOUT):
             lines, replies = ([line.decode().strip() for line in part] for part in (run.lines, run.owed))
             return int(run.words[-1]), list(zip(lines, replies, strict=True))
-    raise Unread(f"tests/scripts/{FILE} has no script that is about {ABOUT!r}")
+    raise Unread(f"tests/programs/scripts/{FILE} has no script that is about {ABOUT!r}")
 
 
 def span_row(picture, y, life, before):
@@ -128,7 +133,7 @@ def heads(picture):
         picture.text((x, 66), words, anchor, 14, face="bold")
         if more:
             picture.text((x, 83), more, anchor, 12)
-    picture.line((STATE, TOP - 6), (picture.width - STATE, TOP - 6), INK)
+    picture.line((STATE, FIRST - 6), (picture.width - STATE, FIRST - 6), INK)
 
 
 def notes(picture, y):
@@ -153,8 +158,8 @@ def copied(life):
 def draw():
     seats, script = lines_of_script()
     if seats != len(SEATS) - 1:
-        raise Unread(f"tests/scripts/{FILE}: the drawing has room for {len(SEATS) - 1} seats, not for {seats}")
-    life, y = Life(seats), TOP
+        raise Unread(f"tests/programs/scripts/{FILE}: the drawing has room for {len(SEATS) - 1} seats, not for {seats}")
+    life, y = Life(seats), FIRST
     picture = Picture("The life of a span", "A chunk is created, patched and deleted. Its span stays retired until both seats "
                       "have checked in since the deletion, and the next reclaim frees it.")
     heads(picture)
@@ -162,7 +167,7 @@ def draw():
         before = copied(life)
         reply = life.reply(line) if line else ""
         if reply != owed:
-            raise Unread(f"tests/scripts/{FILE}: the reply to {line!r} is {owed!r}, and in the drawing {reply!r}")
+            raise Unread(f"tests/programs/scripts/{FILE}: the reply to {line!r} is {owed!r}, and in the drawing {reply!r}")
         if line != "dump":
             row(picture, y, line, reply, life, before)
             y += HIGH

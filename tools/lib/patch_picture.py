@@ -8,7 +8,7 @@ from svg import BLUE, FILLS, GRAY, GREEN, INK, ORANGE, RED, Picture
 
 DEFINITION = "crates/nc_region/specs/Patch.antt"
 ROW = "crates/nc_tests/src/region/acts.rt"
-TEST = "tests/library/test_mixtures.py"
+TEST = "tests/nc_host/library/test_mixtures.py"
 # The instruction of the test that is drawn: its address.
 PLACE = 0x10018
 SERIALIZED = "serialized"

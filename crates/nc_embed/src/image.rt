@@ -27,8 +27,8 @@
 //!
 //! `examples/mapped` is a host whose `Acts` reach executable memory by C functions (`main.rt.txt`, `memory.c`). C functions are trusted:
 //! their clauses are axioms, and a false one proves anything; those of the example have none. The proofs are about the text of `Plain`.
-//! That the memory holds the same bytes is argued, since each put is made in both. `rt ci` always refuses C, so `tools/try/mapped` proves
-//! and runs the example in a copy of the repository, with `RT_ALLOW_C`.
+//! That the memory holds the same bytes is argued, since each put is made in both. `rt ci` always refuses C, so `tests/nc_host/mapped`
+//! proves and runs the example in a copy of the repository, with `RT_ALLOW_C`.
 
 ghost use Rattle.std.specs.Prelude.{◌≡◌, ◌↔◌, OnOk, IfOk, IfErr};
 ghost use Rattle.nc_decode.specs.Bundles.{IsLawfulLimit, limit_after};

@@ -11,7 +11,7 @@
 //! | `lines`, `refusals` | `lines` |
 //! | `replay` | `texts` |
 //!
-//! `names` is no job: it names the instructions of a file of code, by which `tools/try/names` tries `nc_disasm`.
+//! `names` is no job: it names the instructions of a file of code, by which `tests/decoding/names` tries `nc_disasm`.
 #![tactic(auto)]
 
 mod digest;

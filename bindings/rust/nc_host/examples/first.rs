@@ -1,6 +1,6 @@
 //! A first host in Rust: what examples/host/first.c does, by the safe interface of the library.
 //!
-//! It executes nothing, and has no thread but its own. tools/try/bindings compares what it prints with first.txt. From the top of the
+//! It executes nothing, and has no thread but its own. tests/nc_host/bindings compares what it prints with first.txt. From the top of the
 //! repository, with the library built and `kit` set as in docs/INSTALL.md:
 //!
 //!     mkdir -p out && cp crates/nc_host/out/libnc_host.a "$kit/c/liblibc_c.a" out
