@@ -8,9 +8,9 @@ import re
 import subprocess
 from collections.abc import Callable, Iterable
 
-from boxes import NC_CC
-from examples import TOP
 from mutants import Mutant, planted
+from repository import TOP
+from sandbox_building import NC_CC
 
 RUNTIME = os.path.join(TOP, "compiler", "runtime")
 COMPILERS, LEVELS = ["gcc", "clang"], ["-O0", "-O2", "-Os"]

@@ -7,8 +7,8 @@ import subprocess
 import sys
 from collections.abc import Iterable
 
-from examples import TOP
-from installing import SOURCES, run
+from repository import TOP
+from with_musl import SOURCES, run
 
 sys.path += [os.path.join(TOP, "compiler", "runtime"), os.path.join(TOP, "examples", "ports")]
 from making import Fault

@@ -10,9 +10,9 @@ import subprocess
 from collections.abc import Iterable, Iterator
 from typing import Callable, NamedTuple
 
-from examples import TOP
 from mutants import Mutant, planted, source_of
 from native import INCLUDE
+from repository import TOP
 
 CPP = os.path.join(TOP, "bindings", "cpp")
 # A way to compile a text.

@@ -6,7 +6,7 @@ import os
 import re
 import subprocess
 
-from examples import TOP
+from repository import TOP
 
 COMPILE = os.path.join(TOP, "compiler")
 COMPLETIONS = os.path.join(TOP, "packaging", "completions")

@@ -7,7 +7,7 @@ from sources import TOP, Unread, constant
 from svg import BLUE, FILLS, GRAY, GREEN, INK, ORANGE, RED, Picture
 
 sys.path += [os.path.join(TOP, "tests", "lib")]
-from transcripts import scripts
+from scripts_and_reports import scripts
 
 FILE, ABOUT = "reuse.txt", "The life of a span: "
 BASE, BUNDLE = 0x10000, constant("BUNDLE", "crates/nc_decode/src/bundles.rt")

@@ -18,7 +18,7 @@ import os
 import sys
 from typing import NamedTuple
 
-from examples import TOP
+from repository import TOP
 
 KEYS = ("file", "below", "old", "new", "test", "line")
 

@@ -8,7 +8,7 @@ import shutil
 import subprocess
 from collections.abc import Iterable
 
-from examples import TOP, rt
+from repository import TOP, rt
 
 CRATE = os.path.join(TOP, "crates", "nc_host")
 LIBRARY = os.path.join(CRATE, "out", "libnc_host.a")

@@ -9,7 +9,7 @@ import signal
 import subprocess
 from typing import Any, NamedTuple
 
-from examples import TOP
+from repository import TOP
 
 COMPILE = os.path.join(TOP, "compiler")
 DRIVER = os.path.join(COMPILE, "nc-cc")

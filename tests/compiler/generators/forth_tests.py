@@ -4,9 +4,9 @@ import os
 import random
 import subprocess
 
-from examples import TOP
 from generators import tell
 from native import compiler
+from repository import TOP
 
 FORTH = os.path.join(TOP, "examples", "forth")
 PROGRAMS, WORDS = 300, 12

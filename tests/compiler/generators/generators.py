@@ -6,9 +6,9 @@ import os
 import sys
 from typing import NamedTuple
 
-from examples import TOP
-from installing import SOURCES
 from porting import done
+from repository import TOP
+from with_musl import SOURCES
 
 sys.path += [os.path.join(TOP, "examples", "ports"), os.path.join(TOP, "tests", "compiler", "peers")]
 from generating import unpacked

@@ -5,12 +5,12 @@ import os
 import re
 import shutil
 
-from examples import TOP
-from generators import Place
 from generating import OWN, SLJIT_FLAGS, Compiler, edits_of
-from installing import ended
+from generators import Place
 from jit_times import NAME, NATIVE, PATTERNS, build
 from porting import Fault
+from repository import TOP
+from with_musl import ended
 
 CALL = "pcre2_jit_compile_8"
 COUNT = ["valgrind", "--tool=callgrind", "--callgrind-out-file=/dev/null", "--toggle-collect=" + CALL]

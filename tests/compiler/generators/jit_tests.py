@@ -5,11 +5,11 @@ import os
 import re
 import shutil
 
-from generators import tell
 from editing import Edit, edit_all
 from generating import OWN, SLJIT_FLAGS, WIDTHS, Compiler, edits_of, pcre2_flags, pcre2_jit_test, pcre2_library, pcre2_test
-from installing import ended, run
+from generators import tell
 from porting import Fault
+from with_musl import ended, run
 
 NAME = "pcre2-jit"
 SECONDS = 1800

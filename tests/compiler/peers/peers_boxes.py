@@ -7,10 +7,10 @@ import importlib.util
 import os
 from concurrent.futures import Executor
 
-from examples import TOP
 from native import archives, kit
 from peers_ways import HOST, SOURCES, Built, Unit, objects
 from porting import Fault, code_size, done
+from repository import TOP
 
 FLAGS = ["-O2", "-fhosted"]
 LINKED = ["--data", "00410000", "-e", "begin", "-Wl,--defsym=ncs_exit=0x40"]

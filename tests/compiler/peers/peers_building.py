@@ -9,12 +9,12 @@ import sys
 from concurrent.futures import Executor
 from typing import Any
 
-from examples import TOP
-from installing import ARCHIVE, SOURCES
 from peers_boxes import Tree
 from peers_table import PEERS
 from peers_ways import NATIVE, SOURCES as OWN, Built, Unit, native, web
 from porting import archives_of, done
+from repository import TOP
+from with_musl import ARCHIVE, SOURCES
 
 sys.path.append(os.path.join(TOP, "compiler", "runtime"))
 from making import unpack

@@ -4,7 +4,7 @@ import os
 import sys
 from typing import NamedTuple
 
-from examples import TOP
+from repository import TOP
 
 sys.path.append(os.path.join(TOP, "examples", "ports"))
 from table import PORTS, Port

@@ -7,8 +7,8 @@ import shutil
 from collections.abc import Iterable
 from typing import NamedTuple
 
-from examples import TOP
 from porting import Fault, code_size, done
+from repository import TOP
 
 SOURCES = os.path.join(TOP, "tests", "compiler", "peers", "sources")
 HOST = [os.path.join(SOURCES, name) for name in ("host.c", "shared.c")]

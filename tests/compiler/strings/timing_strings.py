@@ -4,11 +4,11 @@ import os
 import subprocess
 import sys
 
-from boxes import NC_CC
 from comparing import RUNTIME, STRICT, flags_of, renamed
-from examples import TOP
-from installing import ARCHIVE
 from native import compiler
+from repository import TOP
+from sandbox_building import NC_CC
+from with_musl import ARCHIVE
 
 sys.path.append(RUNTIME)
 from making import C_FLAGS, REPLACED, including, write_headers

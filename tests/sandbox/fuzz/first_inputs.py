@@ -7,8 +7,8 @@ import struct
 
 import elf_changes
 import elf_files
-from boxes import NC_CC, SANDBOX, call
-from examples import TOP
+from repository import TOP
+from sandbox_building import NC_CC, SANDBOX, call
 
 # ELF files by nc-cc: each with the words for it. A page of 32 bytes keeps them small.
 GUEST = ["-Wl,--defsym=ncs_exit=0x40", "-Wl,--defsym=log_number=0x100", os.path.join(SANDBOX, "tests", "guest.c")]

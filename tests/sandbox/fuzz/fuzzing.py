@@ -9,11 +9,11 @@ from collections.abc import Iterable
 from concurrent.futures import Executor
 from typing import NamedTuple
 
-from boxes import SANDBOX, compile_all, flags, has_sanitizers, link, plant, sources
-from examples import TOP
 from first_inputs import COMPILED, compiled
 from mutants import Mutant, source_of
 from native import archives, compiler
+from repository import TOP
+from sandbox_building import SANDBOX, compile_all, flags, has_sanitizers, link, plant, sources
 
 FUZZ = os.path.join(TOP, "tests", "sandbox", "fuzz")
 HELPERS = [os.path.join(SANDBOX, "tests", name) for name in ("testing.c", "codes.c")]

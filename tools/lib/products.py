@@ -15,10 +15,10 @@ import subprocess
 import tempfile
 from collections.abc import Iterable
 
-from boxes import link as link_boxes
-from boxes import compile_all, sources
-from examples import TOP
 from native import kit
+from repository import TOP
+from sandbox_building import link as link_boxes
+from sandbox_building import compile_all, sources
 
 DEFAULT = "x86-64-v2"
 # The shared library is built for these too, and the loader takes that one where it runs on them.

@@ -10,10 +10,10 @@ import subprocess
 from collections.abc import Iterable
 from concurrent.futures import Executor
 
-from examples import TOP
 from executing import missing
 from mutants import Mutant, planted, source_of
 from native import archives, compiler
+from repository import TOP
 
 SANDBOX = os.path.join(TOP, "sandbox")
 NC_CC = os.path.join(TOP, "compiler", "nc-cc")

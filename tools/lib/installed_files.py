@@ -8,11 +8,11 @@ import stat
 import sys
 from string import Template
 
-from building import DEFAULT, FASTER, PROCESSORS, boxes, libraries, program
-from examples import TOP
 from explaining import all_definitions
+from installer import Entry, File, Link
 from manual import pages
-from placing import Entry, File, Link
+from products import DEFAULT, FASTER, PROCESSORS, boxes, libraries, program
+from repository import TOP
 
 sys.path.append(os.path.join(TOP, "compiler", "runtime"))
 from runtime import runtime

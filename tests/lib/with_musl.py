@@ -7,9 +7,9 @@ import subprocess
 import sys
 from typing import Any
 
-from boxes import SYSTEM_LACKS
-from examples import TOP
 from executing import missing
+from repository import TOP
+from sandbox_building import SYSTEM_LACKS
 
 SOURCES = os.path.join(TOP, "out", "sources")
 ARCHIVE = os.path.join(SOURCES, "musl_1.2.3.orig.tar.gz")

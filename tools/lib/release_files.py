@@ -12,10 +12,10 @@ import subprocess
 import tarfile
 import tempfile
 
-from building import DEFAULT
-from examples import TOP
-from packing import DOC, filled, version
-from placing import Entry, File, Link, put
+from installed_files import DOC, filled, version
+from installer import Entry, File, Link, put
+from products import DEFAULT
+from repository import TOP
 
 WHEN = int(os.environ.get("SOURCE_DATE_EPOCH", 1767225600))  # 2026-01-01
 
@@ -58,7 +58,7 @@ def write_tarball(files: dict[str, Entry], path: str) -> list[str]:
 
 def with_shortcuts(files: dict[str, Entry]) -> dict[str, Entry]:
     """What stands in a tarball: also its script, and what a reader looks for first."""
-    with open(os.path.join(TOP, "tools", "lib", "placing.py"), "rb") as script:
+    with open(os.path.join(TOP, "tools", "lib", "installer.py"), "rb") as script:
         more = {"install": File(script.read(), 0o755)}
     return {**files, **more, **{name: Link(DOC + name) for name in SHORTCUTS}}
 

@@ -10,8 +10,8 @@ import subprocess
 from typing import NamedTuple
 
 from beneath import VARIABLES, ended
-from examples import TOP
-from packing import version
+from installed_files import version
+from repository import TOP
 
 COMPILE, PACKAGING = os.path.join(TOP, "compiler"), os.path.join(TOP, "packaging")
 SOURCES = os.path.join(TOP, "tests", "compiler", "compile", "projects")

@@ -15,8 +15,8 @@ import os
 import re
 from collections.abc import Iterator
 
-from examples import TOP
 from elf_files import FUNCTION, R, X, elf, segment, with_symbols
+from repository import TOP
 
 NOP = b"\x90"
 

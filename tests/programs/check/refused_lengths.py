@@ -2,8 +2,8 @@
 
 import re
 
+from scripts_and_reports import lengths
 from shown import listed
-from transcripts import lengths
 from trials import Trials
 
 NOP, RETURN, JUMP = b"\x90", b"\xc3", 0xEB
