@@ -3,7 +3,8 @@
 import itertools
 import os
 
-from sources import TOP, source
+from repository import TOP
+from sources import source
 from svg import BLUE, FILLS, GRAY, GREEN, ORANGE, Picture, width_of
 
 LIST = "crates.txt"

@@ -3,7 +3,8 @@
 import os
 import sys
 
-from sources import TOP, Unread, constant
+from repository import TOP
+from sources import Unread, constant
 from svg import BLUE, FILLS, GRAY, GREEN, INK, ORANGE, RED, Picture
 
 sys.path += [os.path.join(TOP, "tests", "lib")]

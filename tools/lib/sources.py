@@ -7,7 +7,7 @@ import os
 import re
 from typing import Any
 
-TOP = os.path.dirname(os.path.dirname(os.path.dirname(os.path.abspath(__file__))))
+from repository import TOP
 
 
 class Unread(Exception):

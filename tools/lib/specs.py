@@ -8,7 +8,9 @@ import sys
 from collections.abc import Collection, Iterable, Iterator
 from typing import Tuple
 
-TOP = pathlib.Path(__file__).resolve().parent.parent.parent
+import repository
+
+TOP = pathlib.Path(repository.TOP)
 CRATES = TOP / "crates"
 # A definition: its crate, its file and its name.
 Key = Tuple[str, str, str]
