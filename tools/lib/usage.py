@@ -1,4 +1,4 @@
-"""The command line of the scripts in tools/: the line `Usage: ..` of a script's docstring says what it may have."""
+"""The command line of the scripts in tools/ and tests/: the line `Usage: ..` of a script's docstring says what it may have."""
 
 from __future__ import annotations
 
