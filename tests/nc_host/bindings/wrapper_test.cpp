@@ -1,4 +1,4 @@
-// Tests of nc_host.hpp: each says what it tries, and what failed is printed with its line. tests/nc_host/bindings compiles and runs them.
+// Tests of nc_host.hpp: each says what it tries, and what failed is printed with its line. `run` compiles and runs them.
 #include "nc_host.hpp"
 
 #include <array>
