@@ -13,6 +13,9 @@
 //! | `churn` | `churn`, on turns that `plan` makes |
 //! | `lookups` | `lookups` |
 //! | `checkin` | `check_in` |
+//!
+//! `timing` takes times and prints them. A `load` is chunks of `ordinary` code that fill a region, taken in an `order`. `tables` makes
+//! tables of generations of one seat.
 #![tactic(auto)]
 
 mod check_in;

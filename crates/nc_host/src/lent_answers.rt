@@ -1,4 +1,4 @@
-//! The results of the calls: structs with the layout that C reads.
+//! The results of the calls on lent bytes: structs with the layout that C reads.
 
 /// The instruction with which some bytes begin.
 #[repr(C)]

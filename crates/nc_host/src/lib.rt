@@ -6,31 +6,31 @@
 //!
 //! By a handle:
 //!
-//! - [`nc_region_new`], [`nc_region_free`], [`nc_region_seat`]: a region, and a seat for each of its threads.
-//! - [`nc_region_create`], [`nc_region_patch`], [`nc_region_begin_delete`], [`nc_region_end_delete`]: the region is changed,
-//!   and the acts of the change are written, in their order, with the places where the host serializes.
-//! - [`nc_vetted_new`], [`nc_vetted_free`], [`nc_region_load`]: a chunk that is vetted without a region, and created in one.
-//! - [`nc_region_reclaim`], [`nc_seat_check_in`], [`nc_seat_leave`]: when a deleted chunk's span may be used again.
-//! - [`nc_region_creation_runs`], [`nc_region_deletion_runs`]: the same acts, with runs for the puts of a bundle.
-//! - [`nc_region_chunk`], [`nc_region_chunk_at`], [`nc_region_place`], [`nc_region_walk`], [`nc_region_generation`]: a
-//!   region's contents and generation.
+//! - [`nc_region_new`], [`nc_region_free`], [`nc_region_seat`]: a region, and a seat for each of its threads (`region_make`).
+//! - [`nc_region_create`], [`nc_region_patch`] (`region_change`), [`nc_region_begin_delete`], [`nc_region_end_delete`] (`region_delete`):
+//!   the region is changed, and the acts of the change are written, in their order, with the places where the host serializes.
+//! - [`nc_vetted_new`], [`nc_vetted_free`], [`nc_region_load`]: a chunk that is vetted without a region, and created in one (`vetted`).
+//! - [`nc_region_reclaim`] (`region_delete`), [`nc_seat_check_in`], [`nc_seat_leave`] (`seat`): when a deleted chunk's span may be used
+//!   again.
+//! - [`nc_region_creation_runs`], [`nc_region_deletion_runs`]: the same acts, with runs for the puts of a bundle (`region_runs`).
+//! - [`nc_region_chunk`], [`nc_region_chunk_at`], [`nc_region_place`], [`nc_region_generation`] (`region_look`), [`nc_region_walk`]
+//!   (`region_walk`): a region's contents and generation.
 //!
-//! [`nc_host_version`] returns the library's version.
+//! [`nc_host_version`] returns the library's version (`version`).
 //!
 //! On lent code, without a region:
 //!
-//! - [`nc_host_decode`]: the instruction with which some bytes begin.
-//! - [`nc_host_vet`], [`nc_host_marks`]: the verdict on a chunk, and its marks.
-//! - [`nc_host_image`]: the text of a region with a chunk, filled before anybody enters.
+//! - [`nc_host_decode`]: the instruction with which some bytes begin (`lent_decode`).
+//! - [`nc_host_vet`] (`lent_vet`), [`nc_host_marks`] (`lent_marks`): the verdict on a chunk, and its marks.
+//! - [`nc_host_image`]: the text of a region with a chunk, filled before anybody enters (`lent_image`).
 //!
 //! On a lent file:
 //!
-//! - [`nc_host_elf`]: the loaded segments of an ELF file, each judged.
+//! - [`nc_host_elf`]: the loaded segments of an ELF file, each judged (`lent_elf`).
 //!
-//! A file whose name begins with `lent` has a call on lent bytes, and one that begins with `region` has calls on a region. `vetted` has
-//! those on a handle of a vetted chunk, `seat` those on a seat, and `version` has [`nc_host_version`]. `lent_answers` and
-//! `region_answers` have the structs that calls return, `fault_numbers` the numbers of faults, and `numbers` those of refusals. `vet_copy`
-//! is no call: it makes the copy that a creation and a handle keep.
+//! `lent_answers` and `region_answers` have the structs that calls return. `fault_numbers` has the header's numbers of faults, and
+//! `numbers` chooses among them for each refusal by a handle. `vet_copy` is no call: it vets lent code, and makes the copy that a
+//! creation or a handle keeps.
 #![tactic(auto)]
 
 mod fault_numbers;

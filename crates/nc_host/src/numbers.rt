@@ -1,4 +1,4 @@
-//! The numbers of refusals.
+//! The number of each refusal of a call on a handle, out of `fault_numbers`.
 
 ghost use Rattle.std.specs.Prelude.{◌≡◌};
 ghost use Rattle.nc_host.specs.Shown.{refused_patch_number};

@@ -11,6 +11,9 @@
 //! | `lines`, `refusals` | `lines` |
 //! | `replay` | `texts` |
 //!
+//! A job is done on an `input`, makes its choices by numbers of `random`, and adds its results to a `digest`. `loading` loads a chunk into
+//! a region, and `refusals` makes lines of which some are refused.
+//!
 //! `names` is no job: it names the instructions of a file of code, by which `tests/decoding/names` tries `nc_disasm`.
 #![tactic(auto)]
 
