@@ -140,6 +140,7 @@ APART u64 rare_sum(u64 a, u64 b) {
     if (x > joined(INFINITE, 0)) return none(a, b);
     if (x == joined(INFINITE, 0)) return x == y && a != b ? joined(NOTHING, 0) : large;
     if (y == 0) return x ? large : a & b;
+    /* y is subnormal, with the exponent of the field 1. */
     if (field) return sum(large, y, field - 1, upper(a) ^ upper(b));
     /* Both are subnormal, so the sum is exact. A carry makes a normal number. */
     return ((upper(a) ^ upper(b)) & SIGN) == 0 ? large + y : x == y ? 0 : large - y;
@@ -315,6 +316,7 @@ INLINE u32 sum_s(u32 large, u32 small, u32 by, u32 sign) {
     return sign & SIGN ? difference_s(large, small >> by, rest) : total_s(large, small >> by, rest);
 }
 
+/* As rare_sum. */
 APART u32 rare_sum_s(u32 a, u32 b) {
     u32 x = a & ~SIGN, y = b & ~SIGN, large = x < y ? b : a;
     if (x < y) y = x, x = b & ~SIGN;
