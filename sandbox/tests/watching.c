@@ -1,3 +1,4 @@
+/* The calls of the library that the linker leads here: each notes a step, or fails, as the variables of watching.h say. */
 #define _GNU_SOURCE
 #include "watching.h"
 #include "wrapping.h"

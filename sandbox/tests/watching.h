@@ -16,7 +16,7 @@ typedef struct Step {
 
 extern NcsModule *watching_module; /* whose steps are noted, or NULL */
 extern Step watching_steps[STEPS];
-extern unsigned watching_count;
+extern unsigned watching_count;               /* so many steps were noted; the last STEPS of them are kept */
 extern unsigned watching_fail_serializations; /* so many serializations fail */
 extern uint8_t *watching_lent;                /* a byte of code that becomes a return once the code was judged, or NULL */
 extern int watching_refuse; /* the number of a call of the system that is refused so many times, with this error; 0 for none */
