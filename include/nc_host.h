@@ -270,7 +270,7 @@ uint32_t nc_host_version(void);
 
 /* ---- Calls on code alone, and on files
 
-   They free what they allocate before they return [tested]. Only the arguments decide an answer, except for NC_OUT_OF_MEMORY, as reading
+   They free what they allocate before they return [tested]. Only the arguments decide a result, except for NC_OUT_OF_MEMORY, as reading
    the code shows. */
 
 /* Decodes the instruction at the start of the code, of which it reads at most 12 bytes.

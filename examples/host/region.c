@@ -240,7 +240,7 @@ static void try_sizes(void) {
     printf("\n");
 }
 
-/* What a call answers, and the acts that it wrote. */
+/* What a call returns, and the acts that it wrote. */
 static void show_acts(const char *name, NcChange told) {
     size_t i;
     printf("%s: fault %u count %u\n", name, (unsigned)told.fault, (unsigned)told.count);

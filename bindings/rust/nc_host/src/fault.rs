@@ -48,7 +48,7 @@ macro_rules! faults {
                 }
             }
 
-            /// The fault of an answer of [`ffi`](crate::ffi), by its fields `fault`, `at` (or `header`) and `count`. `None` for `NC_OK`.
+            /// The fault of a result of [`ffi`](crate::ffi), by its fields `fault`, `at` (or `header`) and `count`. `None` for `NC_OK`.
             #[allow(unused_variables)] // most faults have neither an address nor a length
             pub fn of(number: u32, $at: u32, $enough: usize) -> Option<Fault> {
                 Some(match number {

@@ -1,4 +1,4 @@
-//! The answers of calls that only look.
+//! The results of calls that only look.
 
 use crate::ffi::{self, NcChunk, NcPlace};
 
