@@ -1,4 +1,4 @@
-//! Vets many chunks on several threads.
+//! A pool of workers, and many chunks vetted by it on several threads.
 //!
 //! Vetting a chunk needs nothing but its bytes, so it is done before a region's lock is taken, and several chunks can be
 //! vetted at once. A **job** is a chunk with its base and limit; a **worker** is a thread that takes the next job when it
