@@ -1,3 +1,4 @@
+/* Counts the calls of refusing.h, refuses those that are to be refused, and counts what the process has. */
 #define _GNU_SOURCE
 #include "refusing.h"
 #include "testing.h"
