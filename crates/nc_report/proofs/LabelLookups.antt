@@ -1,9 +1,9 @@
 -- The label of an address, as a binary search finds it.
-use Rattle.std.proofs.Common.{◌≡◌, ◌<◌, ◌≤◌, ◌-◌, ℕ, zero, suc, Bool, true, false, List, [], ◌∷◌, filter, take, length, slice_get, cond, leb, refl, sym, ◌∙◌, ap, arith, slice_index_or, Option, Some, None}
+use Rattle.std.proofs.Common.{◌≡◌, ◌<◌, ◌≤◌, ◌-◌, ℕ, zero, suc, Bool, true, false, List, [], ◌∷◌, filter, take, length, slice_get, cond, leb, refl, sym, ◌∙◌, ap, arith, slice_index_or, Some, None}
 use Rattle.std.proofs.lemmas.List.{length-take-le}
 use Rattle.std.specs.List.{AllWithin}
 use Rattle.std.specs.List.Sorted.{IsPartitionPoint}
-use Rattle.nc_report.specs.Labels.{labels_to, label_of}
+use Rattle.nc_report.specs.Labels.{label_of}
 use Rattle.nc_report.specs.declared.labels.Label.{Label}
 
 -- what passes a test that holds below a place, and not from there on, is what is below the place

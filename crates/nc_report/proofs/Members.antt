@@ -1,5 +1,5 @@
 -- Members of objects, by their names.
-use Rattle.std.proofs.Common.{◌≡◌, ◌<◌, ℕ, true, false, List, [], ◌∷◌, ◌++◌, refl, sym, subst, ◌∙◌, ap, arith, true≢false, All, Contains, append_assoc, append-nil, codes, Option, Some, None}
+use Rattle.std.proofs.Common.{◌≡◌, ℕ, true, false, List, [], ◌∷◌, ◌++◌, refl, sym, subst, ◌∙◌, ap, arith, true≢false, All, Contains, append_assoc, append-nil, codes, Option, Some, None}
 use Rattle.std.specs.List.{list_any, list_all}
 use Rattle.std.specs.Str.{bytes_eq}
 use Rattle.std.proofs.lemmas.Cmp.{nat_list_eq_equiv}
@@ -9,7 +9,7 @@ use Rattle.std.proofs.lemmas.Map.Views.{Contains-from_any, list_any-from_Contain
 use Rattle.std.proofs.lemmas.Slice.Eq.{bytes_eq-Decides}
 use Rattle.nc_output.specs.Strings.{string_of}
 use Rattle.nc_output.specs.Verdicts.{address_digits}
-use Rattle.nc_report.specs.Objects.{Whole, InObject, InArray, IsJson, Quoted, Bracketed, NoMembers, Member, member, string_member, array_of, AreMembers}
+use Rattle.nc_report.specs.Objects.{Whole, InArray, IsJson, Quoted, Bracketed, NoMembers, Member, member, string_member, array_of, AreMembers}
 use Rattle.nc_report.specs.Report.{about_fault}
 use Rattle.nc_report.specs.declared.labels.Label.{Label}
 use Rattle.nc_report.specs.declared.targets.Target.{Target}

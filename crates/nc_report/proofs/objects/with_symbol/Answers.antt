@@ -1,4 +1,4 @@
-use Rattle.std.proofs.Common.{◌≡◌, ◌++◌, ℕ, List, sym, ◌∙◌, ap, append-nil, Option, option_copied}
+use Rattle.std.proofs.Common.{◌≡◌, ◌++◌, sym, ◌∙◌, ap, append-nil, Option, option_copied}
 use Rattle.std.proofs.lemmas.Result.{IfOk-weaker}
 use Rattle.nc_report.specs.Labels.{label_of}
 use Rattle.nc_report.specs.declared.labels.Label.{Label}
