@@ -12,7 +12,7 @@ use crate::batch::Batch;
 use crate::fault::ReplayFault;
 use crate::stream::reply_to_all;
 use crate::verdicts::push_verdicts;
-use nc_decode::{BUNDLE, START, is_region_size};
+use nc_decode::{is_region_size, limit_after};
 use nc_output::write_out;
 use nc_work::{Gate, vet_all};
 use std::alloc::Global;
@@ -59,7 +59,7 @@ pub fn vet_lines<R: Read, W: Write, G: Gate, T: Threads + Wait + Sync>(
     if !(1..=16).contains(&workers) {
         return Err(ReplayFault::BadWorkers);
     }
-    let batch = Batch::new(alloc, START + BUNDLE * bundles);
+    let batch = Batch::new(alloc, limit_after(bundles));
     vet_and_write(rt, batch, reader, writer, workers, gate)
 }
 

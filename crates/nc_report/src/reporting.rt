@@ -7,7 +7,7 @@ ghost use Rattle.nc_report.specs.Report.{Reports, HasWritten, HasBegun};
 use crate::fault::ReportFault;
 use crate::source::Source;
 use crate::source_report::vet_and_report;
-use nc_decode::{BUNDLE, START, is_region_size};
+use nc_decode::{is_region_size, limit_after};
 use nc_output::Style;
 use std::alloc::Global;
 use std::io::Write;
@@ -51,5 +51,5 @@ pub fn report<W: Write>(
     if !is_region_size(bundles) {
         return Err(ReportFault::BadSize);
     }
-    vet_and_report(alloc, source, base, START + BUNDLE * bundles, style, writer)
+    vet_and_report(alloc, source, base, limit_after(bundles), style, writer)
 }
