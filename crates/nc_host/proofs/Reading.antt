@@ -6,7 +6,7 @@ use Rattle.nc_decode.specs.declared.instruction.Flow.TheVariants.{Next, Branch, 
 use Rattle.nc_decode.specs.declared.instruction.Instr.{Instr}
 use Rattle.nc_decode.specs.declared.instruction.DecodeFault.{DecodeFault}
 use Rattle.nc_decode.specs.declared.instruction.DecodeFault.TheVariants.{Truncated, NotPermitted}
-use Rattle.nc_host.specs.declared.lent_answers.NcInstruction.{NcInstruction}
+use Rattle.nc_host.specs.declared.lent_results.NcInstruction.{NcInstruction}
 use Rattle.nc_host.specs.Shown.{flow_number, register_number, instruction_of, no_instruction}
 
 -- the flow of a number

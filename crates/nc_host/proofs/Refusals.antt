@@ -3,7 +3,7 @@ use Rattle.std.proofs.Common.{◌≡◌, ℕ, ◌<◌, Ok, Err, inr, arith, ap, 
 use Rattle.std.specs.Prelude.{Option, Some, Result, IfOk, IfErr}
 use Rattle.nc_host_handles.specs.declared.fault.RunsFault.{RunsFault}
 use Rattle.nc_host_handles.specs.RegionHandle.{RegionHandleState}
-use Rattle.nc_host.specs.declared.region_answers.NcChange.{NcChange}
+use Rattle.nc_host.specs.declared.region_results.NcChange.{NcChange}
 use Rattle.nc_host.specs.Handles.{IsNumberedRefusal}
 use Rattle.nc_host.specs.Running.{runs_number, runs_wanted}
 

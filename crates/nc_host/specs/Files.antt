@@ -12,7 +12,7 @@ use Rattle.nc_host.specs.declared.fault_numbers.TheConstants.{NO_ROOM, ELF_NOT_E
 use Rattle.nc_host.specs.declared.fault_numbers.TheConstants.{ELF_OTHER_MACHINE, ELF_UNLINKED, ELF_OTHER_TYPE, ELF_BAD_TABLE}
 use Rattle.nc_host.specs.declared.fault_numbers.TheConstants.{ELF_BEYOND_FILE, ELF_BEYOND_MEMORY, ELF_WRAPS, ELF_OUT_OF_ORDER}
 use Rattle.nc_host.specs.declared.fault_numbers.TheConstants.{ELF_WRITABLE_CODE, ELF_UNFILLED_CODE, ELF_NO_CODE}
-use Rattle.nc_host.specs.declared.lent_answers.NcSegments.{NcSegments}
+use Rattle.nc_host.specs.declared.lent_results.NcSegments.{NcSegments}
 use Rattle.nc_host.specs.Shown.{fault_number}
 
 -- the number of the fault of a loaded segment

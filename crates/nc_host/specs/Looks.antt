@@ -6,8 +6,8 @@ use Rattle.nc_list.specs.declared.chunk.Chunk.{Chunk}
 use Rattle.nc_list.specs.declared.chunk.ChunkState.{ChunkState}
 use Rattle.nc_list.specs.declared.chunk.ChunkState.TheVariants.{Live, Retired}
 use Rattle.nc_region.specs.Region.{Region}
-use Rattle.nc_host.specs.declared.region_answers.NcChunk.{NcChunk}
-use Rattle.nc_host.specs.declared.region_answers.NcPlace.{NcPlace}
+use Rattle.nc_host.specs.declared.region_results.NcChunk.{NcChunk}
+use Rattle.nc_host.specs.declared.region_results.NcPlace.{NcPlace}
 use Rattle.nc_host.specs.Shown.{mark_number}
 
 -- 1 for a retired chunk, 0 for a live one

@@ -13,7 +13,7 @@ use Rattle.nc_region.specs.declared.fault.ModifyFault.TheVariants as patch
 use Rattle.nc_host.specs.declared.fault_numbers.TheConstants.{BAD_BASE, BAD_LENGTH, OUT_OF_RANGE, NOT_PERMITTED, CROSSES, BARE, BAD_TARGET}
 use Rattle.nc_host.specs.declared.fault_numbers.TheConstants.{OUT_OF_MEMORY, PATCH_BAD_SPAN, PATCH_NOT_LIVE, PATCH_NOT_PERMITTED}
 use Rattle.nc_host.specs.declared.fault_numbers.TheConstants.{PATCH_BOUNDARIES, PATCH_PAIR_TOUCHED, PATCH_BAD_TARGET}
-use Rattle.nc_host.specs.declared.lent_answers.NcInstruction.{NcInstruction}
+use Rattle.nc_host.specs.declared.lent_results.NcInstruction.{NcInstruction}
 
 -- the number of a flow
 abbrev pub flow_number : Flow → ℕ

@@ -5,7 +5,7 @@ use Rattle.nc_region.specs.declared.trace.End.TheVariants.{Stop, Trampoline, Bey
 use Rattle.nc_region.specs.Trace.{IsTrace, IsOnlyTrace, IsSafeWalk, IsWalkStart}
 use Rattle.nc_host_acts.specs.Shown.{over}
 use Rattle.nc_host.specs.declared.fault_numbers.TheConstants.{OUT_OF_MEMORY, NO_ROOM, NO_START}
-use Rattle.nc_host.specs.declared.region_answers.NcWalk.{NcWalk}
+use Rattle.nc_host.specs.declared.region_results.NcWalk.{NcWalk}
 
 -- the number of an end
 abbrev pub end_number : End → ℕ

@@ -7,7 +7,7 @@ ghost use Rattle.nc_host.specs.declared.fault_numbers.TheConstants.{CUT_SHORT, N
 ghost use Rattle.nc_host.specs.Shown.{flow_number, register_number, instruction_of, no_instruction};
 
 use crate::fault_numbers::{CUT_SHORT, NOT_PERMITTED};
-use crate::lent_answers::NcInstruction;
+use crate::lent_results::NcInstruction;
 use nc_decode::{DecodeFault, Flow, Instr, decode};
 
 /// The number of a flow.

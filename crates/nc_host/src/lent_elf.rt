@@ -13,7 +13,7 @@ use crate::fault_numbers::{
     ELF_OTHER_FORMAT, ELF_OTHER_MACHINE, ELF_OTHER_TYPE, ELF_OUT_OF_ORDER, ELF_SHORT_HEADER,
     ELF_UNFILLED_CODE, ELF_UNLINKED, ELF_WRAPS, ELF_WRITABLE_CODE, NO_ROOM, OUT_OF_MEMORY,
 };
-use crate::lent_answers::NcSegments;
+use crate::lent_results::NcSegments;
 use nc_elf::{ElfFault, LoadedFault, NcSegment, SegmentFault, loaded_segments};
 
 /// The number of the fault of a loaded segment.

@@ -8,7 +8,7 @@ ghost use Rattle.nc_text.specs.Places.{limit_of};
 ghost use Rattle.nc_host.specs.declared.fault_numbers.TheConstants.{OUT_OF_MEMORY};
 ghost use Rattle.nc_host.specs.Outcomes.{IsAccepted, IsChunkFault, IsOutcome};
 
-use crate::lent_answers::NcVerdict;
+use crate::lent_results::NcVerdict;
 use crate::lent_vet::verdict_of;
 use nc_decode::{BUNDLE, MAX_BUNDLES, START, STOP};
 use nc_vet::judge;

@@ -9,7 +9,7 @@ ghost use Rattle.nc_host.specs.declared.fault_numbers.TheConstants.{NO_ROOM, OUT
 ghost use Rattle.nc_host.specs.Shown.{mark_number};
 ghost use Rattle.nc_host.specs.Outcomes.{IsAccepted, IsOutcome};
 
-use crate::lent_answers::NcVerdict;
+use crate::lent_results::NcVerdict;
 use crate::lent_vet::admit;
 use nc_decode::Mark;
 use nc_vet::Marks;

@@ -11,7 +11,7 @@ use crate::fault_numbers::{
     BAD_BASE, BAD_LENGTH, BAD_TARGET, BARE, CROSSES, NO_ROOM, NOT_PERMITTED, OUT_OF_MEMORY,
     OUT_OF_RANGE,
 };
-use crate::lent_answers::NcVerdict;
+use crate::lent_results::NcVerdict;
 use nc_vet::{Marks, VetFault, judge};
 use std::alloc::Global;
 

@@ -28,24 +28,24 @@
 //!
 //! - [`nc_host_elf`]: the loaded segments of an ELF file, each judged (`lent_elf`).
 //!
-//! `lent_answers` and `region_answers` have the structs that calls return. `fault_numbers` has the header's numbers of faults, and
+//! `lent_results` and `region_results` have the structs that calls return. `fault_numbers` has the header's numbers of faults, and
 //! `numbers` chooses among them for each refusal by a handle. `vet_copy` is no call: it vets lent code, and makes the copy that a
 //! creation or a handle keeps.
 #![tactic(auto)]
 
 mod fault_numbers;
-mod lent_answers;
 mod lent_decode;
 mod lent_elf;
 mod lent_image;
 mod lent_marks;
+mod lent_results;
 mod lent_vet;
 mod numbers;
-mod region_answers;
 mod region_change;
 mod region_delete;
 mod region_look;
 mod region_make;
+mod region_results;
 mod region_runs;
 mod region_walk;
 mod seat;
@@ -53,19 +53,19 @@ mod version;
 mod vet_copy;
 mod vetted;
 
-pub use lent_answers::{NcInstruction, NcSegments, NcVerdict};
 pub use lent_decode::nc_host_decode;
 pub use lent_elf::nc_host_elf;
 pub use lent_image::nc_host_image;
 pub use lent_marks::nc_host_marks;
+pub use lent_results::{NcInstruction, NcSegments, NcVerdict};
 pub use lent_vet::nc_host_vet;
 pub use nc_elf::NcSegment;
 pub use nc_host_handles::NcAct;
-pub use region_answers::{NcChange, NcChunk, NcCount, NcPlace, NcStamp, NcWalk};
 pub use region_change::{nc_region_create, nc_region_patch};
 pub use region_delete::{nc_region_begin_delete, nc_region_end_delete, nc_region_reclaim};
 pub use region_look::{nc_region_chunk, nc_region_chunk_at, nc_region_generation, nc_region_place};
 pub use region_make::{nc_region_free, nc_region_new, nc_region_seat};
+pub use region_results::{NcChange, NcChunk, NcCount, NcPlace, NcStamp, NcWalk};
 pub use region_runs::{nc_region_creation_runs, nc_region_deletion_runs};
 pub use region_walk::nc_region_walk;
 pub use seat::{nc_seat_check_in, nc_seat_leave};

@@ -16,7 +16,7 @@ ghost use Rattle.nc_host.specs.Outcomes.{IsChunkFault};
 
 use crate::fault_numbers::NO_HANDLE;
 use crate::numbers::{load_numbers, patch_numbers};
-use crate::region_answers::{NcChange, no_change};
+use crate::region_results::{NcChange, no_change};
 use crate::vet_copy::vet_copy;
 use nc_host_handles::{NcAct, NcRegion, RegionHandle};
 use nc_vet::Vetted;

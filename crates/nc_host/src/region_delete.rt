@@ -13,7 +13,7 @@ ghost use Rattle.nc_host.specs.Handles.{IsDone, IsNumberedRefusal, retire_number
 
 use crate::fault_numbers::{NO_HANDLE, NOT_BEGUN, UNDER_WAY};
 use crate::numbers::retire_numbers;
-use crate::region_answers::{NcChange, NcCount, NcStamp, no_change};
+use crate::region_results::{NcChange, NcCount, NcStamp, no_change};
 use nc_host_handles::{NcAct, NcRegion, RegionHandle};
 use std::alloc::Global;
 

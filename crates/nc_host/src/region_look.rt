@@ -11,7 +11,7 @@ ghost use Rattle.nc_host.specs.Shown.{mark_number};
 ghost use Rattle.nc_host.specs.Looks.{shown_chunk, no_chunk, shown_place, no_place};
 
 use crate::fault_numbers::{NO_CHUNK, NO_HANDLE, NO_PLACE};
-use crate::region_answers::{NcChunk, NcPlace, NcStamp, no_chunk, no_place};
+use crate::region_results::{NcChunk, NcPlace, NcStamp, no_chunk, no_place};
 use nc_decode::Mark;
 use nc_host_handles::{NcRegion, RegionHandle};
 use nc_region::{Chunk, ChunkState};

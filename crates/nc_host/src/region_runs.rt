@@ -9,12 +9,12 @@ ghost use Rattle.nc_host.specs.Handles.{IsNumberedRefusal};
 ghost use Rattle.nc_host.specs.Running.{runs_number, runs_wanted};
 
 use crate::fault_numbers::{NO_CHUNK, NO_HANDLE, NO_ROOM, NOT_BEGUN};
-use crate::region_answers::{NcChange, no_change};
+use crate::region_results::{NcChange, no_change};
 use nc_host_handles::{NcAct, NcRegion, RunsFault};
 use std::alloc::Global;
 
 /// The result of a call for runs, with this number if there is no chunk.
-fn answer(reported: Result<usize, RunsFault>, none: u32) -> NcChange
+fn runs_result(reported: Result<usize, RunsFault>, none: u32) -> NcChange
     ensures reported { IfOk reported (λ count. result ≡ record { fault = 0; at = 0; count = count }) }
     ensures refused { IfErr reported (λ f. result ≡ record { fault = runs_number none f; at = 0; count = runs_wanted f }) }
 {
@@ -48,7 +48,7 @@ pub extern "C" fn nc_region_creation_runs(
     };
     let reported = handle.creation_runs(base, acts);
     *region = NcRegion::of(handle);
-    answer(reported, NO_CHUNK)
+    runs_result(reported, NO_CHUNK)
 }
 
 /// Writes the acts of the deletion that is under way, as runs: two for each bundle of its chunk, and two more. The region
@@ -73,5 +73,5 @@ pub extern "C" fn nc_region_deletion_runs(
     };
     let reported = handle.deletion_runs(acts);
     *region = NcRegion::of(handle);
-    answer(reported, NOT_BEGUN)
+    runs_result(reported, NOT_BEGUN)
 }

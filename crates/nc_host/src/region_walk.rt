@@ -7,7 +7,7 @@ ghost use Rattle.nc_host.specs.declared.fault_numbers.TheConstants.{NO_HANDLE};
 ghost use Rattle.nc_host.specs.Walked.{end_number, no_walk, IsShownWalk, MayRefuseShownWalk};
 
 use crate::fault_numbers::{NO_HANDLE, NO_ROOM, NO_START, OUT_OF_MEMORY};
-use crate::region_answers::{NcWalk, no_walk};
+use crate::region_results::{NcWalk, no_walk};
 use nc_host_handles::{NcRegion, RegionHandle};
 use nc_region::{End, WalkFault};
 use std::alloc::Global;

@@ -4,7 +4,7 @@ ghost use Rattle.std.specs.Prelude.{◌≡◌, ◌<◌, IfOk, IfErr};
 ghost use Rattle.nc_host.specs.Handles.{IsVetted};
 ghost use Rattle.nc_host.specs.Outcomes.{IsChunkFault};
 
-use crate::lent_answers::NcVerdict;
+use crate::lent_results::NcVerdict;
 use crate::lent_vet::verdict_of;
 use nc_vet::{VetFault, Vetted, judge};
 use std::alloc::Global;

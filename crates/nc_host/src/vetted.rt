@@ -13,10 +13,10 @@ ghost use Rattle.nc_host.specs.Handles.{HoldsVetted, IsDone, IsSameButPages, IsV
 ghost use Rattle.nc_host.specs.Outcomes.{IsChunkFault};
 
 use crate::fault_numbers::{HANDLE_TAKEN, NO_HANDLE};
-use crate::lent_answers::NcVerdict;
+use crate::lent_results::NcVerdict;
 use crate::lent_vet::verdict_of;
 use crate::numbers::load_numbers;
-use crate::region_answers::{NcChange, no_change};
+use crate::region_results::{NcChange, no_change};
 use crate::vet_copy::vet_copy;
 use nc_host_handles::{NcAct, NcRegion, NcVetted, RegionHandle, VettedHandle};
 use nc_vet::VetFault;

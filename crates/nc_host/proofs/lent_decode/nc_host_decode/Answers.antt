@@ -1,6 +1,6 @@
 use Rattle.std.proofs.Common.{◌≡◌, Ok, Err, arith, inl, inr, sym, ap, subst, ◌∙◌}
 use Rattle.nc_decode.specs.declared.instruction.DecodeFault.{DecodeFault}
-use Rattle.nc_host.specs.declared.lent_answers.NcInstruction.{NcInstruction}
+use Rattle.nc_host.specs.declared.lent_results.NcInstruction.{NcInstruction}
 use Rattle.nc_host.specs.Shown.{instruction_of}
 use Rattle.nc_host.proofs.Reading.{same_instr, same_ok, none_read, not_both, one_fault, one_number}
 use Rattle.nc_host.proofs.lent_decode.nc_host_decode.Goals as goal

@@ -1,5 +1,5 @@
 use Rattle.std.proofs.Common.{◌∙◌, ap, inl}
-use Rattle.nc_host.specs.declared.lent_answers.NcVerdict.{NcVerdict}
+use Rattle.nc_host.specs.declared.lent_results.NcVerdict.{NcVerdict}
 use Rattle.nc_host.proofs.Accepted.{only_memory}
 use Rattle.nc_host.proofs.lent_vet.admit.Goals as goal
 

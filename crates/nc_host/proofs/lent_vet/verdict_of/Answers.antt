@@ -1,6 +1,6 @@
 use Rattle.std.proofs.Common.{ap, sym}
 use Rattle.nc_vet.specs.declared.fault.VetFault.{VetFault}
-use Rattle.nc_host.specs.declared.lent_answers.NcVerdict.{NcVerdict}
+use Rattle.nc_host.specs.declared.lent_results.NcVerdict.{NcVerdict}
 use Rattle.nc_host.specs.Shown.{fault_number, fault_place}
 use Rattle.nc_host.proofs.lent_vet.verdict_of.Goals as goal
 

@@ -1,6 +1,6 @@
 use Rattle.std.proofs.Common.{ap, sym}
 use Rattle.nc_list.specs.declared.chunk.ChunkState.{ChunkState}
-use Rattle.nc_host.specs.declared.region_answers.NcChunk.{NcChunk}
+use Rattle.nc_host.specs.declared.region_results.NcChunk.{NcChunk}
 use Rattle.nc_host.specs.Looks.{retired_of, shown_stamp}
 use Rattle.nc_host.proofs.region_look.shown.Goals as goal
 

@@ -9,5 +9,5 @@ pub returns-clause-refused : goal.returns-clause-refused
 returns-clause-refused c =
     runs_refusal c.args.region.now.value c.in-Some.handle.value c.deref.result.now
     (λ (h : RegionHandleState) (f : RunsFault). MayRefuseCreationRuns h c.args.base (length c.args.acts.now) f) 41 c.creation_runs-reported.result
-    c.answer.result c.in-Some.ensures.some c.deref.ensures c.creation_runs-reported.ensures.refused c.answer.ensures.reported
-    c.answer.ensures.refused
+    c.runs_result.result c.in-Some.ensures.some c.deref.ensures c.creation_runs-reported.ensures.refused c.runs_result.ensures.reported
+    c.runs_result.ensures.refused

@@ -1,7 +1,7 @@
 use Rattle.std.proofs.Common.{arith, ◌<◌, ap, sym, subst}
 use Rattle.std.proofs.lemmas.Grind.{common_steps}
 use Rattle.nc_vet.specs.declared.fault.VetFault.TheVariants.{OutOfMemory}
-use Rattle.nc_host.specs.declared.lent_answers.NcVerdict.{NcVerdict}
+use Rattle.nc_host.specs.declared.lent_results.NcVerdict.{NcVerdict}
 use Rattle.nc_host.proofs.Accepted.{good_span, some_fault}
 use Rattle.nc_host.proofs.vet_copy.vet_copy.Goals as goal
 

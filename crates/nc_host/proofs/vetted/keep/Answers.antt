@@ -1,6 +1,6 @@
 use Rattle.std.proofs.Common.{◌<◌, ap, sym, subst}
 use Rattle.nc_vet.specs.declared.fault.VetFault.TheVariants.{OutOfMemory}
-use Rattle.nc_host.specs.declared.lent_answers.NcVerdict.{NcVerdict}
+use Rattle.nc_host.specs.declared.lent_results.NcVerdict.{NcVerdict}
 use Rattle.nc_host.proofs.Accepted.{some_fault}
 use Rattle.nc_host.proofs.Admitted.{vetted_span}
 use Rattle.nc_host.proofs.vetted.keep.Goals as goal

@@ -1,7 +1,7 @@
 use Rattle.std.proofs.Common.{◌≡◌, sym, subst}
 use Rattle.nc_host_handles.specs.declared.fault.RunsFault.{RunsFault}
 use Rattle.nc_host.specs.Running.{runs_number, runs_wanted}
-use Rattle.nc_host.proofs.region_runs.answer.Goals as goal
+use Rattle.nc_host.proofs.region_runs.runs_result.Goals as goal
 
 pub returns-in-Err-NoChunk-clause-refused : goal.returns-in-Err-NoChunk-clause-refused
 returns-in-Err-NoChunk-clause-refused c =
