@@ -73,6 +73,7 @@ module _ (words : List ℕ) (owner : ℕ → ℕ) (at : ℕ) where
     pub held_for_left : (i : ℕ) → i < length k.bounds → slice_index k.bounds i ≡ left_word → slice_index words (i + 1) ≡ left_word
     pub not_given : (i : ℕ) → given ≤ i → i < length k.bounds → (owner (i + 1) ≡ at) × (slice_index words (i + 1) ≡ 0)
 
+  -- the words fit what a view knows: that of its pass if it has one, and that of the keeper if it is in this view
   pub record FitsView (v : View) : Type 0 where
     pub pass : v.is_pass ≡ true → FitsPass v.seat v.pass
     pub keeper : v.is_keeper ≡ true → FitsKeeper v.given v.keeper

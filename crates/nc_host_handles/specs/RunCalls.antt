@@ -16,8 +16,7 @@ runs_of len = 2 * (len / 32) + 2
 
 -- The buffer begins with the runs of this chunk's creation, for its bytes in the region, and they stand for the log of
 -- that creation: for each bundle one run for its bytes after the first, then the serialization and the marks, then for each
--- bundle one run for its first byte. A run is an entry; or it is 7 (the chunk's bytes) or 8 (F4), an address, and a
--- number whose bits select among the 32 places from that address on, the lowest bit the first.
+-- bundle one run for its first byte. `Run` of nc_host_acts says what a run is.
 abbrev pub AreCreationRuns : RegionHandleState → Chunk → List NcAct → List NcAct → ℕ → Type 0
 AreCreationRuns h c old new count =
     let code = bytes_of_span h.region.marked.bytes c.base c.length in
