@@ -185,6 +185,8 @@ class Listing:
             if statement.kind == "directive" and statement.word in REFUSED:
                 statement.refuse(REFUSED[statement.word])
             if not self.sections[index].is_code:
+                if statement.kind == "instruction":
+                    statement.refuse(f"the section {self.sections[index].name} isn't code: give it the flag x, such as \"ax\"")
                 continue
             if statement.kind == "label" and statement.word.startswith('"'):
                 statement.refuse("a label in quotes isn't read: give it a plain name")

@@ -10,6 +10,9 @@ from .statements import Statement
 CODE_NAMES = re.compile(r"\.(?:text|init|fini)(?:\..*)?$")
 DEBUG_NAMES = re.compile(r"\.(?:debug|zdebug|stab|comment|note|gnu|llvm|eh_frame)")
 SEVERAL = re.compile(r",\s*(?:comdat|unique)\b")  # sections of one name, which these words tell apart
+# What a directive names: a section, with or without quotes, then the number of a part of it, then its flags.
+OPERANDS = re.compile(r'(?:"([^"]*)"|([^",\s]*))\s*(?:,\s*(\d\w*))?\s*(?:,\s*"([^"]*)")?')
+NUMBERED = "parts of a section by numbers aren't read: give them sections with names"
 REFUSED_NAMES = [
     (re.compile(r"\.gcc_except_table"), "exceptions aren't kept: compile with -fno-exceptions"),
     (re.compile(r"\.gnu\.lto_"), "this is no code yet: compile with -fno-lto"),
@@ -25,13 +28,11 @@ class Section(NamedTuple):
     is_data: bool
 
 
-def named(name: str, operands: str) -> tuple[bool, bool]:
+def named(name: str, flags: str | None, operands: str) -> Section:
     """The section of a name, with its flags if the directive has some."""
-    found = re.search(r'"([^"]*)"', operands[len(name):])
-    flags = found.group(1) if found else None
     is_code = "x" in flags if flags is not None else bool(CODE_NAMES.match(name))
     is_data = not is_code and not DEBUG_NAMES.match(name) and (flags is None or "a" in flags)
-    return is_code, is_data
+    return Section("\t.section\t" + operands, name, is_code, is_data)
 
 
 class Sections:
@@ -47,14 +48,18 @@ class Sections:
 
     def of_directive(self, statement: Statement) -> Section:
         """The section that `.section` or `.pushsection` names: the first directive has its flags, and later ones may leave them out."""
-        name = statement.operands.split(",")[0].strip().strip('"')
+        found = OPERANDS.match(statement.operands)
+        assert found is not None  # each part may be absent
+        quoted, plain, number, flags = found.groups()
+        name = plain if quoted is None else quoted
         for names, reason in REFUSED_NAMES:
             if names.match(name):
                 statement.refuse(reason)
-        is_code, is_data = named(name, statement.operands)
-        if name == ".note.GNU-stack" and is_code:
+        if number:
+            statement.refuse(NUMBERED)
+        section = named(name, flags, statement.operands)
+        if name == ".note.GNU-stack" and section.is_code:
             statement.refuse("a nested function's address is taken, which needs code on the stack: use an ordinary function")
-        section = Section("\t.section\t" + statement.operands, name, is_code, is_data)
         return self.known.setdefault(statement.operands if SEVERAL.search(statement.operands) else name, section)
 
     def follow(self, statement: Statement) -> bool:
@@ -74,7 +79,7 @@ class Sections:
         elif word == ".previous":
             self.current, self.previous = self.previous, self.current
         elif word in (".subsection", ".text", ".data", ".bss"):
-            statement.refuse("parts of a section by numbers aren't read: give them sections with names")
+            statement.refuse(NUMBERED)
         else:
             return False
         return True
