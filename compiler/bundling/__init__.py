@@ -2,9 +2,10 @@
 
 from .hints import header_hints, hints
 from .notes import noted, without_note
-from .padding import lengthen
+from .padding import lengthen, section_names
 from .releases import release
 from .rewriting import rewritten
 from .statements import JumpRefusal, Refusal
 
-__all__ = ["JumpRefusal", "Refusal", "header_hints", "hints", "lengthen", "noted", "release", "rewritten", "without_note"]
+__all__ = ["JumpRefusal", "Refusal", "header_hints", "hints", "lengthen", "noted", "release", "rewritten", "section_names",
+           "without_note"]

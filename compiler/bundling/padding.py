@@ -31,6 +31,15 @@ def sections_of(content: bytearray) -> Iterator[tuple[str, int, int, int]]:
         yield content[begin:content.index(b"\0", begin)].decode("latin-1"), flags, place, length
 
 
+def section_names(path: str) -> set[str]:
+    """The names of the sections of a 32-bit ELF file; none where it is none."""
+    try:
+        with open(path, "rb") as file:
+            return {name for name, *_ in sections_of(bytearray(file.read()))}
+    except (ValueError, IndexError, struct.error):
+        return set()
+
+
 def nops_in(path: str) -> list[tuple[str, list[int]]]:
     """The name of each section of code, and the places of its nops of one byte."""
     said = subprocess.run(["objdump", "-dwz", "--no-show-raw-insn", path], capture_output=True, encoding="latin-1", check=True).stdout

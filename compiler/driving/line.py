@@ -62,6 +62,7 @@ class Line:
         self.script: str | None = None
         self.entry, self.jobs = "start", 1
         self.shows = self.is_dry = self.keeps_returns = self.keeps_files = self.is_quiet = self.asks_flags = self.is_alone = False
+        self.is_unjudged = False
         self.is_cxx = is_cxx
         self.flags: list[str] = []
         self.for_as: list[str] = []
@@ -82,7 +83,8 @@ class Line:
 
     def take(self, word: str, rest: Iterator[str]) -> None:
         own = {"-o": "out", "-T": "script", "-e": "entry", "-x": "language"}
-        alone = {"-v": ["shows"], "-###": ["shows", "is_dry"], "--keep-returns": ["keeps_returns"], "--cflags": ["asks_flags"]}
+        alone = {"-v": ["shows"], "-###": ["shows", "is_dry"], "--keep-returns": ["keeps_returns"], "--cflags": ["asks_flags"],
+                 "--no-check": ["is_unjudged"]}
         if word in own:
             setattr(self, own[word], self.value(word, rest))
         elif word in alone:
@@ -161,6 +163,10 @@ class Line:
             raise Fault("- (standard input) wants -x LANGUAGE before it")
         language = "c" if name == "-" else LANGUAGES.get(os.path.splitext(name)[1])
         return IN_CXX.get(language, language) if language and self.is_cxx else language
+
+    def is_judged(self) -> bool:
+        """Whether nc_check is to judge what is linked."""
+        return not self.is_unjudged and not self.keeps_returns and "-r" not in self.for_ld
 
     def sources(self) -> list[tuple[str, str]]:
         return [(name, language) for name, language in self.inputs if language]

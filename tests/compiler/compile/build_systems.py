@@ -50,6 +50,9 @@ FILES = {
     "pads.s": "f:\tmovl -112(%ebp), %eax\n\tcall f\n",
     "own.s": "f:\tnop\n.L1:\tnop\n\tcall f\n\tjmp .L1\n",
     "h.c": "int h(int n) { return n; }\n",
+    "ret.s": "\t.bundle_align_mode 5\n\t.globl start\nstart:\tcall f\n\t.p2align 5, 0x90\nf:\tret\n\t.p2align 5, 0x90\n",
+    "host.s": "\t.section .host, \"ax\"\n\tret\n",
+    "good.s": "\t.globl start\nstart:\tret\n",
     "wrong.c": "int n = nowhere;\n",
     "words": '-O2 "-DNAME=two words" \'it.c\'\n@more',
     "more": "start.c h.c\n-o by\\ words\n",
@@ -98,6 +101,21 @@ ANSWERS = [
     ("objects at once", "nc-cc -c -j start.c h.c && nm start.o h.o | grep -c ' T '", 0, "2\n"),
     ("an error among several", "nc-cc -j2 wrong.c h.c -o never 2>&1 | grep '^nc-cc'; ls never 2>&1", 2,
      "nc-cc: gcc ended with status 1\nls: .*\n"),
+    ("a verdict", "nc-cc good.s -o it 2>&1 && ls it", 0, "it\n"),
+    ("a verdict: what is refused isn't kept", "nc-cc ret.s -o it 2>&1; echo $?; ls it", 2,
+     r"it \(00010000\): refused NotPermitted 00010020\n  00010020 <f>\n(?s:.*)  a return \(ret\): (?s:.*)\n"
+     r"nc-cc: it is removed, since nc_check refuses it; --no-check keeps such a file\n1\n"),
+    ("a verdict: foreign code that is refused", "as --32 ret.s -o ret.o && nc-cc ret.o -o it 2>&1", 1,
+     r"(?s:.*)\nnc-cc: ret\.o was not compiled by nc-cc\nnc-cc: it is removed, (?s:.*)"),
+    ("a verdict: foreign code that is accepted", "nc-cc good.s -c && objcopy -R .note.nc-bundle good.o && nc-cc good.o -o it 2>&1",
+     0, ""),
+    ("a verdict: what has none", "nc-cc --no-check ret.s -o it && nc-cc --keep-returns good.s -o it && nc-cc -r ret.s -o it 2>&1", 0, ""),
+    ("a verdict: none for a host", "as --32 host.s -o host.o && nc-cc ret.s host.o -o it 2>&1", 0, ""),
+    ("a verdict: none for a device", "nc-cc ret.s -o /dev/null 2>&1", 0, ""),
+    ("a verdict: none for another form", "nc-cc ret.s -Wl,--oformat=binary -o it 2> said", 0, ""),
+    ("a verdict: none, with a warning", "echo 'echo no >&2; exit 2' > no && NC_CHECK='sh' nc-cc ret.s -o it 2>&1 && ls it", 0,
+     r"nc-cc: warning: it has no verdict: (?s:.*)\nit\n"),
+    ("a verdict: another program that isn't there", "NC_CHECK=./nowhere nc-cc good.s -o it 2>&1", 2, r"nc-cc: \./nowhere: No such file .*\n"),
     ("C as C++", "nc-c++ -S it.c -o - | grep -c _Z1fi:", 0, "1\n"),
 ]
 
@@ -166,6 +184,9 @@ def try_builds(folder: str, word: str, program: str) -> tuple[int, int]:
         print("skipped: projects and answers of nc-cc: gcc isn't there")
         return 0, 0
     answers = [row for row in answers if "clang" not in row[0] or not lacking(["clang"])]
+    if program is None:
+        print("skipped: verdicts on what nc-cc links: nc_check isn't there")
+        answers = [row for row in answers if "a verdict" not in row[0]]
     with concurrent.futures.ThreadPoolExecutor(os.cpu_count()) as pool:
         found = [pool.submit(wrong_build, build, folder, program) for build in builds]
         found += [pool.submit(wrong_answer, row, folder, program) for row in answers]
