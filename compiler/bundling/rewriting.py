@@ -8,6 +8,7 @@ from .notes import ONLY_PADDING, OWN_NOPS, noted
 from .registers import REGISTERS, is_set_before, parts_in, takes_up_state
 from .statements import JumpRefusal, statements_of
 from .tables import PAD, Tables
+from .threads import without_threads
 
 BUNDLE = 32
 FILL = "0x90"
@@ -194,9 +195,9 @@ class Bundler:
         return noted("\n".join(self.out) + "\n", OWN_NOPS if self.has_nops else ONLY_PADDING)
 
 
-def rewritten(text: str, keep_returns: bool = False) -> str:
+def rewritten(text: str, keep_returns: bool = False, one_thread: bool = False) -> str:
     """The text in bundles. A Refusal says what isn't kept, and on which line."""
-    listing = Listing(statements_of(text))
+    listing = Listing(without_threads(statements_of(text), text, one_thread))
     listing.check()
     check_flags(listing)
     return Bundler(listing, keep_returns).write()

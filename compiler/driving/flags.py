@@ -17,7 +17,7 @@ DEFAULTS_CXX = ["-fno-exceptions", "-fno-rtti", "-fno-threadsafe-statics", "-fno
 CONVENTIONS = ["no_caller_saved_registers", "preserve_most", "preserve_all", "regcall", "swiftcall"]
 NO_CONVENTIONS = [*("-D%s=__unused__" % form for name in CONVENTIONS for form in (name, "__%s__" % name)), "-D__regcall="]
 NEEDED = ["-m32", "-march=i686", "-mno-sse", "-mno-mmx", "-mlong-double-64", "-fcf-protection=none", "-fno-stack-protector",
-          *NO_CONVENTIONS]
+          "-ftls-model=local-exec", *NO_CONVENTIONS]
 NEEDED_GCC = ["-mno-80387", "-msoft-float", "-fno-ipa-ra", "-mindirect-branch-register"]
 # clang's driver does nothing on -msoft-float; with -mno-80387 clang 14 has no `long double`, and fails where a `double` becomes a
 # `long long`. With the two features clang calls by a register that has no argument, and never through memory: see bundling/thunks.py.

@@ -35,5 +35,5 @@ def is_linked(path: str) -> bool:
 
 def verdict(program: str, path: str) -> tuple[int, str]:
     """The status of nc_check, which is 0 for a file that is accepted and 1 for one that is refused, and what it says of another file."""
-    done = ended([program, path], stdin=subprocess.DEVNULL, stdout=subprocess.PIPE, stderr=subprocess.PIPE, encoding="utf-8", errors="replace")
+    done = ended([program, path], stdin=subprocess.DEVNULL, capture_output=True, encoding="utf-8", errors="replace")
     return done.returncode, done.stdout if done.returncode == REFUSED else done.stderr

@@ -62,7 +62,7 @@ class Line:
         self.script: str | None = None
         self.entry, self.jobs = "start", 1
         self.shows = self.is_dry = self.keeps_returns = self.keeps_files = self.is_quiet = self.asks_flags = self.is_alone = False
-        self.is_unjudged = False
+        self.is_unjudged = self.is_one_thread = False
         self.is_cxx = is_cxx
         self.flags: list[str] = []
         self.for_as: list[str] = []
@@ -84,7 +84,7 @@ class Line:
     def take(self, word: str, rest: Iterator[str]) -> None:
         own = {"-o": "out", "-T": "script", "-e": "entry", "-x": "language"}
         alone = {"-v": ["shows"], "-###": ["shows", "is_dry"], "--keep-returns": ["keeps_returns"], "--cflags": ["asks_flags"],
-                 "--no-check": ["is_unjudged"]}
+                 "--no-check": ["is_unjudged"], "--one-thread": ["is_one_thread"]}
         if word in own:
             setattr(self, own[word], self.value(word, rest))
         elif word in alone:

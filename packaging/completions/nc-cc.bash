@@ -5,8 +5,8 @@ _nc_cc() {
     -x) words="c c++ assembler assembler-with-cpp cpp-output none" ;;
     --data) words=04010000 ;;
     --base) words=00010000 ;;
-    *) [[ $word != -* ]] || words="-c -S -E -M -MM -fsyntax-only -o -x --data --base --keep-returns --no-check -j -v -### -save-temps -w -T -e -L -l -u -z \
-            -Wl, -Xlinker -Wa, -Xassembler --version --cflags -h --help" ;;
+    *) [[ $word != -* ]] || words="-c -S -E -M -MM -fsyntax-only -o -x --data --base --keep-returns --one-thread --no-check -j -v -### -save-temps -w -T -e \
+            -L -l -u -z -Wl, -Xlinker -Wa, -Xassembler --version --cflags -h --help" ;;
     esac
     mapfile -t COMPREPLY < <(compgen -W "$words" -- "$word")
 }

@@ -115,7 +115,8 @@ ANSWERS = [
     ("a verdict: none for another form", "nc-cc ret.s -Wl,--oformat=binary -o it 2> said", 0, ""),
     ("a verdict: none, with a warning", "echo 'echo no >&2; exit 2' > no && NC_CHECK='sh' nc-cc ret.s -o it 2>&1 && ls it", 0,
      r"nc-cc: warning: it has no verdict: (?s:.*)\nit\n"),
-    ("a verdict: another program that isn't there", "NC_CHECK=./nowhere nc-cc good.s -o it 2>&1", 2, r"nc-cc: \./nowhere: No such file .*\n"),
+    ("a verdict: another program that isn't there", "NC_CHECK=./nowhere nc-cc good.s -o it 2>&1", 2,
+     r"nc-cc: \./nowhere: No such file .*\n"),
     ("C as C++", "nc-c++ -S it.c -o - | grep -c _Z1fi:", 0, "1\n"),
 ]
 
