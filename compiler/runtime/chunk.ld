@@ -20,10 +20,12 @@ SECTIONS {
     .data : { __data_start = .; *(.data .data.*) *(.got .got.plt) }
     .init_array : {
         __init_array_start = .;
-        KEEP(*(SORT_BY_INIT_PRIORITY(.init_array.*) .init_array))
+        KEEP(*(SORT_BY_INIT_PRIORITY(.init_array.*)))
+        KEEP(*(.init_array))
         __init_array_end = .;
         __fini_array_start = .;
-        KEEP(*(SORT_BY_INIT_PRIORITY(.fini_array.*) .fini_array))
+        KEEP(*(SORT_BY_INIT_PRIORITY(.fini_array.*)))
+        KEEP(*(.fini_array))
         __fini_array_end = .;
     }
     .bss : { __bss_start = .; *(.bss .bss.* COMMON) }

@@ -7,14 +7,14 @@ const int constant[2] = {6, 7};
 static int large[5000];
 static const char *const names[] = {"first", "second"};
 
+__attribute__((constructor)) static void third(void) {
+    order[count++] = 3;
+}
 __attribute__((constructor(102))) static void second(void) {
     order[count++] = 2;
 }
 __attribute__((constructor(101))) static void first(void) {
     order[count++] = 1;
-}
-__attribute__((constructor)) static void third(void) {
-    order[count++] = 3;
 }
 
 static int within(const void *place, const char *begin, const char *end) {
