@@ -328,19 +328,6 @@ static int request_any(NcsBox *box, uint32_t from) {
     return call(box, function, place, lent, len).result == 0;
 }
 
-/* The text is what the region has, and each live chunk is accepted once more. */
-static void check_text(void) {
-    uint32_t k, wrong = 0;
-    NcChunk found;
-    for (k = NC_START; k < module->live->filled; k++) {
-        wrong += nc_region_place(&module->live->region, k).byte != *codes_text(module, k);
-    }
-    CHECK(wrong == 0);
-    for (k = 0; (found = nc_region_chunk(&module->live->region, k)).fault == NC_OK; k++) {
-        CHECK(found.retired || nc_host_vet(found.base, module->limit, codes_text(module, found.base), found.length).fault == NC_OK);
-    }
-}
-
 static void try_hostile(void) {
     uint32_t from = room.from.at + 0x1000, end = from + AREA_LEN, k, granted = 0;
     NcsModule *large = module;
@@ -362,9 +349,9 @@ static void try_hostile(void) {
         }
     }
     CHECK(granted > requests / 20 && granted < requests / 2);
-    check_text();
+    codes_check(module);
     CHECK(ncs_free(box) && ncs_hole(module, at(from), at(end)).len == AREA_LEN);
-    check_text();
+    codes_check(module);
     ncs_module_free(module);
     module = large;
 }

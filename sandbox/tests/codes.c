@@ -131,3 +131,15 @@ int codes_returns(NcsBox *box, uint32_t at, uint32_t number) {
 const uint8_t *codes_text(const NcsModule *module, uint32_t at) {
     return (const uint8_t *)((uintptr_t)module->text_at + at);
 }
+
+void codes_check(const NcsModule *module) {
+    uint32_t k, wrong = 0;
+    NcChunk found;
+    for (k = NC_START; k < module->live->filled; k++) {
+        wrong += nc_region_place(&module->live->region, k).byte != *codes_text(module, k);
+    }
+    CHECK(wrong == 0);
+    for (k = 0; (found = nc_region_chunk(&module->live->region, k)).fault == NC_OK; k++) {
+        CHECK(found.retired || nc_host_vet(found.base, module->limit, codes_text(module, found.base), found.length).fault == NC_OK);
+    }
+}

@@ -47,7 +47,8 @@ int codes_delete(NcsModule *module, uint32_t at);
 NcsEnd codes_run(NcsBox *box, uint32_t at);
 int codes_returns(NcsBox *box, uint32_t at, uint32_t number);
 
-/* The text as it is executed. */
+/* The text as it is executed, and a check that it is what the region has, and that each live chunk is accepted once more. */
 const uint8_t *codes_text(const NcsModule *module, uint32_t at);
+void codes_check(const NcsModule *module);
 
 #endif

@@ -71,18 +71,6 @@ static void disturb(Tenant *tenants, double until) {
     }
 }
 
-static void check_text(void) {
-    uint32_t k, wrong = 0;
-    NcChunk found;
-    for (k = NC_START; k < module->live->filled; k++) {
-        wrong += nc_region_place(&module->live->region, k).byte != *codes_text(module, k);
-    }
-    CHECK(wrong == 0);
-    for (k = 0; (found = nc_region_chunk(&module->live->region, k)).fault == NC_OK; k++) {
-        CHECK(found.retired || nc_host_vet(found.base, module->limit, codes_text(module, found.base), found.length).fault == NC_OK);
-    }
-}
-
 static int load_module(const char *path) {
     static uint8_t file[1 << 17];
     FILE *from = fopen(path, "rb");
@@ -120,7 +108,7 @@ int main(int argc, char **argv) {
     for (k = 0; k < ALL; k++) {
         CHECK(pthread_join(tenants[k].thread, NULL) == 0 && tenants[k].calls > 0);
     }
-    check_text();
+    codes_check(module);
     puts("the text");
     for (k = 0; k < ALL; k++) {
         CHECK(ncs_free(tenants[k].box));

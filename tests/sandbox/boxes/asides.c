@@ -113,3 +113,19 @@ int asides_child(int (*row)(void)) {
     CHECK(child > 0 && waitpid(child, &status, 0) == child);
     return WIFSIGNALED(status) ? 1000 + WTERMSIG(status) : WEXITSTATUS(status);
 }
+
+int asides_children(const Child *rows, size_t count) {
+    size_t k;
+    for (k = 0; k < count && testing_wrong == 0; k++) {
+        int ended = asides_child(rows[k].row);
+        if (ended == SKIPPED) {
+            return 0;
+        }
+        if (ended != rows[k].ends) {
+            printf("WRONG: ended with %d\n", ended);
+            testing_wrong++;
+        }
+        puts(rows[k].name);
+    }
+    return 1;
+}

@@ -41,4 +41,13 @@ unsigned asides_touched(NcsBox *box);           /* bytes of the box's memory abo
 /* Runs a row in a child, before or after the first module, and tells how that ended: its exit status, or 1000 and the signal. */
 int asides_child(int (*row)(void));
 
+typedef struct Child {
+    const char *name;
+    int (*row)(void);
+    int ends; /* what asides_child tells */
+} Child;
+
+/* Runs rows in children, and prints their names. Nothing follows one that is wrong. Whether the system has boxes. */
+int asides_children(const Child *rows, size_t count);
+
 #endif

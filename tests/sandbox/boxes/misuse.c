@@ -109,7 +109,7 @@ static void try_end(void) {
 static void try_endings(void) {
     NcsModule *all = module;
     uint8_t code[ASIDES_LEN];
-    unsigned k, ended = 0;
+    unsigned k, over = 0;
     NcsBox *box;
     asides_lay(code);
     module = ncs_module_live(ASIDES_LEN / 32, NCS_LIVE_CALLS, NULL);
@@ -117,9 +117,9 @@ static void try_endings(void) {
     box = box_with(LONG, end_thread, NULL);
     for (k = 0; k < NCS_LIVE_CALLS + 45; k++) {
         join_new(call_and_end, box, NULL);
-        ended += ncs_reset(box);
+        over += ncs_reset(box);
     }
-    CHECK(ended == NCS_LIVE_CALLS + 45 && returns(box) && ncs_free(box));
+    CHECK(over == NCS_LIVE_CALLS + 45 && returns(box) && ncs_free(box));
     ncs_module_free(module);
     module = all;
     puts("threads that end in call-backs of live code");
@@ -494,11 +494,7 @@ static void try_symbols(void) {
     puts("a file with too many symbols");
 }
 
-static const struct {
-    const char *name;
-    int (*row)(void);
-    int ends;
-} CHILDREN[] = {
+static const Child CHILDREN[] = {
     {"a call-back that returns on another thread", move, 1000 + SIGABRT},
     {"a child on top of untrusted code", fork_above, 0},
 };
@@ -508,28 +504,11 @@ static void (*const ROWS[])(void) = {
     try_destructors, try_table, try_landing, try_guard,   try_locked,     try_copy, try_symbols,
 };
 
-/* Whether the system has boxes. */
-static int try_children(void) {
-    size_t k;
-    for (k = 0; k < sizeof CHILDREN / sizeof *CHILDREN && testing_wrong == 0; k++) {
-        int ended = asides_child(CHILDREN[k].row);
-        if (ended == SKIPPED) {
-            return 0;
-        }
-        if (ended != CHILDREN[k].ends) {
-            printf("WRONG: ended with %d\n", ended);
-            testing_wrong++;
-        }
-        puts(CHILDREN[k].name);
-    }
-    return 1;
-}
-
 /* What is wrong in one row may keep the next ones waiting, so nothing follows it. */
 int main(void) {
     size_t k;
     (void)setvbuf(stdout, NULL, _IOLBF, 0);
-    if (!try_children()) {
+    if (!asides_children(CHILDREN, sizeof CHILDREN / sizeof *CHILDREN)) {
         puts("skipped: misuse of boxes: the system has no boxes");
         return SKIPPED;
     }

@@ -597,11 +597,7 @@ static int refuse_first(void) {
     return testing_wrong != 0;
 }
 
-static const struct {
-    const char *name;
-    int (*row)(void);
-    int ends;
-} CHILDREN[] = {
+static const Child CHILDREN[] = {
     {"a crash reporter that runs once", report_once, 1000 + SIGSEGV},
     {"a handler's mask", hand_on_masks, 0},
     {"a handler that isn't deferred", hand_on_nodefer, 0},
@@ -623,28 +619,11 @@ static void (*const ROWS[])(void) = {
     try_forged_ticks, try_deeds, try_ticks,    try_lost_stack, try_lost_handlers,
 };
 
-/* Whether the system has boxes. */
-static int try_children(void) {
-    size_t k;
-    for (k = 0; k < sizeof CHILDREN / sizeof *CHILDREN && testing_wrong == 0; k++) {
-        int ended = asides_child(CHILDREN[k].row);
-        if (ended == SKIPPED) {
-            return 0;
-        }
-        if (ended != CHILDREN[k].ends) {
-            printf("WRONG: ended with %d\n", ended);
-            testing_wrong++;
-        }
-        puts(CHILDREN[k].name);
-    }
-    return 1;
-}
-
 /* What is wrong in one row may keep the next ones waiting, so nothing follows it. */
 int main(void) {
     size_t k;
     (void)setvbuf(stdout, NULL, _IOLBF, 0);
-    if (!try_children()) {
+    if (!asides_children(CHILDREN, sizeof CHILDREN / sizeof *CHILDREN)) {
         puts("skipped: signals beside boxes: the system has no boxes");
         return SKIPPED;
     }
