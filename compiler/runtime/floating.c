@@ -182,9 +182,9 @@ INLINE u64 product(u32 sign, i32 field, u32 xh, u32 xl, u32 yh, u32 yl) {
 
 /* high:low by a word that is larger than `high`. */
 INLINE u32 divided(u32 high, u32 low, u32 by, u32 *rest) {
-    u32 quotient;
-    __asm__("divl %4" : "=a"(quotient), "=d"(*rest) : "a"(low), "d"(high), "r"(by) : "cc");
-    return quotient;
+    u32 made;
+    __asm__("divl %4" : "=a"(made), "=d"(*rest) : "a"(low), "d"(high), "r"(by) : "cc");
+    return made;
 }
 
 /* The quotient of the words high:low:0 by y, of at most 27 bits; y is from 2^62 to 2^63, and `yl` its lower word. The quotient by the upper

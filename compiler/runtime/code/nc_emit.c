@@ -64,9 +64,9 @@ INLINE int length_at(const uint8_t *p, uint32_t len) {
 }
 
 int nce_length(const uint8_t *p, uint32_t len) {
-    uint8_t copy[2 * SLACK] = {0};
-    memcpy(copy, p, len < SLACK ? len : SLACK);
-    return length_at(copy, len < SLACK ? len : SLACK);
+    uint8_t front[2 * SLACK] = {0};
+    memcpy(front, p, len < SLACK ? len : SLACK);
+    return length_at(front, len < SLACK ? len : SLACK);
 }
 
 /* ---- What is given */

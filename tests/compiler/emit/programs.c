@@ -108,7 +108,7 @@ static uint32_t holds(uint32_t cc, uint32_t a, uint32_t b) {
 }
 
 static void act(const Step *x, State *s) {
-    uint32_t *a = s->registers + x->a, *b = s->registers + x->b, *cell = s->cells + x->number % CELLS, n = x->number, cc = n & 15;
+    uint32_t *a = s->registers + x->a, *b = s->registers + x->b, *word = s->cells + x->number % CELLS, n = x->number, cc = n & 15;
     switch (x->op) {
     case SET: *a = n; break;
     case ADD: *a += *b; break;
@@ -119,10 +119,10 @@ static void act(const Step *x, State *s) {
     case ADD_BYTE: *a += (uint32_t)(int8_t)n; break;
     case ADD_NUMBER: *a += n; break;
     case ADD_HALF: *a = (*a & 0xFFFF0000) | ((*a + n) & 0xFFFF); break;
-    case LOAD: *a = *cell; break;
-    case STORE: *cell = *a; break;
-    case STORE_NUMBER: *cell = n; break;
-    case ADD_CELL: *cell += n; break;
+    case LOAD: *a = *word; break;
+    case STORE: *word = *a; break;
+    case STORE_NUMBER: *word = n; break;
+    case ADD_CELL: *word += n; break;
     case LEA: *a = *a + 4 * *b + n; break;
     case TIMES: *a *= *b; break;
     case SHIFT: *a <<= n & 31; break;

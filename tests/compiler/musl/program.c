@@ -47,12 +47,12 @@ static int ascending(const void *a, const void *b) {
 }
 
 static int sorts(void) {
-    static uint32_t numbers[10000];
+    static uint32_t words[10000];
     uint32_t seed = 1, sum = 0;
-    for (size_t k = 0; k < 10000; k++) numbers[k] = seed = seed * 1664525 + 1013904223;
-    qsort(numbers, 10000, sizeof *numbers, ascending);
-    for (size_t k = 0; k < 10000; k++) sum = sum * 31 + numbers[k];
-    printf("%u %d\n", sum, bsearch(&numbers[77], numbers, 10000, sizeof *numbers, ascending) == &numbers[77]);
+    for (size_t k = 0; k < 10000; k++) words[k] = seed = seed * 1664525 + 1013904223;
+    qsort(words, 10000, sizeof *words, ascending);
+    for (size_t k = 0; k < 10000; k++) sum = sum * 31 + words[k];
+    printf("%u %d\n", sum, bsearch(&words[77], words, 10000, sizeof *words, ascending) == &words[77]);
     return 0;
 }
 

@@ -165,10 +165,10 @@ static void enter(uint32_t bundle) {
 }
 
 static void leave(void) {
-    static const uint32_t go_on = 7;
+    static const uint32_t number = 7;
     if (holder.is_inside) {
         uint32_t *words = ncs_at(holder.box, (NcsAt){SHARED}, 8);
-        __atomic_store_n(words + 1, go_on, __ATOMIC_SEQ_CST);
+        __atomic_store_n(words + 1, number, __ATOMIC_SEQ_CST);
         join_holder(NCS_RETURNED);
     }
 }
