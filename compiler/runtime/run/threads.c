@@ -3,6 +3,4 @@
 int __cxa_atexit(void (*)(void *), void *, void *);
 int __cxa_thread_atexit(void (*)(void *), void *, void *);
 
-int __cxa_thread_atexit(void (*end)(void *), void *object, void *library) {
-    return __cxa_atexit(end, object, library);
-}
+int __cxa_thread_atexit(void (*end)(void *), void *object, void *library) { return __cxa_atexit(end, object, library); }

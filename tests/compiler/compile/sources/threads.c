@@ -3,9 +3,7 @@
 _Thread_local int zero;
 static __thread int five = 5;
 __thread int kept __attribute__((tls_model("initial-exec"))) = 7;
-_Thread_local struct {
-    int first, second;
-} both = {1, 2};
+_Thread_local struct { int first, second; } both = {1, 2};
 __thread char letters[10] = "threads";
 extern _Thread_local int elsewhere, kept_elsewhere __attribute__((tls_model("initial-exec")));
 int *place_elsewhere(void);

@@ -17,11 +17,19 @@ struct Class {
 };
 thread_local int Class::zero;
 thread_local Number Class::number(6);
-template <class T> struct Of { static thread_local T value; };
-template <class T> thread_local T Of<T>::value = sizeof(T);
+template <class T>
+struct Of {
+    static thread_local T value;
+};
+template <class T>
+thread_local T Of<T>::value = sizeof(T);
 
-extern "C" int __cxa_thread_atexit(void (*)(void *), void *, void *) { return at_the_end++, 0; }
-extern "C" { void *__dso_handle; }
+extern "C" int __cxa_thread_atexit(void (*)(void *), void *, void *) {
+    return at_the_end++, 0;
+}
+extern "C" {
+void *__dso_handle;
+}
 
 __attribute__((noinline)) static int next(int first) {
     thread_local Number local(first);
