@@ -1,9 +1,7 @@
 -- What proofs of the crates above may use of this crate: places beside a span, puts and what they log, and why the text is
 -- closed while a span gets a chunk or stops. The other files are private.
-pub use Rattle.nc_text.proofs.Offered.{Before, Within, Behind, place_of, span_within, span_before, span_behind}
 pub use Rattle.nc_acts.proofs.Places.{unused_is_start, unused_at_start, is_inside_false, is_start_false, start_or_not, before_span}
 pub use Rattle.nc_acts.proofs.Places.{within_span, is_inside_true, is_start_true}
-pub use Rattle.nc_text.proofs.Offered.{put_none, put_more, put_passed, byte_at_other, byte_at_same}
 pub use Rattle.nc_acts.proofs.Chosen.{puts_append, next_put, next_passed}
 pub use Rattle.nc_acts.proofs.Logged.{told_logged, acts_back, deleted_acts, acts_join, acts_before, logs_more, logs_none}
 pub use Rattle.nc_acts.proofs.Logged.{logs_acts, created_acts, logs_after, log_put, ends_serialized}

@@ -10,6 +10,4 @@ pub use Rattle.nc_decode.proofs.stages.Runs.{reads_by_states, none_is_paired}
 pub use Rattle.nc_decode.proofs.stages.Stages.{next_small}
 pub use Rattle.nc_decode.proofs.fronts.Growth.{IsPartOf, first_is_part, spelled_by_more}
 pub use Rattle.nc_decode.proofs.stages.BundleWords.{start_word, second_word, length-marks_in, marks_in-at}
-pub use Rattle.nc_decode.proofs.BoolTests.{true_or_false, both, not_is, cond_is_true, cond_is_false, each_below-at}
-pub use Rattle.nc_decode.proofs.opcodes.EntriesMatchRows.{each_below}
 pub use Rattle.nc_decode.proofs.stages.BundleWords.{bit_passed}

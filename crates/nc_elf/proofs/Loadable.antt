@@ -1,11 +1,12 @@
 -- The loaded segments that the first program headers name, and where they lie.
-use Rattle.std.proofs.Common.{◌≡◌, ℕ, zero, suc, ◌+◌, ◌<◌, ◌≤◌, List, [], ◌∷◌, ◌++◌, length, drop, set, true, false, ap, sym, ◌∙◌, subst, inl, inr, arith, rules, All, AllPairs, IsTrue, append-nil, refl}
+use Rattle.std.proofs.Common.{◌≡◌, ℕ, zero, suc, ◌+◌, ◌<◌, ◌≤◌, List, [], ◌∷◌, ◌++◌, length, drop, set, true, false, ap, sym, ◌∙◌, subst, inl, inr, arith, rules, All, AllPairs, IsTrue}
 use Rattle.std.proofs.lemmas.Bool.{and_parts, cases_Bool}
-use Rattle.std.proofs.lemmas.List.{drop_all, length-append}
+use Rattle.std.proofs.lemmas.List.{length-append}
 use Rattle.nc_elf.specs.declared.loaded.NcSegment.{NcSegment}
 use Rattle.nc_elf.specs.Segments.{program_header, is_load, is_present, loaded_of, AreGood, IsGoodSegment, IsLoadable, IsLoadedBelow}
 use Rattle.nc_elf.specs.machinery.Pass.{first_loaded}
 use Rattle.nc_elf.proofs.Lists.{more_chosen, more_passed, each_named, pairs_named}
+use Rattle.nc_base.proofs.Offered.{over_one_more}
 
 -- a header of a loaded segment adds it
 pub more_loaded : (file : List ℕ) (i : ℕ) → is_present (program_header file i) ≡ true
@@ -62,16 +63,6 @@ pub all_below : (file : List ℕ) (n : ℕ) → AreGood file n → AllPairs IsLo
 all_below file n g =
     pairs_named is_present loaded_of IsLoadedBelow file n (λ i k lt within here there.
     (g.each k within (present_is_loaded file k there)).after_others.each i lt (present_is_loaded file i here))
-
--- an element written behind the first ones in a buffer is one more of them
-pub over_one_more : {X : Type 0} (xs start : List X) (y : X) → length xs < length (xs ++ drop (length xs) start)
-    → set (xs ++ drop (length xs) start) (length xs) y ≡ (xs ++ y ∷ []) ++ drop (length (xs ++ y ∷ [])) start
-over_one_more [] [] y lt = absurd (omega (arith, lt))
-over_one_more [] (s ∷ rest) y lt = refl
-over_one_more {X} (x ∷ xs) [] y lt =
-    let long = ap (λ (z : List X). length (x ∷ xs ++ z)) (drop_all (length (x ∷ xs)) [] (omega arith)) in
-    absurd (omega (arith, lt, long, ap (λ (z : List X). length z) (append-nil (x ∷ xs))))
-over_one_more (x ∷ xs) (s ∷ rest) y lt = ap (λ z. x ∷ z) (over_one_more xs rest y (omega (arith, lt)))
 
 -- the next loaded segment, written behind the first ones
 pub write_next : (file : List ℕ) (old now : List NcSegment) (i count : ℕ) (s : NcSegment) → is_present (program_header file i) ≡ true

@@ -4,8 +4,8 @@ use Rattle.std.proofs.lemmas.Bool.{cases_lt}
 use Rattle.std.proofs.lemmas.List.{length-set, ext_get_or}
 use Rattle.nc_text.specs.Places.{byte_at}
 use Rattle.nc_text.specs.Puts.{HasPut}
-use Rattle.nc_region.proofs.Offered.{place_of, Before, Within, Behind}
-use Rattle.nc_acts.proofs.Offered.{byte_at_other}
+use Rattle.nc_text.proofs.Offered.{place_of, Before, Within, Behind}
+use Rattle.nc_text.proofs.Offered.{byte_at_other}
 use Rattle.nc_region.specs.Patch.{any_place}
 use Rattle.nc_histories.proofs.Deletion.{Agrees}
 

@@ -15,7 +15,9 @@ use Rattle.nc_list.specs.declared.chunk.Chunk.{Chunk}
 use Rattle.nc_region.specs.schedules.Spans.{RetiredSpan}
 use Rattle.nc_region.specs.schedules.World.{World}
 use Rattle.nc_region.specs.Patch.{stands_there}
-use Rattle.nc_region.proofs.Offered.{some_same, span_within, span_before, span_behind, stands_first, stands_same}
+use Rattle.nc_base.proofs.Offered.{some_same}
+use Rattle.nc_text.proofs.Offered.{span_within, span_before, span_behind}
+use Rattle.nc_region.proofs.Offered.{stands_first, stands_same}
 use Rattle.nc_histories.specs.Views.{IsFree}
 use Rattle.nc_histories.proofs.Deletion.{Agrees}
 use Rattle.nc_histories.proofs.Good.{Good, KeepsInstruction, good_by_places, stop_stays}

@@ -21,11 +21,16 @@ use Rattle.nc_region.specs.schedules.Events.{Marks}
 use Rattle.nc_region.proofs.Offered.{Keeps, only_as_it_stands}
 use Rattle.nc_acts.specs.Acts.{is_inside, is_start}
 use Rattle.nc_acts.specs.Chunks.{HasGoodSpan, IsClosedChunk, IsUnused, with_chunk}
-use Rattle.nc_acts.proofs.Offered.{byte_at_other}
+use Rattle.nc_text.proofs.Offered.{byte_at_other}
 use Rattle.nc_region.specs.Region.{IsRegion, FitsAt, live_chunk}
-use Rattle.nc_region.proofs.Offered.{IsFinalBut, each_map, each_append, unused_if_apart, region_with_chunk, some_same}
-use Rattle.nc_region.proofs.Offered.{Joins, chunk_joins, chunk_keeps, valid_chunk_is_closed, Before, Within, Behind}
-use Rattle.nc_region.proofs.Offered.{place_of, unused_is_start, unused_at_start, is_inside_false, start_or_not, before_span}
+use Rattle.nc_acts.proofs.Offered.{IsFinalBut}
+use Rattle.nc_base.proofs.Offered.{each_map, each_append, some_same}
+use Rattle.nc_region.proofs.Offered.{unused_if_apart, region_with_chunk}
+use Rattle.nc_acts.proofs.Offered.{Joins, chunk_joins, chunk_keeps}
+use Rattle.nc_region.proofs.Offered.{valid_chunk_is_closed}
+use Rattle.nc_text.proofs.Offered.{Before, Within, Behind}
+use Rattle.nc_text.proofs.Offered.{place_of}
+use Rattle.nc_acts.proofs.Offered.{unused_is_start, unused_at_start, is_inside_false, start_or_not, before_span}
 use Rattle.nc_histories.specs.Views.{ViewsKeep, IsFree}
 use Rattle.nc_histories.proofs.Good.{text_of, Good, KeepsInstruction, good_by_places, stop_ends}
 use Rattle.nc_histories.proofs.OnePut.{good_put_unread, byte_there}

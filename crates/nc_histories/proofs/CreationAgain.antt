@@ -20,7 +20,8 @@ use Rattle.nc_region.proofs.Offered.{Keeps, as_it_stands, only_as_it_stands}
 use Rattle.nc_acts.specs.Acts.{is_inside, is_start, puts_where}
 use Rattle.nc_acts.specs.Chunks.{with_chunk}
 use Rattle.nc_region.specs.Region.{IsRegion, FitsAt, live_chunk}
-use Rattle.nc_region.proofs.Offered.{IsFinalBut, final_all, final_but_starts, place_of, Before, Within, Behind, start_or_not, span_within}
+use Rattle.nc_acts.proofs.Offered.{IsFinalBut, final_all, final_but_starts, start_or_not}
+use Rattle.nc_text.proofs.Offered.{place_of, Before, Within, Behind, span_within}
 use Rattle.nc_histories.specs.Calls.{Details, no_details, create_events}
 use Rattle.nc_histories.specs.Histories.{AreAttempts, NoneYet, OneMore}
 use Rattle.nc_histories.specs.Views.{ViewsKeep}

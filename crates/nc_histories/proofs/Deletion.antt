@@ -19,15 +19,19 @@ use Rattle.nc_list.specs.declared.chunk.ChunkState.TheVariants.{Retired}
 use Rattle.nc_region.specs.schedules.Spans.{IsQuiet, IsShut}
 use Rattle.nc_region.specs.schedules.World.{World, AreApart}
 use Rattle.nc_region.specs.schedules.Events.{Serializes, Retires, IsAllowed, after, new_span}
-use Rattle.nc_region.proofs.Offered.{Keeps, admits_is_mark, shut_if_quiet, as_it_stands}
+use Rattle.nc_region.proofs.Offered.{Keeps, shut_if_quiet, as_it_stands}
+use Rattle.nc_acts.proofs.Offered.{admits_is_mark}
 use Rattle.nc_acts.specs.Acts.{is_mark, is_marked_at, is_unmarked_at, puts_where}
 use Rattle.nc_acts.specs.Chunks.{HasGoodSpan}
 use Rattle.nc_text.specs.Puts.{HasPut}
-use Rattle.nc_acts.proofs.Offered.{byte_at_other}
-use Rattle.nc_region.specs.Each.{Each}
+use Rattle.nc_text.proofs.Offered.{byte_at_other}
+use Rattle.nc_base.specs.Each.{Each}
 use Rattle.nc_region.specs.Region.{IsLive, IsAscending, IsRegion}
-use Rattle.nc_region.proofs.Offered.{region_deleted, all_stops, each_get, each_from, each_at_set, quiet_chunks, ascending_get}
-use Rattle.nc_region.proofs.Offered.{place_of, Before, Within, Behind, before_span}
+use Rattle.nc_region.proofs.Offered.{region_deleted, quiet_chunks, ascending_get}
+use Rattle.nc_acts.proofs.Offered.{all_stops}
+use Rattle.nc_base.proofs.Offered.{each_get, each_from, each_at_set}
+use Rattle.nc_text.proofs.Offered.{place_of, Before, Within, Behind}
+use Rattle.nc_acts.proofs.Offered.{before_span}
 use Rattle.nc_histories.specs.Calls.{no_details}
 use Rattle.nc_histories.specs.Views.{ViewsKeep}
 use Rattle.nc_histories.proofs.Creation.{in_one_bundle}

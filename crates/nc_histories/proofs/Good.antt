@@ -13,7 +13,7 @@ use Rattle.nc_text.specs.MarkedText.{MarkedText}
 use Rattle.nc_text.proofs.Offered.{executes, leads_of, step_of, no_step_from_stop, closed_by_parts, KeepsBytes, same_instruction, stop_at}
 use Rattle.nc_text.proofs.Offered.{length_at}
 use Rattle.nc_region.specs.schedules.Spans.{RetiredSpan, IsShut}
-use Rattle.nc_region.proofs.Offered.{some_same}
+use Rattle.nc_base.proofs.Offered.{some_same}
 use Rattle.nc_histories.specs.Views.{NoneOverlaps}
 
 -- bytes and marks, as a text

@@ -20,7 +20,8 @@ use Rattle.nc_acts.specs.Chunks.{with_chunk}
 use Rattle.nc_region.specs.Quiet.{retired_spans}
 use Rattle.nc_region.specs.Region.{Region, IsLive, IsRegion, IsCreated, live_chunk}
 use Rattle.nc_region.specs.Deletion.{IsDeleted}
-use Rattle.nc_region.proofs.Offered.{same_code, listed_there}
+use Rattle.nc_acts.proofs.Offered.{same_code}
+use Rattle.nc_region.proofs.Offered.{listed_there}
 use Rattle.nc_histories.specs.Interleaving.{writers, ThreadsMay}
 use Rattle.nc_histories.specs.Calls.{KnowsNoMore, StandsFor, HasLedTo, Details, create_events, delete_events}
 use Rattle.nc_histories.specs.Histories.{AreAttempts}
@@ -46,19 +47,10 @@ plain_puts = puts_keep ArePlain (λ at byte more plain. (tt, plain)) (λ more pl
 create_plain : (v : MarkedChunk) → ArePlain (create_events v)
 create_plain v =
     let d : Details = record { marks = v.marks; base = 0; len = 0; seats = 0; spans = [] } in
-    let starts = events_of (record { marks = v.marks; base = 0; len = 0; seats = 0; spans = [] }) (puts_where is_start v.base v.code) in
+    let starts = events_of d (puts_where is_start v.base v.code) in
     subst ArePlain (sym (create_is v))
-    (plain_puts d is_inside v.base v.code
-    (Serializes ∷ Marks v.base v.marks ∷ events_of (record { marks = v.marks; base = 0; len = 0; seats = 0; spans = [] })
-    (puts_where is_start v.base v.code)) (
-      tt,
-      (
-        tt,
-        subst ArePlain (append-nil (events_of (record { marks = v.marks; base = 0; len = 0; seats = 0; spans = [] })
-            (puts_where is_start v.base v.code)))
-            (plain_puts (record { marks = v.marks; base = 0; len = 0; seats = 0; spans = [] }) is_start v.base v.code [] tt),
-      ),
-    ))
+    (plain_puts d is_inside v.base v.code (Serializes ∷ Marks v.base v.marks ∷ starts)
+    (tt, (tt, subst ArePlain (append-nil starts) (plain_puts d is_start v.base v.code [] tt))))
 
 -- the events of a deletion are plain
 delete_plain : (marks : List Mark) (base len : ℕ) → ArePlain (delete_events marks base len)

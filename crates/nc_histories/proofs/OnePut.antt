@@ -9,7 +9,7 @@ use Rattle.nc_decode.specs.declared.instruction.Mark.{Mark}
 use Rattle.nc_text.specs.Places.{InRegion, byte_at, instruction_at}
 use Rattle.nc_text.specs.Machine.{State}
 use Rattle.nc_text.specs.Marks.{IsMarked, Admits, mark_at}
-use Rattle.nc_acts.proofs.Offered.{byte_at_other}
+use Rattle.nc_text.proofs.Offered.{byte_at_other}
 use Rattle.nc_region.specs.schedules.Spans.{RetiredSpan}
 use Rattle.nc_histories.proofs.Good.{Good, KeepsInstruction, Borrowed, good_by_places}
 

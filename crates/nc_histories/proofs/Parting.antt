@@ -18,11 +18,12 @@ use Rattle.nc_list.specs.declared.chunk.ChunkState.{ChunkState}
 use Rattle.nc_list.specs.declared.chunk.ChunkState.TheVariants.{Live, Retired}
 use Rattle.nc_region.specs.schedules.Spans.{RetiredSpan, IsQuiet, IsShut}
 use Rattle.nc_region.proofs.Offered.{shut_if_quiet}
-use Rattle.nc_region.specs.Each.{Each}
+use Rattle.nc_base.specs.Each.{Each}
 use Rattle.nc_region.specs.Quiet.{retired_spans}
 use Rattle.nc_region.specs.Region.{IsLive, IsInChunk, HoldsValid, IsRegion}
 use Rattle.nc_region.specs.machinery.PatchSteps.{Begins}
-use Rattle.nc_region.proofs.Offered.{each_map, all_long, stands_with, some_same, quiet_spans, Here, Earlier, Later, where_is}
+use Rattle.nc_base.proofs.Offered.{each_map, some_same}
+use Rattle.nc_region.proofs.Offered.{all_long, stands_with, quiet_spans, Here, Earlier, Later, where_is}
 use Rattle.nc_histories.specs.Views.{NoneOverlaps, IsFree, AreStopped}
 use Rattle.nc_histories.proofs.Good.{Good, marked_inside, stop_ends}
 use Rattle.nc_histories.proofs.OnePut.{not_unmarked}

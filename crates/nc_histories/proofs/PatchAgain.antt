@@ -13,7 +13,9 @@ use Rattle.nc_vet.specs.Chunk.{Piece, code_of}
 use Rattle.nc_list.specs.declared.chunk.Chunk.{Chunk}
 use Rattle.nc_region.specs.schedules.World.{World}
 use Rattle.nc_region.specs.schedules.Events.{Event, Puts, Serializes}
-use Rattle.nc_region.proofs.Offered.{as_it_stands, some_same, span_before, span_within, lies, changed}
+use Rattle.nc_region.proofs.Offered.{as_it_stands, lies, changed}
+use Rattle.nc_base.proofs.Offered.{some_same}
+use Rattle.nc_text.proofs.Offered.{span_before, span_within}
 use Rattle.nc_acts.specs.Acts.{puts_where}
 use Rattle.nc_region.specs.Patch.{AreBytesOf, any_place, stands_there}
 use Rattle.nc_region.specs.machinery.PatchSteps.{CanPatch}

@@ -12,7 +12,8 @@ use Rattle.nc_region.specs.Patch.{IsPatch, IsPatched, AreBytesOf}
 use Rattle.nc_region.specs.machinery.PatchSteps.{CanPatch}
 use Rattle.nc_region.specs.Quiet.{retired_spans}
 use Rattle.nc_region.specs.Region.{Region, IsRegion}
-use Rattle.nc_region.proofs.Offered.{same_code, changed}
+use Rattle.nc_acts.proofs.Offered.{same_code}
+use Rattle.nc_region.proofs.Offered.{changed}
 use Rattle.nc_histories.specs.Interleaving.{writers, ThreadsMay}
 use Rattle.nc_histories.specs.Calls.{KnowsNoMore, HasLedTo, patch_events}
 use Rattle.nc_histories.specs.Histories.{AreAttempts}

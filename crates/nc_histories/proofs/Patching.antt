@@ -22,13 +22,14 @@ use Rattle.nc_region.specs.schedules.World.{World}
 use Rattle.nc_region.specs.schedules.Events.{Puts, Serializes}
 use Rattle.nc_region.proofs.Offered.{as_it_stands, only_as_it_stands}
 use Rattle.nc_acts.specs.Acts.{is_mark, puts_where}
-use Rattle.nc_acts.proofs.Offered.{byte_at_other}
+use Rattle.nc_text.proofs.Offered.{byte_at_other}
 use Rattle.nc_region.specs.Patch.{AreBytesOf, IsHeldBy, IsPatch, any_place}
 use Rattle.nc_region.specs.machinery.PatchSteps.{Begins, IsReplacing, CanPatch}
 use Rattle.nc_region.specs.Region.{Region, IsLive, IsInChunk, IsRegion}
 use Rattle.nc_region.proofs.Offered.{Changes, changed, changed_holds, changed_text, changes_replace, region_patched}
 use Rattle.nc_region.proofs.Offered.{patch_final, single_span, lies, turn, next_patch, spans_join}
-use Rattle.nc_region.proofs.Offered.{stands_with, some_same, span_none, each_get}
+use Rattle.nc_region.proofs.Offered.{stands_with, span_none}
+use Rattle.nc_base.proofs.Offered.{some_same, each_get}
 use Rattle.nc_histories.specs.Calls.{no_details}
 use Rattle.nc_histories.specs.Views.{IsFree, AreStopped}
 use Rattle.nc_histories.proofs.Deletion.{marked_state}

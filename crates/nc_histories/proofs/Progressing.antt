@@ -1,5 +1,5 @@
 -- In a history, a reclaim frees each chunk whose stamp every seat has passed.
-use Rattle.std.proofs.Common.{◌≡◌, ℕ, ◌+◌, ◌<◌, ◌≤◌, ◌⊎◌, refl, length-append, inl, inr, ⊎_elim, List, [], ◌∷◌, ◌++◌, filter, length, map, sym, ap, subst, arith, append_assoc, ◌∙◌}
+use Rattle.std.proofs.Common.{◌≡◌, ℕ, ◌<◌, ◌≤◌, ◌⊎◌, refl, length-append, inl, inr, ⊎_elim, List, [], ◌∷◌, ◌++◌, filter, length, map, sym, ap, subst, arith, append_assoc, ◌∙◌}
 use Rattle.std.specs.Prelude.{All, Contains}
 use Rattle.std.specs.List.{range_with_len}
 use Rattle.std.proofs.lemmas.List.{append-nil}

@@ -9,9 +9,9 @@ use Rattle.nc_text.specs.Places.{InRegion, byte_at, instruction_at}
 use Rattle.nc_text.specs.Machine.{State}
 use Rattle.nc_text.specs.Marks.{IsMarked}
 use Rattle.nc_text.proofs.Offered.{executes, KeepsBytes, same_instruction}
-use Rattle.nc_acts.proofs.Offered.{byte_at_other}
+use Rattle.nc_text.proofs.Offered.{byte_at_other}
 use Rattle.nc_region.specs.schedules.Spans.{RetiredSpan}
-use Rattle.nc_region.proofs.Offered.{some_same}
+use Rattle.nc_base.proofs.Offered.{some_same}
 use Rattle.nc_histories.proofs.Good.{Good, stop_ends}
 use Rattle.nc_histories.proofs.OnePut.{byte_there, other_clear}
 use Rattle.nc_histories.proofs.StaysWhole.{PutsWhole}

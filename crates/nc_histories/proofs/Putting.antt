@@ -10,7 +10,7 @@ use Rattle.nc_region.proofs.Offered.{allowed_append, after_append, views_after_p
 use Rattle.nc_acts.specs.declared.acts.Act.TheVariants.{Put}
 use Rattle.nc_acts.specs.Acts.{puts_where}
 use Rattle.nc_text.specs.Puts.{HasPut}
-use Rattle.nc_region.proofs.Offered.{put_none, put_more, put_passed}
+use Rattle.nc_text.proofs.Offered.{put_none, put_more, put_passed}
 use Rattle.nc_histories.specs.Calls.{Details}
 use Rattle.nc_histories.proofs.Entries.{events_of}
 use Rattle.nc_histories.proofs.Good.{text_of, Good}

@@ -22,10 +22,12 @@ use Rattle.nc_region.specs.schedules.Events.{IsAllowed, after, world_after}
 use Rattle.nc_region.proofs.Offered.{Keeps, keeps_event}
 use Rattle.nc_acts.specs.Chunks.{HasGoodSpan}
 use Rattle.nc_region.specs.Deletion.{is_due, freed, kept, unmarked, unmarkings}
-use Rattle.nc_region.specs.Each.{Each}
+use Rattle.nc_base.specs.Each.{Each}
 use Rattle.nc_region.specs.Quiet.{with_retired, retired_spans}
 use Rattle.nc_region.specs.Region.{IsLive, IsAscending, IsRegion}
-use Rattle.nc_region.proofs.Offered.{each_map, each_both, each_contains, each_middle, region_freed, ascending_above, same_as_itself}
+use Rattle.nc_base.proofs.Offered.{each_map, each_both, each_contains, each_middle}
+use Rattle.nc_region.proofs.Offered.{region_freed, same_as_itself}
+use Rattle.nc_list.proofs.Offered.{ascending_above}
 use Rattle.nc_histories.specs.Interleaving.{writers, ThreadsMay}
 use Rattle.nc_histories.specs.Calls.{KnowsNoMore, span_from}
 use Rattle.nc_histories.proofs.Entries.{events_of}

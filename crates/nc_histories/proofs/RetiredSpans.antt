@@ -10,10 +10,10 @@ use Rattle.nc_list.specs.declared.chunk.Chunk.{Chunk}
 use Rattle.nc_list.specs.declared.chunk.ChunkState.{ChunkState}
 use Rattle.nc_list.specs.declared.chunk.ChunkState.TheVariants.{Live, Retired}
 use Rattle.nc_region.specs.schedules.Spans.{RetiredSpan}
-use Rattle.nc_region.specs.Each.{Each}
+use Rattle.nc_base.specs.Each.{Each}
 use Rattle.nc_region.specs.Quiet.{with_retired, retired_spans}
 use Rattle.nc_region.specs.Region.{IsLive}
-use Rattle.nc_region.proofs.Offered.{each_contains}
+use Rattle.nc_base.proofs.Offered.{each_contains}
 
 -- one chunk's span, if it is retired, before two lists of spans
 with_append : (c : Chunk) (s : ChunkState) (xs ys : List RetiredSpan) → with_retired c s (xs ++ ys) ≡ with_retired c s xs ++ ys

@@ -14,8 +14,11 @@ use Rattle.nc_acts.specs.Chunks.{HasGoodSpan}
 use Rattle.nc_region.specs.Deletion.{is_due, freed, kept, unmarked, IsDeleted, IsReclaimed}
 use Rattle.nc_region.specs.Patch.{IsPatch, IsPatched, AreBytesOf}
 use Rattle.nc_region.specs.Region.{Region, IsLive, IsRegion, IsCreated}
-use Rattle.nc_region.proofs.Offered.{due_dead, each_get, listed_there, same_code, region_deleted, region_freed, changed}
-use Rattle.nc_region.proofs.Offered.{place_of, Before, Within, Behind, before_span, span_before, span_behind, span_within}
+use Rattle.nc_region.proofs.Offered.{due_dead, listed_there, region_deleted, region_freed, changed}
+use Rattle.nc_base.proofs.Offered.{each_get}
+use Rattle.nc_acts.proofs.Offered.{same_code}
+use Rattle.nc_text.proofs.Offered.{place_of, Before, Within, Behind, span_before, span_behind, span_within}
+use Rattle.nc_acts.proofs.Offered.{before_span}
 use Rattle.nc_histories.proofs.Creation.{created_region}
 use Rattle.nc_histories.proofs.Good.{text_of}
 use Rattle.nc_histories.proofs.Patching.{patch_keeps_region, patch_can, patch_ends}

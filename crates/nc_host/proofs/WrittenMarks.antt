@@ -5,7 +5,7 @@ use Rattle.std.proofs.lemmas.List.{length-map, map-append, length-take-le, take_
 use Rattle.std.proofs.lemmas.Option.{get_or_from_slice_get}
 use Rattle.nc_decode.specs.declared.instruction.Mark.{Mark}
 use Rattle.nc_host_acts.specs.Shown.{over}
-use Rattle.nc_host_acts.proofs.Offered.{over_more}
+use Rattle.nc_base.proofs.Offered.{over_one_more}
 use Rattle.nc_host.specs.Shown.{mark_number}
 
 -- a mark written behind the first ones in a buffer is one more of them
@@ -21,7 +21,7 @@ write_mark marks old now i m here lt is fits =
     ∙ ap (λ (z : Mark). xs ++ mark_number z ∷ []) (get_or_from_slice_get marks i m m here)) in
     ap (λ (z : List ℕ). set z i (mark_number m)) is
     ∙ (ap (λ (k : ℕ). set (over xs old) k (mark_number m)) (sym long)
-    ∙ (over_more xs old (mark_number m) (subst (λ (z : List ℕ). length xs < length z) is (omega (arith, fits, long)))
+    ∙ (over_one_more xs old (mark_number m) (subst (λ (z : List ℕ). length xs < length z) is (omega (arith, fits, long)))
     ∙ ap (λ (z : List ℕ). over z old) (sym more)))
 
 -- a place written behind the first ones in a buffer is one more of them
@@ -32,5 +32,5 @@ write_place places old now i lt is fits =
     let long : length xs ≡ i = length-take-le i places (omega (arith, lt)) in
     ap (λ (z : List ℕ). set z i (get_or places i 0)) is
     ∙ (ap (λ (k : ℕ). set (over xs old) k (get_or places i 0)) (sym long)
-    ∙ (over_more xs old (get_or places i 0) (subst (λ (z : List ℕ). length xs < length z) is (omega (arith, fits, long)))
+    ∙ (over_one_more xs old (get_or places i 0) (subst (λ (z : List ℕ). length xs < length z) is (omega (arith, fits, long)))
     ∙ ap (λ (z : List ℕ). over z old) (sym (take_more places i 0 lt))))

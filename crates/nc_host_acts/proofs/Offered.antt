@@ -1,4 +1,3 @@
 -- What proofs of the crates above may use of this crate: one more element of a buffer, and the entries of two lists of runs. The
 -- other files are private.
-pub use Rattle.nc_host_acts.proofs.writing.Buffers.{over_more}
 pub use Rattle.nc_host_acts.proofs.writing.RunLists.{entries_append}

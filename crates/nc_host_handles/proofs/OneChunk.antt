@@ -9,7 +9,7 @@ use Rattle.nc_vet.specs.Faults.{HasGoodSpan}
 use Rattle.nc_list.specs.declared.chunk.Chunk.{Chunk}
 use Rattle.nc_region.specs.Region.{IsRegion}
 use Rattle.nc_list.proofs.Offered.{ascending_apart}
-use Rattle.nc_region.proofs.Offered.{each_get}
+use Rattle.nc_base.proofs.Offered.{each_get}
 
 -- a later chunk has another base
 later_base : (marked : MarkedText) (chunks : List Chunk) (d : Chunk) → IsRegion marked chunks → (i j : ℕ) → i < j → j < length chunks

@@ -6,7 +6,7 @@ use Rattle.nc_vet.specs.Faults.{HasGoodSpan}
 use Rattle.nc_list.specs.declared.chunk.Chunk.{Chunk}
 use Rattle.nc_region.specs.Region.{Region, IsRegion}
 use Rattle.nc_region.specs.Patch.{IsPatch}
-use Rattle.nc_region.proofs.Offered.{each_get}
+use Rattle.nc_base.proofs.Offered.{each_get}
 use Rattle.nc_host_acts.specs.Standing.{AreBytesAt}
 use Rattle.nc_host_handles.specs.machinery.Window.{HoldsText}
 

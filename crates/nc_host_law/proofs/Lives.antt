@@ -6,7 +6,6 @@ use Rattle.nc_text.specs.Ready.{unmade_pages}
 use Rattle.nc_vet.specs.Chunk.{MarkedChunk, IsValid}
 use Rattle.nc_list.specs.declared.chunk.Chunk.{Chunk}
 use Rattle.nc_acts.specs.declared.acts.Entry.{Entry}
-use Rattle.nc_gens.specs.Seen.{KeeperState}
 use Rattle.nc_region.specs.schedules.Spans.{RetiredSpan}
 use Rattle.nc_region.specs.schedules.World.{World, first_world, seat_at}
 use Rattle.nc_region.specs.schedules.Events.{Exits, Takes, Stores, Frees, Looks, world_after}

@@ -6,7 +6,7 @@ use Rattle.std.proofs.lemmas.List.Elements.{All-append, filter-append}
 use Rattle.nc_gens.specs.declared.view.WordStep.{WordStep}
 use Rattle.nc_gens.specs.Trail.{BeginsWith}
 use Rattle.nc_region.specs.schedules.World.{World, first_world}
-use Rattle.nc_region.specs.schedules.Events.{Event, ThreadMay, after, world_after}
+use Rattle.nc_region.specs.schedules.Events.{Event, ThreadMay, world_after}
 use Rattle.nc_region.proofs.Offered.{after_append}
 use Rattle.nc_histories.specs.Interleaving.{is_writers, writers, IsNoLook, ThreadsMay}
 use Rattle.nc_histories.specs.Steps.{word_step, word_steps}

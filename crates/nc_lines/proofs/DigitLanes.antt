@@ -6,7 +6,7 @@ use lib.Bits.{bit_or}
 use lib.Lanes.{zip2, sel_l, top}
 use Rattle.hex.specs.Hex.{hex_digit_value, pair_value}
 use Rattle.nc_lines.specs.machinery.Digits.{digit_entry, lane_value}
-use Rattle.nc_decode.proofs.Offered.{each_below, each_below-at}
+use Rattle.nc_base.proofs.Offered.{each_below, each_below-at}
 use Rattle.nc_lines.proofs.DigitValues.{read_pair}
 
 -- the test of one byte: a lane's value up to 15 is the byte's

@@ -4,7 +4,7 @@ use Rattle.std.proofs.Common.{refl, sym, ap, ◌∙◌, subst, arith}
 use Rattle.std.proofs.lemmas.Bool.{eqb-true}
 use Rattle.hex.specs.Hex.{hex_digit_value, digit_or_error, pair_value, ◌>>=◌}
 use Rattle.hex.specs.declared.error.FromHexError.{FromHexError}
-use Rattle.nc_decode.proofs.Offered.{each_below, each_below-at}
+use Rattle.nc_base.proofs.Offered.{each_below, each_below-at}
 use Rattle.nc_lines.specs.machinery.Digits.{digit_entry, AreDigitValues}
 use Rattle.nc_lines.specs.declared.words.TheConstants.{VALUES}
 

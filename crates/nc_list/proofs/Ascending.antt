@@ -3,7 +3,7 @@ use Rattle.std.proofs.Common.{◌≡◌, ℕ, zero, suc, ◌+◌, ◌<◌, ◌�
 use Rattle.std.proofs.lemmas.Bool.{cases_lt}
 use Rattle.nc_list.specs.declared.chunk.Chunk.{Chunk}
 use Rattle.nc_list.specs.Chunks.{IsAscending, IsAboveAll, IsBelowAll, Meets}
-use Rattle.nc_list.proofs.EachMember.{each_map, each_get}
+use Rattle.nc_base.proofs.Offered.{each_map, each_get}
 
 -- chunks that ascend from a place ascend from any place below it
 pub ascending_lower : (low from : ℕ) (chunks : List Chunk) → low ≤ from → IsAscending from chunks → IsAscending low chunks

@@ -5,7 +5,7 @@ use Rattle.std.proofs.lemmas.List.{take_at, drop_at, length-append}
 use Rattle.nc_list.specs.declared.chunk.Chunk.{Chunk}
 use Rattle.nc_list.specs.Chunks.{IsAboveAll, IsBelowAll, IsNextChunk, IsRetired, IsInserted, Meets, live}
 use Rattle.nc_list.specs.Parts.{IsPut, BeginAbove, all_of}
-use Rattle.nc_list.proofs.EachMember.{each_append}
+use Rattle.nc_base.proofs.Offered.{each_append}
 use Rattle.nc_list.proofs.Pieces.{all_around}
 use Rattle.nc_list.proofs.Ascending.{meets_rest}
 

@@ -8,7 +8,7 @@ use Rattle.nc_list.specs.declared.chunk.ChunkState.TheVariants.{Retired}
 use Rattle.nc_list.specs.Chunks.{IsAscending, IsAboveAll, IsNextChunk, HasBase, IsRetired, Meets, live}
 use Rattle.nc_list.specs.Stamps.{BeginsAt}
 use Rattle.nc_list.specs.Parts.{IsPut, BeginTo, BeginAbove}
-use Rattle.nc_list.proofs.EachMember.{each_get, each_take_from, each_drop_from}
+use Rattle.nc_base.proofs.Offered.{each_get, each_take_from, each_drop_from}
 use Rattle.nc_list.proofs.Ascending.{ascending_at, ascending_apart, meets_first, meets_rest}
 use Rattle.nc_list.proofs.Pieces.{around, around_set}
 use Rattle.nc_list.proofs.Combining.{above_free}

@@ -2,10 +2,10 @@
 use Rattle.std.proofs.Common.{◌≡◌, ℕ, ◌+◌, ◌-◌, ◌<◌, ◌≤◌, List, [], ◌∷◌, ◌++◌, length, get_or, take, drop, map, refl, sym, ap, ◌∙◌, arith, subst}
 use Rattle.std.proofs.lemmas.List.{length-append, length-take-le, length-drop, take_at, drop_at, take-append-drop}
 use Rattle.nc_list.specs.declared.chunk.Chunk.{Chunk}
-use Rattle.nc_list.specs.Each.{Each}
+use Rattle.nc_base.specs.Each.{Each}
 use Rattle.nc_list.specs.Stamps.{AreSince, BeginsAt}
 use Rattle.nc_list.specs.Parts.{HaveSome, IsRow, AreParted, all_of, starts_of}
-use Rattle.nc_list.proofs.EachMember.{each_append, each_take, each_drop, each_map}
+use Rattle.nc_base.proofs.Offered.{each_append, each_take, each_drop, each_map}
 use Rattle.nc_list.proofs.LowerBounds.{since_both, begins_first}
 use Rattle.nc_list.proofs.Parting.{starts_before}
 use Rattle.nc_list.proofs.Pieces.{all_append, starts_append, starts_more, starts_less, starts_get, starts_low, starts_high}

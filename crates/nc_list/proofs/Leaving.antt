@@ -2,11 +2,11 @@
 use Rattle.std.proofs.Common.{◌≡◌, ℕ, ◌+◌, ◌-◌, ◌<◌, Bool, true, false, List, [], ◌∷◌, ◌++◌, length, get_or, set, refl, sym, ap, ◌∙◌, arith, subst}
 use Rattle.std.proofs.lemmas.List.{length-append}
 use Rattle.nc_list.specs.declared.chunk.Chunk.{Chunk}
-use Rattle.nc_list.specs.Each.{Each}
+use Rattle.nc_base.specs.Each.{Each}
 use Rattle.nc_list.specs.Chunks.{AreTaken, is_due, freed, kept}
 use Rattle.nc_list.specs.Stamps.{IsSince, AreSince, BeginsAt}
 use Rattle.nc_list.specs.Parts.{HaveSome, IsRow, AreTakenFrom, all_of, starts_of}
-use Rattle.nc_list.proofs.EachMember.{each_append, each_split}
+use Rattle.nc_base.proofs.Offered.{each_append, each_split}
 use Rattle.nc_list.proofs.Rows.{begins_all}
 use Rattle.nc_list.proofs.Taking.{taken_from}
 

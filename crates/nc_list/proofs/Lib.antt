@@ -1,4 +1,3 @@
-pub mod EachMember
 pub mod Ascending
 pub mod Pieces
 pub mod Taking

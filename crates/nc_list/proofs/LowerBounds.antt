@@ -6,7 +6,7 @@ use Rattle.nc_list.specs.declared.chunk.ChunkState.{ChunkState}
 use Rattle.nc_list.specs.declared.chunk.ChunkState.TheVariants.{Live, Retired}
 use Rattle.nc_list.specs.Chunks.{is_due, freed}
 use Rattle.nc_list.specs.Stamps.{IsSince, AreSince, BeginsAt}
-use Rattle.nc_list.proofs.EachMember.{each_map, each_append, each_set}
+use Rattle.nc_base.proofs.Offered.{each_map, each_append, each_set}
 
 -- a lower bound of a stamp stays one when lowered
 pub since_below : (low high : ℕ) (s : ChunkState) → low ≤ high → IsSince high s → IsSince low s

@@ -1,7 +1,7 @@
 -- Numbers of a list from an index on, gone over one by one.
 use Rattle.std.proofs.Common.{◌≡◌, ℕ, ◌+◌, ◌-◌, ◌<◌, ◌≤◌, List, [], ◌∷◌, ◌++◌, length, get_or, set, take, drop, map, sym, ap, ◌∙◌, arith, append_assoc, subst}
-use Rattle.nc_list.specs.Each.{Each}
-use Rattle.nc_list.proofs.EachMember.{each_get}
+use Rattle.nc_base.specs.Each.{Each}
+use Rattle.nc_base.proofs.Offered.{each_get}
 use Rattle.std.proofs.lemmas.List.{take_more, map-append, length-drop, get_or-drop, drop-drop, length-set, drop-set-lt, take_more_set}
 
 -- numbers of a list mapped up to the next index are those up to this one, and the one here

@@ -4,9 +4,9 @@ use Rattle.std.specs.List.{insert, remove}
 use Rattle.std.proofs.lemmas.Bool.{cases_lt}
 use Rattle.std.proofs.lemmas.List.{length-append, length-map, length-take-le, take_at, drop_at, take_more_set, drop-set-lt, drop_all, map-append, map-set, take-map, drop-map, get_or-set_same, get_or_default}
 use Rattle.nc_list.specs.declared.chunk.Chunk.{Chunk}
-use Rattle.nc_list.specs.Each.{Each}
+use Rattle.nc_base.specs.Each.{Each}
 use Rattle.nc_list.specs.Parts.{HaveSome, OthersHaveSome, AreParted, all_of, starts_of}
-use Rattle.nc_list.proofs.EachMember.{each_append, each_take, each_drop}
+use Rattle.nc_base.proofs.Offered.{each_append, each_take, each_drop}
 use Rattle.nc_list.proofs.Pieces.{all_append, all_around, around, around_set, starts_append, starts_around, starts_long, starts_get, some_at, part_is}
 
 -- a list with one more element, element by element

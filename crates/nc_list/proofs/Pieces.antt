@@ -3,9 +3,9 @@ use Rattle.std.proofs.Common.{◌≡◌, ℕ, zero, suc, ◌+◌, ◌-◌, ◌<�
 use Rattle.std.proofs.lemmas.List.{length-append, length-map, get_or-map, take_more}
 use Rattle.std.proofs.lemmas.List.Concat.{flat_map-append}
 use Rattle.nc_list.specs.declared.chunk.Chunk.{Chunk}
-use Rattle.nc_list.specs.Each.{Each}
+use Rattle.nc_base.specs.Each.{Each}
 use Rattle.nc_list.specs.Parts.{all_of, starts_of, HaveSome}
-use Rattle.nc_list.proofs.EachMember.{each_map, each_get}
+use Rattle.nc_base.proofs.Offered.{each_map, each_get}
 
 -- the chunks of parts one behind the other
 pub all_append : (xs ys : List (List Chunk)) → all_of (xs ++ ys) ≡ all_of xs ++ all_of ys

@@ -3,11 +3,11 @@ use Rattle.std.proofs.Common.{◌≡◌, ℕ, zero, suc, ◌+◌, ◌-◌, ◌<�
 use Rattle.std.proofs.lemmas.Bool.{cases_lt}
 use Rattle.std.proofs.lemmas.List.{length-append, length-set, drop-set-lt, take-set, get_or-append_right, get_or_default, length-map, take_all}
 use Rattle.nc_list.specs.declared.chunk.Chunk.{Chunk}
-use Rattle.nc_list.specs.Each.{Each}
+use Rattle.nc_base.specs.Each.{Each}
 use Rattle.nc_list.specs.Chunks.{IsAscending, IsAboveAll, HasBase, IsNextChunk, IsRetired, Meets, live}
 use Rattle.nc_list.specs.Stamps.{IsSince, AreSince, BeginsAt}
 use Rattle.nc_list.specs.Parts.{HaveSome, OthersHaveSome, IsRow, IsPut, IsPartFor, BeginAbove, all_of, starts_of}
-use Rattle.nc_list.proofs.EachMember.{each_append, each_take, each_drop, each_get, each_set, each_map, each_in, each_out}
+use Rattle.nc_base.proofs.Offered.{each_append, each_take, each_drop, each_get, each_set, each_map, each_in, each_out}
 use Rattle.nc_list.proofs.Ascending.{ascending_first, ascending_rest, meets_first, meets_rest}
 use Rattle.nc_list.proofs.LowerBounds.{all_below, begins_first}
 use Rattle.nc_list.proofs.Pieces.{all_around, all_more, around, around_set, starts_around, starts_more, starts_less, starts_get, starts_low, starts_high, starts_long, some_at, part_is}

@@ -5,7 +5,7 @@ use Rattle.nc_list.specs.declared.chunk.Chunk.{Chunk}
 use Rattle.nc_list.specs.Chunks.{IsAscending, IsAboveAll}
 use Rattle.nc_list.specs.Stamps.{BeginsAt}
 use Rattle.nc_list.specs.Parts.{BeginAbove, HaveSome, all_of}
-use Rattle.nc_list.proofs.EachMember.{each_map}
+use Rattle.nc_base.proofs.Offered.{each_map}
 use Rattle.nc_list.proofs.Pieces.{around, all_around, part_is, some_at}
 use Rattle.nc_list.proofs.Ascending.{ascending_before, ascending_behind}
 

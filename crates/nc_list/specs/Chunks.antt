@@ -4,7 +4,7 @@ use Rattle.std.specs.List.{insert}
 use Rattle.nc_list.specs.declared.chunk.Chunk.{Chunk}
 use Rattle.nc_list.specs.declared.chunk.ChunkState.{ChunkState}
 use Rattle.nc_list.specs.declared.chunk.ChunkState.TheVariants.{Live, Retired}
-use Rattle.nc_list.specs.Each.{Each}
+use Rattle.nc_base.specs.Each.{Each}
 
 -- the chunks begin at or above this place, in ascending order and without overlap
 abbrev pub IsAscending : ℕ → List Chunk → Type 0

@@ -1,4 +1,3 @@
-pub mod Each
 pub mod Chunks
 pub mod Stamps
 pub mod Entries

@@ -3,7 +3,7 @@ use Rattle.std.specs.Prelude.{◌≡◌, ℕ, ◌≤◌, ⊤, List, [], ◌∷�
 use Rattle.nc_list.specs.declared.chunk.Chunk.{Chunk}
 use Rattle.nc_list.specs.declared.chunk.ChunkState.{ChunkState}
 use Rattle.nc_list.specs.declared.chunk.ChunkState.TheVariants.{Live, Retired}
-use Rattle.nc_list.specs.Each.{Each}
+use Rattle.nc_base.specs.Each.{Each}
 
 -- live, or retired with a stamp of at least this number
 abbrev pub IsSince : ℕ → ChunkState → Type 0

@@ -1,7 +1,7 @@
 //! How many chunks stand before each part of a row.
 
 ghost use Rattle.std.specs.Prelude.{◌≡◌, ◌+◌, ◌-◌, ◌<◌, ◌≤◌, ◌^◌, ◌++◌, ℕ, length, take, drop, map, vec_len, vec_capacity, slice_index_or, IfOk};
-ghost use Rattle.nc_list.specs.Each.{Each};
+ghost use Rattle.nc_base.specs.Each.{Each};
 
 use std::alloc::AllocError;
 

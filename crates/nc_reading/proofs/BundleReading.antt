@@ -8,7 +8,8 @@ use Rattle.nc_decode.specs.declared.instruction.Instr.{Instr}
 use Rattle.nc_decode.specs.Automaton.{next_state, masked_at, LeadsToEnd, Ends}
 use Rattle.nc_decode.specs.Spelling.{IsAtFront}
 use Rattle.nc_decode.specs.Transfers.{is_indirect}
-use Rattle.nc_decode.proofs.Offered.{spells_some, reads_by_states, none_is_paired, next_small, cond_is_true, cond_is_false}
+use Rattle.nc_decode.proofs.Offered.{spells_some, reads_by_states, none_is_paired, next_small}
+use Rattle.nc_base.proofs.Offered.{cond_is_true, cond_is_false}
 use Rattle.nc_vet.specs.States.{states_after, bundle_bytes, AreBundleStates}
 use Rattle.nc_vet.proofs.Offered.{front_cut, length-states_after, bundle_size}
 use Rattle.nc_reading.specs.declared.class.Class.{Class}

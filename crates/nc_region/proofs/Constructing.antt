@@ -19,7 +19,8 @@ use Rattle.nc_list.specs.declared.chunk.Chunk.{Chunk}
 use Rattle.nc_list.specs.declared.chunk.ChunkState.{ChunkState}
 use Rattle.nc_list.specs.declared.chunk.ChunkState.TheVariants.{Live, Retired}
 use Rattle.nc_list.specs.Chunks.{IsAscending, FitsAt, Meets}
-use Rattle.nc_list.proofs.Offered.{each_map, ascending_above}
+use Rattle.nc_base.proofs.Offered.{each_map}
+use Rattle.nc_list.proofs.Offered.{ascending_above}
 use Rattle.nc_acts.specs.declared.acts.Act.TheVariants.{Look}
 use Rattle.nc_acts.specs.Log.{only_acts, log_of_create, log_of_delete}
 use Rattle.nc_region.specs.Region.{Region, IsLive, IsCreated, live_chunk}

@@ -1,20 +1,11 @@
 -- What proofs of the crates above may use of this crate: the law of walks, lemmas on each member of a list, and, for the law of
 -- calls, what stands in the text between the acts of a call and why it is closed; and a region that each call leaves. The
 -- other files are private.
-pub use Rattle.nc_list.proofs.Offered.{each_map, each_both, each_take, each_drop}
-pub use Rattle.nc_list.proofs.Offered.{each_append, each_set, each_get, each_contains, each_from, each_at_set, each_middle}
 pub use Rattle.nc_region.proofs.walking.OneWalk.{one_trace}
-pub use Rattle.nc_acts.proofs.Offered.{IsFinalBut, final_all, final_but_starts}
-pub use Rattle.nc_acts.proofs.Offered.{same_code}
 pub use Rattle.nc_region.proofs.chunks.Inserting.{unused_if_apart, region_with_chunk, region_of_new}
-pub use Rattle.nc_acts.proofs.Offered.{Joins, chunk_joins, chunk_keeps}
 pub use Rattle.nc_region.proofs.chunks.Pieces.{valid_chunk_is_closed, chunk_names_registers}
-pub use Rattle.nc_list.proofs.Offered.{ascending_above}
 pub use Rattle.nc_region.proofs.chunks.Ascending.{ascending_get}
-pub use Rattle.nc_acts.proofs.Offered.{Before, Within, Behind, place_of, unused_is_start, unused_at_start, is_inside_false}
-pub use Rattle.nc_acts.proofs.Offered.{is_start_false, start_or_not, span_within, span_before, before_span, span_behind}
 pub use Rattle.nc_region.proofs.deleting.Deleted.{region_deleted, listed_there}
-pub use Rattle.nc_acts.proofs.Offered.{all_stops, admits_is_mark}
 pub use Rattle.nc_region.proofs.deleting.Due.{due_dead}
 pub use Rattle.nc_region.proofs.deleting.Progress.{freed_from, freed_past, progressed}
 pub use Rattle.nc_region.proofs.deleting.QuietSpans.{quiet_chunks, quiet_spans}
@@ -26,11 +17,8 @@ pub use Rattle.nc_region.proofs.patching.Replacing.{patch_started, patching_from
 pub use Rattle.nc_region.proofs.patching.Replacing.{single_span}
 pub use Rattle.nc_region.proofs.patching.Turns.{turn, next_patch, spans_join, stands_same, same_stands, stands_first}
 pub use Rattle.nc_region.proofs.patching.OneInstruction.{log_of_one}
-pub use Rattle.nc_acts.proofs.Offered.{put_none, put_more, put_passed}
-pub use Rattle.nc_acts.proofs.Offered.{puts_append}
-pub use Rattle.nc_acts.proofs.Offered.{told_logged, deleted_acts}
 pub use Rattle.nc_region.proofs.deleting.Freed.{region_freed}
-pub use Rattle.nc_region.proofs.patching.NewInstructions.{Parted, parted, not_found, none_of_none, slice_rest, some_same, span_none}
+pub use Rattle.nc_region.proofs.patching.NewInstructions.{Parted, parted, not_found, none_of_none, span_none}
 pub use Rattle.nc_region.proofs.patching.Exchanging.{Where, Here, Earlier, Later, where_is}
 pub use Rattle.nc_region.proofs.events.Unmarking.{shut_if_quiet, freed_was}
 pub use Rattle.nc_region.proofs.events.Invariant.{Keeps}

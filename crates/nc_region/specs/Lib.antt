@@ -1,6 +1,5 @@
 pub mod schedules
 pub mod machinery
-pub mod Each
 pub mod Region
 pub mod Quiet
 pub mod Deletion

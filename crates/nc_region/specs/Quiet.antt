@@ -5,7 +5,7 @@ use Rattle.nc_list.specs.declared.chunk.Chunk.{Chunk}
 use Rattle.nc_list.specs.declared.chunk.ChunkState.{ChunkState}
 use Rattle.nc_list.specs.declared.chunk.ChunkState.TheVariants.{Live, Retired}
 pub use Rattle.nc_region.specs.schedules.Spans.{RetiredSpan, IsInSpan, IsWithin, IsQuiet}
-use Rattle.nc_region.specs.Each.{Each}
+use Rattle.nc_base.specs.Each.{Each}
 
 -- these spans, with the chunk's span in front of them if the chunk is retired
 abbrev pub with_retired : Chunk → ChunkState → List RetiredSpan → List RetiredSpan

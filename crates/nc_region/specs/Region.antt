@@ -20,7 +20,7 @@ use Rattle.nc_region.specs.declared.fault.CreateFault.{CreateFault}
 use Rattle.nc_region.specs.declared.fault.CreateFault.TheVariants.{WrongLimit, Occupied, OutOfMemory}
 use Rattle.nc_acts.specs.Chunks.{HasGoodSpan}
 use Rattle.nc_acts.specs.Log.{acts_in}
-use Rattle.nc_region.specs.Each.{Each}
+use Rattle.nc_base.specs.Each.{Each}
 
 -- A region as contracts see it: bytes and marks, which pages are made, the chunks by ascending base, the keeper, and the
 -- entries logged so far, which are acts and serializations

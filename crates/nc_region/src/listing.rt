@@ -3,7 +3,7 @@
 ghost use Rattle.std.specs.Prelude.{◌≡◌, ◌+◌, ◌<◌, ◌^◌, false, IsTrue, IfSome, IfNone, Contains};
 ghost use Rattle.nc_list.specs.declared.chunk.Chunk.{Chunk};
 ghost use Rattle.nc_list.specs.declared.chunk.ChunkState.{ChunkState};
-ghost use Rattle.nc_region.specs.Each.{Each};
+ghost use Rattle.nc_base.specs.Each.{Each};
 ghost use Rattle.nc_region.specs.Deletion.{HasLive};
 ghost use Rattle.nc_region.specs.Region.{IsAscending, IsLive, Meets};
 ghost use Rattle.nc_region.specs.Patch.{IsHeldBy, IsHeld};

@@ -6,7 +6,8 @@ use Rattle.nc_decode.specs.declared.instruction.Instr.{Instr}
 use Rattle.nc_decode.specs.Spelling.{Spells, IsAtFront}
 use Rattle.nc_decode.specs.Front.{first_instruction}
 use Rattle.nc_decode.specs.Transfers.{is_direct, may_transfer, target}
-use Rattle.nc_decode.proofs.Offered.{exact, direct_begins, spells_some, true_or_false}
+use Rattle.nc_decode.proofs.Offered.{exact, direct_begins, spells_some}
+use Rattle.nc_base.proofs.Offered.{true_or_false}
 use Rattle.nc_vet.specs.declared.fault.VetFault.{VetFault}
 use Rattle.nc_vet.specs.declared.fault.VetFault.TheVariants as vet
 use Rattle.nc_reading.specs.declared.class.Class.{Class}

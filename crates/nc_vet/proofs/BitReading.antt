@@ -12,7 +12,8 @@ use Rattle.nc_decode.specs.declared.instruction.Instr.{Instr}
 use Rattle.nc_decode.specs.declared.instruction.Mark.TheVariants.{Unmarked}
 use Rattle.nc_decode.specs.Transfers.{target}
 use Rattle.nc_decode.specs.Spelling.{mask}
-use Rattle.nc_decode.proofs.Offered.{true_or_false, length-marks_in, marks_in-at}
+use Rattle.nc_base.proofs.Offered.{true_or_false}
+use Rattle.nc_decode.proofs.Offered.{length-marks_in, marks_in-at}
 use Rattle.nc_decode.proofs.Offered.{exact, masks_exactly}
 use Rattle.nc_decode.proofs.Offered.{spells_some}
 use Rattle.nc_decode.specs.declared.bundle.Bundle.{Bundle}

@@ -12,7 +12,7 @@ use Rattle.std.proofs.lemmas.List.{length-drop, length-take-le, take_more, get_o
 use Rattle.std.proofs.lemmas.List.{get_or_append_left, get_or-append_right, length-append}
 use Rattle.nc_decode.specs.declared.automaton.TheConstants.{END}
 use Rattle.nc_decode.specs.Automaton.{next_state}
-use Rattle.nc_decode.proofs.Offered.{true_or_false}
+use Rattle.nc_base.proofs.Offered.{true_or_false}
 use Rattle.nc_decode.specs.declared.bundle.Bundle.{Bundle}
 use Rattle.nc_decode.specs.Bits.{no_bits}
 use Rattle.nc_vet.specs.machinery.Running.{run, state_after, state_before, entered, TellsBundle, AreTold, EndsFront}

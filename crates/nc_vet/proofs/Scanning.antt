@@ -14,7 +14,7 @@ use Rattle.nc_decode.specs.declared.instruction.Mark.TheVariants.{Unmarked, Plai
 use Rattle.nc_decode.specs.Automaton.{next_state, masked_at, LeadsToEnd, Ends}
 use Rattle.nc_decode.specs.Transfers.{is_direct, is_indirect}
 use Rattle.nc_decode.proofs.Offered.{spells_some}
-use Rattle.nc_decode.proofs.Offered.{true_or_false, both, cond_is_true, cond_is_false}
+use Rattle.nc_base.proofs.Offered.{true_or_false, both, cond_is_true, cond_is_false}
 use Rattle.nc_decode.proofs.Offered.{reads_by_states, none_is_paired}
 use Rattle.nc_decode.proofs.Offered.{next_small}
 use Rattle.nc_vet.specs.Chunk.{Piece, code_of, place, FollowsMask, mark_of, instr_marks, marks_of}

@@ -7,9 +7,9 @@ use Rattle.nc_decode.specs.declared.instruction.Flow.TheVariants.{Next, Branch, 
 use Rattle.nc_decode.specs.Rows.{Row, PrefixRow, rows, prefix_rows, within, reg_of}
 use Rattle.nc_decode.specs.Rows.{first_rows, later_rows, first_prefix_rows, later_prefix_rows}
 use Rattle.nc_decode.specs.Spelling.{Parts, spelled, IsOperand, AreParts, Allows, masks_of}
-use Rattle.nc_decode.proofs.opcodes.EntriesMatchRows.{each_below, each, same}
-use Rattle.nc_decode.proofs.BoolTests.{both, both_made, not_is, same_made, true_or_false, each_below-at, each-Contains, chosen_true}
-use Rattle.nc_decode.proofs.BoolTests.{chosen_false}
+use Rattle.nc_base.proofs.Offered.{each_below, each, same}
+use Rattle.nc_base.proofs.Offered.{both, both_made, not_is, same_made, true_or_false, each_below-at, each-Contains, chosen_true}
+use Rattle.nc_base.proofs.Offered.{chosen_false}
 use Rattle.nc_decode.proofs.fronts.Masks.{masks_begin}
 
 -- the flow is Next

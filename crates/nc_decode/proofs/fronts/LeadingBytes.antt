@@ -2,7 +2,7 @@
 use Rattle.std.proofs.Common.{◌≡◌, ℕ, ◌<◌, Bool, true, false, List, [], ◌∷◌, ◌++◌, cond, refl, sym, ◌∙◌, ap, arith, inl, inr, nat_lt}
 use Rattle.std.proofs.Common.{append-nil, ltb-true, lt-ltb, zero, suc}
 use Rattle.nc_decode.specs.Front.{leading_bytes}
-use Rattle.nc_decode.proofs.BoolTests.{true_or_false, cond_is_true, cond_is_false}
+use Rattle.nc_base.proofs.Offered.{true_or_false, cond_is_true, cond_is_false}
 use Rattle.nc_decode.proofs.reading.EntryReads.{IsBytes}
 
 -- ---- the leading bytes

@@ -6,7 +6,7 @@ use Rattle.std.proofs.lemmas.Bool.Decides.{nat_tests}
 use Rattle.nc_decode.specs.declared.instruction.Flow.{Flow}
 use Rattle.nc_decode.specs.declared.instruction.Flow.TheVariants.{Next, Branch, Jump, Call, IndirectJump, IndirectCall, Stop}
 use Rattle.nc_decode.specs.Spelling.{mask, masks_of, register_of}
-use Rattle.nc_decode.proofs.BoolTests.{true_or_false}
+use Rattle.nc_base.proofs.Offered.{true_or_false}
 
 -- what masks begins with 83
 pub masks_begin : (xs : List ℕ) → masks_of xs ≢ None → get_or xs 0 0 ≡ 0x83

@@ -15,8 +15,9 @@ use Rattle.nc_decode.specs.machinery.Shapes.{forms_of, permits, entry_shape, sha
 use Rattle.nc_decode.specs.machinery.Shapes.{prefixed_shape, prefix_of}
 use Rattle.nc_decode.specs.Spelling.{spelled, Spells}
 use Rattle.nc_decode.specs.Barred.{overrides, leading, barred_opcodes, barred_escaped, among, first_passes, opens_barred, IsBarred}
-use Rattle.nc_decode.proofs.opcodes.EntriesMatchRows.{prefix_byte, permits_at, each, coded_plain, each_prefix, implies}
-use Rattle.nc_decode.proofs.BoolTests.{true_or_false, both, not_is, implied, chosen_true, chosen_false, cond_true, cond_false, either}
+use Rattle.nc_decode.proofs.opcodes.EntriesMatchRows.{prefix_byte, permits_at, coded_plain, each_prefix}
+use Rattle.nc_base.proofs.Offered.{each, implies}
+use Rattle.nc_base.proofs.Offered.{true_or_false, both, not_is, implied, chosen_true, chosen_false, cond_true, cond_false, either}
 use Rattle.nc_decode.proofs.opcodes.PermittedIsListed.{permits_is, each_prefix-at}
 use Rattle.nc_decode.proofs.reading.EntryReads.{entry_read}
 use Rattle.nc_decode.proofs.reading.PrefixAndOpcode.{plain_is, prefix_is, prefixed_reads, plain_reads, far_plain}

@@ -8,8 +8,8 @@ use Rattle.nc_decode.specs.Rows.{first_rows, later_rows}
 use Rattle.nc_decode.specs.Spelling.{spelled, Spells}
 use Rattle.nc_decode.specs.Front.{BeginsAsTransfer}
 use Rattle.nc_decode.specs.Transfers.{is_direct, may_transfer}
-use Rattle.nc_decode.proofs.opcodes.EntriesMatchRows.{each_below, each, implies}
-use Rattle.nc_decode.proofs.BoolTests.{implied, each_below-at, each-Contains}
+use Rattle.nc_base.proofs.Offered.{each_below, each, implies}
+use Rattle.nc_base.proofs.Offered.{implied, each_below-at, each-Contains}
 use Rattle.nc_decode.proofs.reading.SpelledIsRead.{opcode-lt}
 use Rattle.nc_decode.proofs.reading.SpellingParts.{prefix_at}
 use Rattle.nc_decode.proofs.fronts.FrontLaws.{goes_on_after_prefix}

@@ -4,8 +4,8 @@ use Rattle.std.proofs.lemmas.List.{get_or_default}
 use Rattle.nc_decode.specs.declared.operand.TheConstants.{OPERAND}
 use Rattle.nc_decode.specs.machinery.Shapes.{permits}
 use Rattle.nc_decode.specs.Spelling.{operand_len}
-use Rattle.nc_decode.proofs.opcodes.EntriesMatchRows.{each_below}
-use Rattle.nc_decode.proofs.BoolTests.{each_below-at}
+use Rattle.nc_base.proofs.Offered.{each_below}
+use Rattle.nc_base.proofs.Offered.{each_below-at}
 
 -- the table of operands says the length at each ModRM
 tabled : each_below (λ m. get_or OPERAND m 0 == operand_len m 0) 256 ≡ true

@@ -8,12 +8,13 @@ use Rattle.nc_decode.specs.declared.entry.Prefix.TheVariants.{Absent as Unprefix
 use Rattle.nc_decode.specs.machinery.Entries.{opcode_entry}
 use Rattle.nc_decode.specs.Rows.{Place, anywhere, register, memory, Row, PrefixRow, rows, prefix_rows, within, is_at, reg_of, mod_of}
 use Rattle.nc_decode.specs.machinery.Shapes.{forms_of, escapes, permits, prefix_of}
-use Rattle.nc_decode.proofs.opcodes.EntriesMatchRows.{each_below, some, same, implies, each_prefix, each_form, lists, lines_of, line_lists}
+use Rattle.nc_decode.proofs.opcodes.EntriesMatchRows.{each_prefix, each_form, lists, lines_of, line_lists}
+use Rattle.nc_base.proofs.Offered.{each_below, some, same, implies}
 use Rattle.nc_decode.proofs.opcodes.EntriesMatchRows.{line_form, prefix_byte, allowed_form, allowed_bare, place_at, permits_at, fits_form}
 use Rattle.nc_decode.proofs.opcodes.EntriesMatchRows.{fits_bare, agrees, sound_form, sound_prefix, sound_at, sound_escaped, sound_bare, rows_of}
 use Rattle.nc_decode.proofs.opcodes.EntriesMatchRows.{permits_form, permits_prefix, complete_at, complete, coded_plain}
-use Rattle.nc_decode.proofs.BoolTests.{both, same_is, not_is, implied, each_below-at, each-Contains, found, finds-Contains, both_made}
-use Rattle.nc_decode.proofs.BoolTests.{same_made, chosen_true, chosen_false}
+use Rattle.nc_base.proofs.Offered.{both, same_is, not_is, implied, each_below-at, each-Contains, found, finds-Contains, both_made}
+use Rattle.nc_base.proofs.Offered.{same_made, chosen_true, chosen_false}
 
 -- what an entry permits is listed, by the computed test
 pub sound_at-true : (escaped : Bool) (o : ℕ) → o < 256 → sound_at escaped o ≡ true

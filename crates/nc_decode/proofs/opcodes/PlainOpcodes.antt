@@ -3,8 +3,9 @@ use Rattle.std.proofs.Common.{◌≡◌, ℕ, ◌<◌, Bool, true, false, List, 
 use Rattle.nc_decode.specs.declared.entry.Prefix.TheVariants.{Absent as Unprefixed}
 use Rattle.nc_decode.specs.machinery.Entries.{opcode_entry}
 use Rattle.nc_decode.specs.machinery.Shapes.{prefix_of, forms_of, entry_shape, shape_of}
-use Rattle.nc_decode.proofs.opcodes.EntriesMatchRows.{each_below, coded_plain}
-use Rattle.nc_decode.proofs.BoolTests.{each_below-at, chosen_false, both, not_is}
+use Rattle.nc_decode.proofs.opcodes.EntriesMatchRows.{coded_plain}
+use Rattle.nc_base.proofs.Offered.{each_below}
+use Rattle.nc_base.proofs.Offered.{each_below-at, chosen_false, both, not_is}
 use Rattle.nc_decode.proofs.reading.PrefixAndOpcode.{plain_is, header_read}
 
 -- the byte is no prefix and no escape

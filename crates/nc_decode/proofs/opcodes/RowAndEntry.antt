@@ -14,8 +14,9 @@ use Rattle.nc_decode.specs.machinery.Shapes.{coded_len, flow_of, reg_if}
 use Rattle.nc_decode.specs.Spelling.{number_len, displacement, register_of}
 use Rattle.nc_decode.specs.machinery.Reading.{rel_of}
 use Rattle.nc_decode.specs.Transfers.{is_indirect}
-use Rattle.nc_decode.proofs.opcodes.EntriesMatchRows.{same, agrees, prefix_byte, row_kind, coded_kind, flow_number}
-use Rattle.nc_decode.proofs.BoolTests.{both, same_is}
+use Rattle.nc_decode.proofs.opcodes.EntriesMatchRows.{agrees, prefix_byte, row_kind, coded_kind, flow_number}
+use Rattle.nc_base.proofs.Offered.{same}
+use Rattle.nc_base.proofs.Offered.{both, same_is}
 
 -- what it means that a row and an entry agree after a prefix, for this reg field
 pub record Agreed (p : Prefix) (e : Entry) (reg : ℕ) (row : Row) : Type 0 where

@@ -13,9 +13,10 @@ use Rattle.nc_decode.specs.Rows.{mod_of, reg_of}
 use Rattle.nc_decode.specs.machinery.Shapes.{forms_of, permits, has_sib, sized_operand, ◌>>=◌, operand_shape, entry_shape, shape_of}
 use Rattle.nc_decode.specs.machinery.Shapes.{escapes, escaped_shape, opcode_shape, prefixed_shape, prefix_of}
 use Rattle.nc_decode.specs.Spelling.{operand_len}
-use Rattle.nc_decode.proofs.opcodes.EntriesMatchRows.{permits_at, each_below, each_prefix, some}
-use Rattle.nc_decode.proofs.BoolTests.{true_or_false, each_below-at, both, not_is, chosen_true, chosen_false, cond_is_true, cond_is_false}
-use Rattle.nc_decode.proofs.BoolTests.{cond_true, cond_false}
+use Rattle.nc_decode.proofs.opcodes.EntriesMatchRows.{permits_at, each_prefix}
+use Rattle.nc_base.proofs.Offered.{each_below, some}
+use Rattle.nc_base.proofs.Offered.{true_or_false, each_below-at, both, not_is, chosen_true, chosen_false, cond_is_true, cond_is_false}
+use Rattle.nc_base.proofs.Offered.{cond_true, cond_false}
 use Rattle.nc_decode.proofs.opcodes.PermittedIsListed.{permits_is, each_prefix-at}
 use Rattle.nc_decode.proofs.reading.EntryReads.{IsBytes, shape_alone, formed_shape}
 use Rattle.nc_decode.proofs.reading.SpellingParts.{operand_formed}

@@ -10,7 +10,7 @@ use Rattle.nc_decode.specs.declared.instruction.DecodeFault.TheVariants.{Truncat
 use Rattle.nc_decode.specs.Rows.{mod_of, rm_of}
 use Rattle.nc_decode.specs.machinery.Shapes.{has_sib, sized_operand}
 use Rattle.nc_decode.specs.Spelling.{operand_len, displacement_len}
-use Rattle.nc_decode.proofs.BoolTests.{true_or_false, cond_true, cond_false}
+use Rattle.nc_base.proofs.Offered.{true_or_false, cond_true, cond_false}
 use Rattle.nc_decode.proofs.reading.EntryReads.{IsBytes}
 
 -- ---- the length of an operand

@@ -10,7 +10,7 @@ use Rattle.nc_decode.specs.declared.entry.Prefix.TheVariants.{Absent as Unprefix
 use Rattle.nc_decode.specs.machinery.Entries.{opcode_entry}
 use Rattle.nc_decode.specs.machinery.Shapes.{prefix_of, entry_shape, escapes, escaped_shape, opcode_shape, prefixed_shape, shape_of}
 use Rattle.nc_decode.proofs.opcodes.EntriesMatchRows.{prefix_byte, coded_plain}
-use Rattle.nc_decode.proofs.BoolTests.{true_or_false}
+use Rattle.nc_base.proofs.Offered.{true_or_false}
 
 -- the opcode's bytes, and those in front of the operand
 abbrev pub code : Bool → ℕ → List ℕ

@@ -15,7 +15,7 @@ use Rattle.nc_decode.specs.machinery.Shapes.{◌>>=◌, shape_of}
 use Rattle.nc_decode.specs.Spelling.{spelled, Spells, IsProperFront, IsAtFront}
 use Rattle.nc_decode.specs.machinery.Reading.{whole_of, reading}
 use Rattle.nc_decode.proofs.opcodes.EntriesMatchRows.{prefix_byte}
-use Rattle.nc_decode.proofs.BoolTests.{true_or_false, cond_is_true, cond_is_false, cond_true, cond_false}
+use Rattle.nc_base.proofs.Offered.{true_or_false, cond_is_true, cond_is_false, cond_true, cond_false}
 use Rattle.nc_decode.proofs.reading.PrefixAndOpcode.{code, header}
 use Rattle.nc_decode.proofs.reading.EntryReads.{IsBytes, bind_ok}
 use Rattle.nc_decode.proofs.reading.ReadIsSpelled.{instr_at, shape_spells}

@@ -13,8 +13,9 @@ use Rattle.nc_decode.specs.Rows.{PrefixRow, prefix_rows}
 use Rattle.nc_decode.specs.Rows.{first_prefix_rows, later_prefix_rows}
 use Rattle.nc_decode.specs.machinery.Shapes.{forms_of, permits, has_sib, sized_operand, ◌>>=◌, operand_shape, entry_shape, escapes}
 use Rattle.nc_decode.specs.Spelling.{operand_len, displacement_len, Parts, spelled, Allows, AreParts}
-use Rattle.nc_decode.proofs.opcodes.EntriesMatchRows.{prefix_byte, each}
-use Rattle.nc_decode.proofs.BoolTests.{true_or_false, each-Contains, cond_is_true, cond_is_false, either}
+use Rattle.nc_decode.proofs.opcodes.EntriesMatchRows.{prefix_byte}
+use Rattle.nc_base.proofs.Offered.{each}
+use Rattle.nc_base.proofs.Offered.{true_or_false, each-Contains, cond_is_true, cond_is_false, either}
 use Rattle.nc_decode.proofs.reading.PrefixAndOpcode.{code, header, Stands, plain_is}
 use Rattle.nc_decode.proofs.reading.EntryReads.{shape_alone, formed_shape}
 use Rattle.nc_decode.proofs.opcodes.PermittedIsListed.{opcode_stands}

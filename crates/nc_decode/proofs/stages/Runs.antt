@@ -10,8 +10,8 @@ use Rattle.nc_decode.specs.Automaton.{next_state, masked_at, LeadsToEnd, Ends, R
 use Rattle.nc_decode.specs.machinery.Reading.{reading}
 use Rattle.nc_decode.specs.Spelling.{Spells, masks_of}
 use Rattle.nc_decode.specs.Transfers.{is_direct, is_indirect}
-use Rattle.nc_decode.proofs.opcodes.EntriesMatchRows.{each_below}
-use Rattle.nc_decode.proofs.BoolTests.{each_below-at, both, not_is}
+use Rattle.nc_base.proofs.Offered.{each_below}
+use Rattle.nc_base.proofs.Offered.{each_below-at, both, not_is}
 use Rattle.nc_decode.proofs.reading.SpelledIsRead.{bytes_from_all}
 use Rattle.nc_decode.proofs.reading.Readings.{reading_spells}
 use Rattle.nc_decode.proofs.fronts.Masks.{mask_masks}

@@ -21,7 +21,7 @@ use Rattle.nc_decode.specs.machinery.Shapes.{◌>>=◌, forms_of, coded_len, per
 use Rattle.nc_decode.specs.machinery.Shapes.{escaped_shape, opcode_shape, shape_of}
 use Rattle.nc_decode.specs.Spelling.{operand_len}
 use Rattle.nc_decode.specs.Transfers.{is_direct, is_indirect}
-use Rattle.nc_decode.proofs.BoolTests.{both, true_or_false, cond_is_true, cond_is_false}
+use Rattle.nc_base.proofs.Offered.{both, true_or_false, cond_is_true, cond_is_false}
 use Rattle.nc_decode.proofs.reading.ReadIsSpelled.{instr_at}
 use Rattle.nc_decode.proofs.reading.Readings.{reads_whole}
 use Rattle.nc_decode.proofs.stages.Stages.{Ended, plain, masked, by_short, by_near, paired, Stage, dead, prefixed, escaped, operand, masking}

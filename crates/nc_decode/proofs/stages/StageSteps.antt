@@ -19,9 +19,10 @@ use Rattle.nc_decode.specs.Rows.{reg_of}
 use Rattle.nc_decode.specs.machinery.Shapes.{prefix_of, forms_of, coded_len, permits, flow_of, reg_if, sized_operand, operand_shape}
 use Rattle.nc_decode.specs.machinery.Shapes.{entry_shape, escapes, escaped_shape, opcode_shape, prefixed_shape, shape_of}
 use Rattle.nc_decode.specs.Transfers.{is_direct, is_indirect}
-use Rattle.nc_decode.proofs.opcodes.EntriesMatchRows.{each_below, coded_kind, each_prefix}
-use Rattle.nc_decode.proofs.BoolTests.{both, not_is, true_or_false, either, chosen_true, chosen_false, cond_is_true, cond_is_false}
-use Rattle.nc_decode.proofs.BoolTests.{each_below-at}
+use Rattle.nc_decode.proofs.opcodes.EntriesMatchRows.{coded_kind, each_prefix}
+use Rattle.nc_base.proofs.Offered.{each_below}
+use Rattle.nc_base.proofs.Offered.{both, not_is, true_or_false, either, chosen_true, chosen_false, cond_is_true, cond_is_false}
+use Rattle.nc_base.proofs.Offered.{each_below-at}
 use Rattle.nc_decode.proofs.reading.EntryReads.{shape_alone}
 use Rattle.nc_decode.proofs.reading.PrefixAndOpcode.{far_plain, plain_shape}
 use Rattle.nc_decode.proofs.opcodes.PermittedIsListed.{each_prefix-at}

@@ -16,8 +16,8 @@ use Rattle.nc_decode.specs.machinery.Entries.{opcode_entry}
 use Rattle.nc_decode.specs.Rows.{mod_of, reg_of}
 use Rattle.nc_decode.specs.machinery.Shapes.{prefix_of, prefix_index, forms_of, coded_len, permits, has_sib, escapes}
 use Rattle.nc_decode.specs.Spelling.{operand_len}
-use Rattle.nc_decode.proofs.opcodes.EntriesMatchRows.{each, each_below}
-use Rattle.nc_decode.proofs.BoolTests.{both, true_or_false, chosen_true, chosen_false, each_below-at}
+use Rattle.nc_base.proofs.Offered.{each, each_below}
+use Rattle.nc_base.proofs.Offered.{both, true_or_false, chosen_true, chosen_false, each_below-at}
 
 -- what has just been read
 pub data Ended : Type 0 where

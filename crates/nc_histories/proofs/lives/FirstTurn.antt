@@ -19,7 +19,8 @@ use Rattle.nc_region.specs.schedules.Events.{Event, Enters, Puts, Serializes, Ma
 use Rattle.nc_acts.specs.declared.acts.Act.TheVariants.{Put}
 use Rattle.nc_acts.specs.Acts.{puts_where, is_inside, is_start}
 use Rattle.nc_region.specs.Region.{Region, IsCreated, live_chunk}
-use Rattle.nc_region.proofs.Offered.{after_append, start_or_not, is_inside_false}
+use Rattle.nc_region.proofs.Offered.{after_append}
+use Rattle.nc_acts.proofs.Offered.{start_or_not, is_inside_false}
 use Rattle.nc_histories.specs.Interleaving.{writers, ThreadsMay}
 use Rattle.nc_histories.specs.Calls.{Details, no_details, create_events}
 use Rattle.nc_histories.specs.Histories.{NoneYet, Creates, Turn, IsTurn}

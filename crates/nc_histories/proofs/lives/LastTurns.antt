@@ -23,7 +23,8 @@ use Rattle.nc_region.specs.schedules.Events.{Event, Steps, Exits, Takes, Stores,
 use Rattle.nc_acts.specs.declared.acts.Entry.{Entry}
 use Rattle.nc_region.specs.Region.{Region, live_chunk}
 use Rattle.nc_region.specs.Deletion.{IsDeleted, IsReclaimed}
-use Rattle.nc_region.proofs.Offered.{after_append, same_code, deleted_region, deleted_at, reclaimed_region, reclaimed_exists}
+use Rattle.nc_region.proofs.Offered.{after_append, deleted_region, deleted_at, reclaimed_region, reclaimed_exists}
+use Rattle.nc_acts.proofs.Offered.{same_code}
 use Rattle.nc_histories.specs.Interleaving.{is_writers, writers, IsNoLook, ThreadsMay}
 use Rattle.nc_histories.specs.Calls.{delete_events, reclaim_events}
 use Rattle.nc_histories.specs.Histories.{NoneYet, Deletes, Reclaims, Turn, IsTurn, AreTurns}

@@ -9,7 +9,7 @@ use Rattle.nc_acts.specs.declared.acts.Entry.{Entry}
 use Rattle.nc_acts.specs.declared.acts.Entry.TheVariants.{Did}
 use Rattle.nc_acts.specs.Acts.{puts_where, is_start, is_inside}
 use Rattle.nc_acts.specs.Log.{only_acts}
-use Rattle.nc_region.proofs.Offered.{is_start_false}
+use Rattle.nc_acts.proofs.Offered.{is_start_false}
 use Rattle.nc_host_acts.specs.declared.act.NcAct.{NcAct}
 use Rattle.nc_host_acts.specs.Shown.{act_of}
 use Rattle.nc_host_acts.specs.Written.{AddsEntries}

@@ -7,7 +7,7 @@ use Rattle.nc_decode.specs.Bits.{mark_bit}
 use Rattle.nc_acts.specs.Acts.{is_start, is_inside, is_mark}
 use Rattle.nc_decode.specs.declared.instruction.Mark.{Mark}
 use Rattle.nc_acts.proofs.Offered.{bit_is_mark}
-use Rattle.nc_region.proofs.Offered.{is_start_false}
+use Rattle.nc_acts.proofs.Offered.{is_start_false}
 use Rattle.nc_host_acts.specs.machinery.Writing.{mark_if, marks_if}
 
 -- whether a place is marked, by its mark

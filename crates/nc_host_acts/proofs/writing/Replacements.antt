@@ -10,7 +10,8 @@ use Rattle.nc_acts.specs.declared.acts.Entry.TheVariants.{Did, Serialized}
 use Rattle.nc_acts.specs.Acts.{puts_where}
 use Rattle.nc_acts.specs.Log.{only_acts}
 use Rattle.nc_region.specs.Patch.{any_place, stands_there, log_of_instruction, log_of_patch}
-use Rattle.nc_region.proofs.Offered.{Parted, slice_rest}
+use Rattle.nc_region.proofs.Offered.{Parted}
+use Rattle.nc_base.proofs.Offered.{slice_rest}
 use Rattle.nc_host_acts.specs.declared.act.NcAct.{NcAct}
 use Rattle.nc_host_acts.specs.Written.{AddsEntries}
 use Rattle.nc_host_acts.specs.machinery.Writing.{HasPutUpTo}

@@ -18,7 +18,7 @@ use Rattle.nc_host_acts.specs.declared.runs.Places.{Places}
 use Rattle.nc_host_acts.specs.declared.runs.Places.TheVariants.{Inside, Starts, Marked, Unmarked}
 use Rattle.nc_host_acts.specs.Runs.{Run, PutRun, StopRun, puts_by_bits, entries_of, entries_in, bits_where, bits_at, runs_where}
 use Rattle.nc_host_acts.specs.machinery.Running.{picks, bytes_for, run_at, AreBits, HasBits}
-use Rattle.nc_region.proofs.Offered.{puts_append}
+use Rattle.nc_acts.proofs.Offered.{puts_append}
 
 -- the puts that the bits of some places choose
 pub by_bits : (chosen : ℕ → Bool) (at n bits : ℕ) (bytes : List ℕ) → AreBits chosen at n bits → length bytes ≤ n

@@ -14,7 +14,7 @@ use Rattle.nc_host_acts.specs.declared.act.NcAct.{NcAct}
 use Rattle.nc_host_acts.specs.declared.runs.Places.{Places}
 use Rattle.nc_host_acts.specs.Runs.{Run, run_of, entries_of, bits_at, runs_where, HasRuns}
 use Rattle.nc_host_acts.specs.machinery.Running.{picks, bytes_for, run_at, HasBits, AddsRuns, HasRunUpTo}
-use Rattle.nc_host_acts.proofs.writing.Buffers.{over_more}
+use Rattle.nc_base.proofs.Offered.{over_one_more}
 use Rattle.nc_host_acts.proofs.writing.RunLists.{bundle_more, bytes_long, entries_append, run_entries, bits_bundle, runs_more}
 
 -- a run written behind the first ones of a buffer is one more of them
@@ -25,7 +25,7 @@ write_run start now count base code runs log r h lt =
     let long : length (map run_of runs) ≡ count = length-map runs run_of ∙ sym h.counted in
     record {
       buffer = rw (h.buffer, sym long, map-append run_of runs (r ∷ []))
-          (over_more (map run_of runs) start (run_of r)
+          (over_one_more (map run_of runs) start (run_of r)
           (subst (λ (z : List NcAct). length (map run_of runs) < length z) h.buffer (omega (arith, lt, long))));
       counted = omega (arith, h.counted, length-append runs (r ∷ []));
       entries = entries_append base code runs (r ∷ [])

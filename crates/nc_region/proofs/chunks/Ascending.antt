@@ -3,8 +3,9 @@ use Rattle.std.proofs.Common.{◌≡◌, ℕ, zero, suc, ◌+◌, ◌<◌, ◌�
 use Rattle.std.proofs.lemmas.List.Elements.{Contains-append_right}
 use Rattle.nc_list.specs.declared.chunk.Chunk.{Chunk}
 use Rattle.nc_list.specs.Chunks.{IsNextChunk}
-use Rattle.nc_list.proofs.Offered.{each_map, each_append, each_contains, ascending_above, ascending_rest, meets_rest}
-use Rattle.nc_region.specs.Each.{Each}
+use Rattle.nc_base.proofs.Offered.{each_map, each_append, each_contains}
+use Rattle.nc_list.proofs.Offered.{ascending_above, ascending_rest, meets_rest}
+use Rattle.nc_base.specs.Each.{Each}
 use Rattle.nc_region.specs.Region.{IsInChunk, IsAscending, IsAboveAll, Meets}
 
 -- each of the chunks that ascend from a place lies above it

@@ -11,13 +11,13 @@ use Rattle.nc_text.specs.MarkedText.{MarkedText, IsText, unused_mark}
 use Rattle.nc_text.proofs.Offered.{new_is_text, length-with_span}
 use Rattle.nc_vet.specs.Chunk as vet
 use Rattle.nc_list.specs.declared.chunk.Chunk.{Chunk}
-use Rattle.nc_list.proofs.Offered.{each_map, each_both, each_take, each_drop, each_append, each_split}
+use Rattle.nc_base.proofs.Offered.{each_map, each_both, each_take, each_drop, each_append, each_split}
 use Rattle.nc_acts.specs.Chunks.{HasGoodSpan, IsClosedChunk, with_chunk}
 use Rattle.nc_acts.specs.Chunks.{IsUnused}
-use Rattle.nc_region.specs.Each.{Each}
+use Rattle.nc_base.specs.Each.{Each}
 use Rattle.nc_region.specs.Region.{IsNew, IsLive, IsInChunk, IsAscending, HoldsValid, IsRegion, IsAboveAll, IsBelowAll}
 use Rattle.nc_region.proofs.chunks.AgreesOutside.{AgreesOutside, still_holds}
-use Rattle.nc_acts.proofs.Offered.{place_of, Before, Within, Behind, span_before, span_within, span_behind}
+use Rattle.nc_text.proofs.Offered.{place_of, Before, Within, Behind, span_before, span_within, span_behind}
 
 -- what holds of each member of a list with an element inserted holds of the element and of each member of the list
 each_but : {X : Type 0} (P : X → Type 0) (xs : List X) (k : ℕ) (x : X) → Each P (insert xs k x) → P x × Each P xs

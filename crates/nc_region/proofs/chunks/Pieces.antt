@@ -15,9 +15,9 @@ use Rattle.nc_text.specs.MarkedText.{NamesRegister}
 use Rattle.nc_vet.specs.Chunk.{Piece, code_of, place}
 use Rattle.nc_vet.specs.Chunk as vet
 use Rattle.nc_vet.proofs.Offered.{place-push}
-use Rattle.nc_list.proofs.Offered.{each_append, each_replicate, each_get}
+use Rattle.nc_base.proofs.Offered.{each_append, each_replicate, each_get}
 use Rattle.nc_acts.specs.Chunks.{HasGoodSpan, IsClosedChunk}
-use Rattle.nc_region.specs.Each.{Each}
+use Rattle.nc_base.specs.Each.{Each}
 use Rattle.nc_region.proofs.chunks.Instructions.{IsReading, NoneCrosses, FollowsMask, PairsHold, IsDirect, IsIndirect, BeginsAt, IsTarget}
 use Rattle.nc_region.proofs.chunks.Instructions.{TargetsHold, IsValid, mark_by, marks_of}
 use Rattle.nc_region.proofs.chunks.Sound.{valid_is_closed}

@@ -4,8 +4,8 @@ use Rattle.std.proofs.Common.{arith, subst, inl, get_or, not, Contains}
 use Rattle.std.specs.List.{insert}
 use Rattle.nc_text.specs.Ready.{IsReady, AreReady, GetsReady}
 use Rattle.nc_list.specs.declared.chunk.Chunk.{Chunk}
-use Rattle.nc_list.proofs.Offered.{each_map, each_append, each_take, each_drop, each_set, each_get}
-use Rattle.nc_region.specs.Each.{Each}
+use Rattle.nc_base.proofs.Offered.{each_map, each_append, each_take, each_drop, each_set, each_get}
+use Rattle.nc_base.specs.Each.{Each}
 use Rattle.nc_region.specs.Region.{AreChunksReady}
 use Rattle.nc_region.specs.Deletion.{kept, is_due}
 

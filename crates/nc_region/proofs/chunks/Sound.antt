@@ -22,7 +22,8 @@ use Rattle.nc_acts.specs.Chunks.{IsClosedChunk}
 use Rattle.nc_region.proofs.chunks.Instructions.{IsValid, IsReading, NoneCrosses, FollowsMask, PairsHold, IsDirect, IsIndirect, BeginsAt}
 use Rattle.nc_region.proofs.chunks.Instructions.{IsTarget, mark_by, marks_of}
 use Rattle.nc_region.proofs.chunks.Offsets.{Stands, stands_at, marks_long, marks_behind}
-use Rattle.nc_acts.proofs.Offered.{place_of, Before, Within, Behind, span_before, span_within, span_behind, unused_at_start}
+use Rattle.nc_text.proofs.Offered.{place_of, Before, Within, Behind, span_before, span_within, span_behind}
+use Rattle.nc_acts.proofs.Offered.{unused_at_start}
 
 -- an instruction of the chunk stands in the text with the chunk
 instruction_in : (text code : List ℕ) (base k : ℕ) (i : Instr) → 65536 ≤ base → base + length code ≤ 65536 + length text

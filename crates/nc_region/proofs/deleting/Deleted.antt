@@ -14,16 +14,16 @@ use Rattle.nc_text.proofs.Offered.{length-with_span}
 use Rattle.nc_list.specs.declared.chunk.Chunk.{Chunk}
 use Rattle.nc_list.specs.declared.chunk.ChunkState.TheVariants.{Live, Retired}
 use Rattle.nc_list.specs.Chunks.{IsRetired}
-use Rattle.nc_list.proofs.Offered.{each_get, each_set, each_set_but, each_at_set, each_unset}
+use Rattle.nc_base.proofs.Offered.{each_get, each_set, each_set_but, each_at_set, each_unset}
 use Rattle.nc_acts.specs.Chunks.{HasGoodSpan}
-use Rattle.nc_region.specs.Each.{Each}
+use Rattle.nc_base.specs.Each.{Each}
 use Rattle.nc_gens.specs.Seen.{HasRaised}
 use Rattle.nc_acts.specs.Acts.{acts_of_delete}
 use Rattle.nc_acts.specs.Log.{Logs, log_of_delete}
 use Rattle.nc_region.specs.Deletion.{IsDeleted}
 use Rattle.nc_region.specs.Region.{Region, IsLive, IsInChunk, IsAscending, HoldsValid, IsRegion}
 use Rattle.nc_region.proofs.chunks.AgreesOutside.{AgreesOutside, LiesBeside, still_holds}
-use Rattle.nc_acts.proofs.Offered.{place_of, Before, Within, Behind, span_within, span_before, span_behind}
+use Rattle.nc_text.proofs.Offered.{place_of, Before, Within, Behind, span_within, span_before, span_behind}
 use Rattle.nc_list.proofs.Offered.{ascending_apart}
 use Rattle.nc_acts.proofs.Offered.{told_logged, deleted_acts}
 

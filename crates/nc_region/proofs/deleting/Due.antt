@@ -9,7 +9,7 @@ use Rattle.nc_acts.specs.declared.acts.Act.TheVariants.{Look}
 use Rattle.nc_acts.specs.declared.acts.Entry.{Entry}
 use Rattle.nc_acts.specs.declared.acts.Entry.TheVariants.{Did}
 use Rattle.nc_acts.specs.Chunks.{HasGoodSpan}
-use Rattle.nc_region.specs.Each.{Each}
+use Rattle.nc_base.specs.Each.{Each}
 use Rattle.nc_region.specs.Region.{Region, IsLive, IsAscending, told}
 use Rattle.nc_gens.specs.Seen.{HasLooked, least_number}
 use Rattle.nc_acts.specs.Log.{Logs, only_acts}

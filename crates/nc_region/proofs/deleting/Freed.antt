@@ -3,15 +3,16 @@ use Rattle.std.proofs.Common.{ℕ, ◌+◌, ◌≤◌, List, [], ◌∷◌, ◌+
 use Rattle.nc_text.specs.Places.{limit_of}
 use Rattle.nc_text.specs.MarkedText.{MarkedText, without_marks}
 use Rattle.nc_list.specs.declared.chunk.Chunk.{Chunk}
-use Rattle.nc_list.proofs.Offered.{each_map, each_both, each_middle, each_out, each_in, ascending_lower, ascending_above}
+use Rattle.nc_base.proofs.Offered.{each_map, each_both, each_middle, each_out, each_in}
+use Rattle.nc_list.proofs.Offered.{ascending_lower, ascending_above}
 use Rattle.nc_acts.specs.Chunks.{HasGoodSpan}
-use Rattle.nc_region.specs.Each.{Each}
+use Rattle.nc_base.specs.Each.{Each}
 use Rattle.nc_region.specs.Quiet.{RetiredSpan, IsQuiet}
 use Rattle.nc_region.specs.Region.{IsLive, IsInChunk, IsAscending, HoldsValid, IsRegion}
 use Rattle.nc_region.proofs.chunks.AgreesOutside.{AgreesOutside, LiesBeside, still_holds}
 use Rattle.nc_region.proofs.events.Unmarking.{shut_if_quiet, MayFree, freed_within, freed_before, freed_behind, freed_long, freed_closed}
 use Rattle.nc_region.proofs.deleting.QuietSpans.{quiet_chunks}
-use Rattle.nc_acts.proofs.Offered.{place_of, Before, Within, Behind}
+use Rattle.nc_text.proofs.Offered.{place_of, Before, Within, Behind}
 
 -- a list is ascending without one of its chunks
 ascending_without : (from : ℕ) (before after : List Chunk) (c : Chunk) → IsAscending from (before ++ c ∷ after)

@@ -10,14 +10,16 @@ use Rattle.nc_text.proofs.Offered.{no_step_from_stop, step_borrowed, marked_with
 use Rattle.nc_list.specs.declared.chunk.Chunk.{Chunk}
 use Rattle.nc_list.specs.declared.chunk.ChunkState.{ChunkState}
 use Rattle.nc_list.specs.declared.chunk.ChunkState.TheVariants.{Live, Retired}
-use Rattle.nc_list.proofs.Offered.{each_map, each_both, ascending_above}
+use Rattle.nc_base.proofs.Offered.{each_map, each_both}
+use Rattle.nc_list.proofs.Offered.{ascending_above}
 use Rattle.nc_acts.specs.Chunks.{HasGoodSpan, IsClosedChunk}
-use Rattle.nc_region.specs.Each.{Each}
+use Rattle.nc_base.specs.Each.{Each}
 use Rattle.nc_region.specs.Quiet.{RetiredSpan, IsQuiet, with_retired, retired_spans, AreQuiet}
 use Rattle.nc_region.specs.Region.{IsLive, IsInChunk, IsAscending, HoldsValid, IsRegion}
 use Rattle.nc_acts.proofs.Offered.{alone, alone_fits_bytes, alone_within, alone_before, alone_behind, alone_bytes_long, alone_marks_long}
 use Rattle.nc_region.proofs.chunks.Pieces.{valid_chunk_is_closed}
-use Rattle.nc_acts.proofs.Offered.{place_of, Before, Within, Behind, span_within, unused_is_start, within_span}
+use Rattle.nc_text.proofs.Offered.{place_of, Before, Within, Behind, span_within}
+use Rattle.nc_acts.proofs.Offered.{unused_is_start, within_span}
 
 -- a place is in a live chunk, of which P holds, or in none
 data Held (P : Chunk → Type 0) (chunks : List Chunk) (at : ℕ) : Type 0 where

@@ -10,7 +10,8 @@ use Rattle.nc_text.specs.MarkedText.{MarkedText, without_marks, unused_mark, unu
 use Rattle.nc_text.proofs.Offered.{no_step_from_stop, plain_is_marked, length-with_span}
 use Rattle.nc_region.specs.schedules.Spans.{RetiredSpan, IsWithin, IsQuiet, IsShut}
 use Rattle.nc_region.specs.schedules.World.{IsWhole}
-use Rattle.nc_acts.proofs.Offered.{place_of, Before, Within, Behind, span_before, span_within, span_behind, unused_is_start}
+use Rattle.nc_text.proofs.Offered.{place_of, Before, Within, Behind, span_before, span_within, span_behind}
+use Rattle.nc_acts.proofs.Offered.{unused_is_start}
 use Rattle.nc_acts.proofs.Offered.{unused_at_start}
 
 -- a quiet span is shut

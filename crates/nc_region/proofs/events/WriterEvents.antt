@@ -9,7 +9,7 @@ use Rattle.std.proofs.lemmas.List.Elements.{All-weaker, All-cons, All-filter, Al
 use Rattle.std.proofs.lemmas.Option.{IfSome_then}
 use Rattle.nc_decode.specs.declared.instruction.Mark.{Mark}
 use Rattle.nc_decode.specs.declared.instruction.Mark.TheVariants.{Unmarked, Plain, After}
-use Rattle.nc_decode.proofs.Offered.{not_is}
+use Rattle.nc_base.proofs.Offered.{not_is}
 use Rattle.nc_text.specs.Machine.{State}
 use Rattle.nc_text.specs.Marks.{Admits, mark_at}
 use Rattle.nc_text.specs.MarkedText.{MarkedText, with_marks, with_span, StaysOrPlain}

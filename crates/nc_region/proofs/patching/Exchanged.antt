@@ -22,11 +22,13 @@ use Rattle.nc_list.specs.declared.chunk.Chunk.{Chunk}
 use Rattle.nc_acts.specs.Chunks.{IsClosedChunk}
 use Rattle.nc_region.specs.Region.{IsInChunk, HoldsValid}
 use Rattle.nc_region.specs.machinery.PatchSteps.{Begins, IsReplacing}
-use Rattle.nc_acts.proofs.Offered.{Before, Within, Behind, place_of, unused_is_start, span_within, span_before, span_behind}
+use Rattle.nc_text.proofs.Offered.{Before, Within, Behind, place_of, span_within, span_before, span_behind}
+use Rattle.nc_acts.proofs.Offered.{unused_is_start}
 use Rattle.nc_acts.proofs.Offered.{before_span, within_span}
 use Rattle.nc_acts.proofs.Offered.{alone, alone_fits_bytes, alone_within, alone_before, alone_behind, alone_bytes_long, alone_marks_long}
 use Rattle.nc_region.proofs.chunks.Pieces.{valid_chunk_is_closed}
-use Rattle.nc_region.proofs.patching.NewInstructions.{take_seam, some_same}
+use Rattle.nc_region.proofs.patching.NewInstructions.{take_seam}
+use Rattle.nc_base.proofs.Offered.{some_same}
 use Rattle.nc_region.proofs.patching.Standing.{Lies, lies, stands_with}
 use Rattle.nc_region.proofs.patching.Exchanging.{Exchanges, exchanged, exchanged_valid, code_long, where_is, Here, Earlier, Later}
 

@@ -1,7 +1,7 @@
 -- Bytes that are whole instructions, the first of them taken off.
-use Rattle.std.proofs.Common.{◌≡◌, ℕ, zero, suc, ◌+◌, ◌-◌, ◌<◌, List, [], ◌∷◌, ◌++◌, length, take, drop, Option, Some, None, refl}
+use Rattle.std.proofs.Common.{◌≡◌, ℕ, ◌+◌, ◌-◌, ◌<◌, List, [], ◌∷◌, ◌++◌, length, take, drop, Option, Some, None, refl}
 use Rattle.std.proofs.Common.{sym, subst, ◌∙◌, ap, arith}
-use Rattle.std.proofs.lemmas.List.{length-append, length-drop, nil_from_length, take-append-drop}
+use Rattle.std.proofs.lemmas.List.{length-append, nil_from_length, take-append-drop}
 use Rattle.std.proofs.Math.Seq.{drop-append_seam}
 use Rattle.nc_decode.specs.declared.instruction.Instr.{Instr}
 use Rattle.nc_decode.specs.Front.{first_instruction}
@@ -11,6 +11,7 @@ use Rattle.nc_text.specs.MarkedText.{with_span}
 use Rattle.nc_vet.specs.Chunk.{Piece, code_of, AreSpelled}
 use Rattle.nc_vet.proofs.Offered.{spelled_after, split_none, none_after}
 use Rattle.nc_region.specs.Patch.{AreBytesOf, AreInstructions}
+use Rattle.nc_base.proofs.Offered.{slice_rest, some_same}
 
 -- the empty list of bytes is that of no instructions
 pub no_bytes : AreBytesOf [] []
@@ -30,16 +31,6 @@ none_of_none bytes news none b = none_after news b.spelled (sym (ap (λ (z : Lis
 pub instructions_none : (bytes : List ℕ) → length bytes ≡ 0 → AreInstructions bytes
 instructions_none bytes none = ([], subst (λ (z : List ℕ). AreBytesOf z []) (sym (nil_from_length bytes none)) no_bytes)
 
--- the first elements of a list, as many as it has, are the list
-take_all : (xs : List ℕ) (k : ℕ) → length xs ≡ k → take k xs ≡ xs
-take_all xs zero e = sym (nil_from_length xs e)
-take_all [] (suc k) e = refl
-take_all (x ∷ xs) (suc k) e = ap (λ (z : List ℕ). x ∷ z) (take_all xs k (omega (arith, e)))
-
--- a slice from an index on is the rest
-pub slice_rest : (bytes : List ℕ) (n : ℕ) → take (length bytes - n) (drop n bytes) ≡ drop n bytes
-slice_rest bytes n = take_all (drop n bytes) (length bytes - n) (omega (arith, length-drop n bytes))
-
 -- the first of some instructions, and the others
 pub record Parted (bytes : List ℕ) (news : List Piece) (i : Instr) : Type 0 where
   pub first : Piece
@@ -57,10 +48,6 @@ pub record Parted (bytes : List ℕ) (news : List Piece) (i : Instr) : Type 0 wh
 pub found_first : (bytes : List ℕ) (p : Piece) (rest : List Piece) → AreBytesOf bytes (p ∷ rest) → first_instruction bytes ≡ Some p.instr
 found_first bytes p rest b = (exact bytes p.instr).1
     (record { front = p.bytes; rest = code_of rest; parts = b.parts; spells = b.spelled [] rest p refl })
-
--- two instructions of one place are one
-pub some_same : (o : Option Instr) (i j : Instr) → o ≡ Some i → o ≡ Some j → i ≡ j
-some_same o i j e f = cc
 
 -- the first of two parts
 pub take_seam : (xs ys : List ℕ) → take (length xs) (xs ++ ys) ≡ xs

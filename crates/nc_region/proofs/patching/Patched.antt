@@ -8,16 +8,16 @@ use Rattle.nc_text.specs.MarkedText.{MarkedText, IsText, with_span}
 use Rattle.nc_text.proofs.Offered.{length-with_span}
 use Rattle.nc_decode.specs.declared.instruction.Mark.{Mark}
 use Rattle.nc_list.specs.declared.chunk.Chunk.{Chunk}
-use Rattle.nc_list.proofs.Offered.{each_get, each_from}
+use Rattle.nc_base.proofs.Offered.{each_get, each_from}
 use Rattle.nc_acts.specs.Chunks.{HasGoodSpan}
-use Rattle.nc_region.specs.Each.{Each}
+use Rattle.nc_base.specs.Each.{Each}
 use Rattle.nc_region.specs.Region.{Region, IsLive, IsInChunk, IsAscending, HoldsValid, IsRegion}
 use Rattle.nc_region.specs.Patch.{IsHeldBy, IsPatchSpan, IsPatch, IsRun, LeavesPairs, KeepsTargets, MayRefusePatch}
 use Rattle.nc_region.specs.machinery.PatchSteps.{CanPatch, MayRefuseIn}
 use Rattle.nc_region.specs.declared.fault.ModifyFault.{ModifyFault}
 use Rattle.nc_region.specs.declared.fault.ModifyFault.TheVariants.{BadSpan, NotLive, NotPermitted, Boundaries, PairTouched, BadTarget}
 use Rattle.nc_region.proofs.chunks.AgreesOutside.{AgreesOutside, still_holds}
-use Rattle.nc_acts.proofs.Offered.{span_before, span_behind}
+use Rattle.nc_text.proofs.Offered.{span_before, span_behind}
 use Rattle.nc_list.proofs.Offered.{ascending_apart}
 use Rattle.nc_region.proofs.patching.Runs.{held_same}
 

@@ -10,8 +10,8 @@ use Rattle.nc_text.proofs.Offered.{closed_with_stops, length-with_span}
 use Rattle.nc_region.specs.Patch.{any_place}
 use Rattle.nc_text.specs.Puts.{HasPut}
 use Rattle.nc_region.specs.machinery.PatchSteps.{IsReplacing, IsInterim}
-use Rattle.nc_acts.proofs.Offered.{byte_at_other, byte_at_same}
-use Rattle.nc_acts.proofs.Offered.{place_of, Before, Within, Behind, span_before, span_within, span_behind}
+use Rattle.nc_text.proofs.Offered.{byte_at_other, byte_at_same}
+use Rattle.nc_text.proofs.Offered.{place_of, Before, Within, Behind, span_before, span_within, span_behind}
 
 -- while an instruction is replaced the text is closed
 pub patching_closed : (marked : MarkedText) (at : ℕ) (new now : List ℕ) → IsReplacing marked at new

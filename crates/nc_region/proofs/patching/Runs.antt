@@ -11,12 +11,12 @@ use Rattle.nc_vet.proofs.Offered as places
 use Rattle.nc_text.specs.Marks.{mark_at}
 use Rattle.nc_text.specs.MarkedText.{MarkedText, IsText}
 use Rattle.nc_list.specs.declared.chunk.Chunk.{Chunk}
-use Rattle.nc_list.proofs.Offered.{each_get}
+use Rattle.nc_base.proofs.Offered.{each_get}
 use Rattle.nc_region.specs.Region.{IsInChunk, IsAscending, HoldsValid}
 use Rattle.nc_region.specs.Patch.{IsHeldBy, IsHeld, AreBytesOf, lengths, IsRun}
 use Rattle.nc_region.specs.machinery.PatchSteps.{Begins, Along, RunsAlong}
 use Rattle.nc_region.proofs.patching.Standing.{all_long, standing}
-use Rattle.nc_region.specs.Each.{Each}
+use Rattle.nc_base.specs.Each.{Each}
 use Rattle.nc_region.specs.Deletion.{HasLive}
 use Rattle.nc_list.proofs.Offered.{ascending_apart}
 

@@ -18,8 +18,8 @@ use Rattle.nc_acts.specs.declared.acts.Entry.{Entry}
 use Rattle.nc_region.specs.Patch.{AreBytesOf, lengths, SparesPairs, GoWell, stands_there}
 use Rattle.nc_region.specs.Patch.{log_of_instruction, log_of_patch}
 use Rattle.nc_region.specs.machinery.PatchSteps.{CanPatch}
-use Rattle.nc_acts.proofs.Offered.{place_of, Before, Within, Behind, span_within, span_before, span_behind}
-use Rattle.nc_region.proofs.patching.NewInstructions.{some_same}
+use Rattle.nc_text.proofs.Offered.{place_of, Before, Within, Behind, span_within, span_before, span_behind}
+use Rattle.nc_base.proofs.Offered.{some_same}
 use Rattle.nc_region.proofs.patching.Exchanging.{target_stays}
 use Rattle.nc_region.proofs.patching.Exchanged.{Changes, changed, changed_holds, changed_long}
 

@@ -14,7 +14,7 @@ use Rattle.nc_text.proofs.Offered.{executes, leads_of, IsKnown, safe_if_known, s
 use Rattle.nc_region.specs.declared.trace.End.{End}
 use Rattle.nc_region.specs.declared.trace.End.TheVariants.{Stop, Trampoline, Beyond, More}
 use Rattle.nc_region.specs.Trace.{EndsBy, GoesOn, IsTrace, IsWalkStart, LeavesBy, Moves, Picks, Walks, bundle_of}
-use Rattle.nc_region.proofs.patching.NewInstructions.{some_same}
+use Rattle.nc_base.proofs.Offered.{some_same}
 use Rattle.nc_region.proofs.walking.Walking.{known_next}
 
 -- a choice picks one step

@@ -10,8 +10,8 @@ use Rattle.nc_text.proofs.Offered.{length-with_span, get_or-with_span_in, get_or
 use Rattle.nc_list.specs.declared.chunk.Chunk.{Chunk}
 use Rattle.nc_list.specs.declared.chunk.ChunkState.{ChunkState}
 use Rattle.nc_list.specs.declared.chunk.ChunkState.TheVariants.{Live, Retired}
-use Rattle.nc_region.specs.Each.{Each}
-use Rattle.nc_region.proofs.Offered.{each_map, each_both, each_take, each_drop}
+use Rattle.nc_base.specs.Each.{Each}
+use Rattle.nc_base.proofs.Offered.{each_map, each_both, each_take, each_drop}
 use Rattle.nc_acts.specs.Chunks.{HasGoodSpan}
 use Rattle.nc_region.specs.Region.{FitsAt, Meets}
 use Rattle.nc_script.specs.Script as script

@@ -2,7 +2,7 @@
 use Rattle.std.proofs.Common.{◌≡◌, ℕ, ◌≤◌, ◌^◌, List, refl, sym, subst, arith, Option, Some, None, get_or}
 use Rattle.nc_gens.specs.Seen.{PassState, KeeperState}
 use Rattle.nc_list.specs.declared.chunk.Chunk.{Chunk}
-use Rattle.nc_region.specs.Each.{Each}
+use Rattle.nc_base.specs.Each.{Each}
 use Rattle.nc_region.specs.Region.{Region}
 use Rattle.nc_script.specs.Requests.{Request}
 use Rattle.nc_script.specs.Script.{ScriptSeat, Staying, Left}

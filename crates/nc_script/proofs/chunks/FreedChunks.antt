@@ -7,7 +7,7 @@ use Rattle.std.proofs.lemmas.List.{length-map}
 use Rattle.nc_list.specs.declared.chunk.Chunk.{Chunk}
 use Rattle.nc_list.specs.declared.chunk.ChunkState.{ChunkState}
 use Rattle.nc_list.specs.declared.chunk.ChunkState.TheVariants.{Live, Retired}
-use Rattle.nc_region.specs.Each.{Each}
+use Rattle.nc_base.specs.Each.{Each}
 use Rattle.nc_region.specs.Deletion as region
 use Rattle.nc_script.specs.Script as script
 use Rattle.nc_script.specs.Reuse.{is_freed_by, freed_by, kept_by}

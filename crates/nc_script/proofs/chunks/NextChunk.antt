@@ -4,7 +4,7 @@ use Rattle.std.proofs.Common.{◌∙◌, ltb, subst, arith}
 use Rattle.std.specs.List.{slice_get}
 use Rattle.std.proofs.lemmas.Bool.{lt-ltb, le-ltb}
 use Rattle.nc_text.specs.Places.{limit_of}
-use Rattle.nc_region.specs.Each.{Each}
+use Rattle.nc_base.specs.Each.{Each}
 use Rattle.nc_acts.specs.Chunks.{HasGoodSpan}
 use Rattle.nc_region.specs.Region.{IsAboveAll, IsNextChunk}
 use Rattle.nc_list.specs.declared.chunk.Chunk.{Chunk}

@@ -11,8 +11,8 @@ use Rattle.nc_text.proofs.Offered.{get_or-with_span_above}
 use Rattle.nc_list.specs.declared.chunk.Chunk.{Chunk}
 use Rattle.nc_list.specs.declared.chunk.ChunkState.{ChunkState}
 use Rattle.nc_list.specs.declared.chunk.ChunkState.TheVariants.{Live, Retired}
-use Rattle.nc_region.specs.Each.{Each}
-use Rattle.nc_region.proofs.Offered.{each_map}
+use Rattle.nc_base.specs.Each.{Each}
+use Rattle.nc_base.proofs.Offered.{each_map}
 use Rattle.nc_acts.specs.Chunks.{HasGoodSpan}
 use Rattle.nc_region.specs.Region.{IsAscending, IsLive}
 use Rattle.nc_script.specs.Script as script

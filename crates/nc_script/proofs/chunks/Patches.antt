@@ -12,7 +12,7 @@ use Rattle.nc_list.specs.declared.chunk.ChunkState.TheVariants.{Live, Retired}
 use Rattle.nc_region.specs.Region.{Region, IsRegion, HoldsValid, IsLive}
 use Rattle.nc_region.specs.Patch as region
 use Rattle.nc_region.specs.Patch.{IsHeldBy, IsRun, GoWell}
-use Rattle.nc_region.proofs.Offered.{each_contains}
+use Rattle.nc_base.proofs.Offered.{each_contains}
 use Rattle.nc_region.specs.declared.fault.ModifyFault.{ModifyFault}
 use Rattle.nc_region.specs.declared.fault.ModifyFault.TheVariants.{BadSpan, NotLive, NotPermitted, Boundaries, PairTouched, BadTarget}
 use Rattle.nc_script.specs.Script as script

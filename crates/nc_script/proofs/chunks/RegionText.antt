@@ -8,7 +8,7 @@ use Rattle.nc_text.specs.Places.{limit_of, byte_at}
 use Rattle.nc_list.specs.declared.chunk.Chunk.{Chunk}
 use Rattle.nc_list.specs.declared.chunk.ChunkState.{ChunkState}
 use Rattle.nc_list.specs.declared.chunk.ChunkState.TheVariants.{Live, Retired}
-use Rattle.nc_region.specs.Each.{Each}
+use Rattle.nc_base.specs.Each.{Each}
 use Rattle.nc_acts.specs.Chunks.{HasGoodSpan}
 use Rattle.nc_region.specs.Region.{Region, IsRegion, IsAscending, IsLive, IsInChunk}
 use Rattle.nc_script.specs.Script as script

@@ -8,8 +8,8 @@ use Rattle.nc_text.specs.MarkedText.{with_span}
 use Rattle.nc_list.specs.declared.chunk.Chunk.{Chunk}
 use Rattle.nc_list.specs.declared.chunk.ChunkState.{ChunkState}
 use Rattle.nc_list.specs.declared.chunk.ChunkState.TheVariants.{Live, Retired}
-use Rattle.nc_region.specs.Each.{Each}
-use Rattle.nc_region.proofs.Offered.{each_both}
+use Rattle.nc_base.specs.Each.{Each}
+use Rattle.nc_base.proofs.Offered.{each_both}
 use Rattle.nc_acts.specs.Chunks.{HasGoodSpan}
 use Rattle.nc_region.specs.Region.{IsAscending, IsLive}
 use Rattle.nc_region.specs.Deletion as region

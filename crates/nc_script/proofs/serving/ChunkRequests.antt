@@ -10,7 +10,7 @@ use Rattle.std.proofs.lemmas.List.{length-replicate}
 use Rattle.nc_list.specs.declared.chunk.Chunk.{Chunk}
 use Rattle.nc_list.specs.declared.chunk.ChunkState.{ChunkState}
 use Rattle.nc_list.specs.declared.chunk.ChunkState.TheVariants.{Live, Retired}
-use Rattle.nc_region.proofs.Offered.{each_map, each_contains, each_set, each_append, each_take, each_drop}
+use Rattle.nc_base.proofs.Offered.{each_map, each_contains, each_set, each_append, each_take, each_drop}
 use Rattle.nc_region.specs.Region.{Region, IsRegion, IsLive}
 use Rattle.nc_region.specs.Region as region
 use Rattle.nc_region.specs.Patch.{IsPatch, MayRefusePatch, IsPatched}

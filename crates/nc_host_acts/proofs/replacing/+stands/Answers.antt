@@ -1,7 +1,7 @@
 use Rattle.std.proofs.Common.{◌≡◌, ◌+◌, ◌-◌, ◌<◌, ℕ, List, length, take, drop, arith, sym, ap, ◌∙◌}
 use Rattle.std.proofs.lemmas.Bool.{eqb-false}
 use Rattle.nc_region.specs.Patch.{stands_there}
-use Rattle.nc_region.proofs.Offered.{slice_rest}
+use Rattle.nc_base.proofs.Offered.{slice_rest}
 use Rattle.nc_region.proofs.Offered.{stands_first}
 use Rattle.nc_host_acts.proofs.replacing.+stands.Goals as goal
 

@@ -2,7 +2,7 @@ use Rattle.std.proofs.Common.{◌<◌, ◌≤◌, leb, leb-true, leb-false, arit
 use Rattle.std.proofs.lemmas.List.Sorted.{IsPartitionPoint-from_clause, IsPartitionedBy-leb, IsNonDecreasingBy-from_default}
 use Rattle.nc_list.specs.declared.chunk.Chunk.{Chunk}
 use Rattle.nc_list.specs.declared.chunk.ChunkState.TheVariants.{Live}
-use Rattle.nc_list.proofs.EachMember.{each_take_from, each_drop_from}
+use Rattle.nc_base.proofs.Offered.{each_take_from, each_drop_from}
 use Rattle.nc_list.proofs.Ascending.{ascending_at}
 use Rattle.nc_list.proofs.leaf.count_to.Goals as goal
 

@@ -1,4 +1,4 @@
-use Rattle.std.proofs.Common.{◌≡◌, ◌+◌, ◌≤◌, ℕ, true, length, get_or, slice_index, ap, arith}
+use Rattle.std.proofs.Common.{◌+◌, length, slice_index, ap, arith}
 use Rattle.nc_reading.specs.declared.class.Class.{Class}
 use Rattle.nc_reading.specs.declared.class.Class.TheVariants.{Inside}
 use Rattle.nc_reading.specs.Quiet.{is_quiet}

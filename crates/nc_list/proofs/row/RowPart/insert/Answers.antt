@@ -3,7 +3,7 @@ use Rattle.std.proofs.lemmas.Grind.{common_steps}
 use Rattle.std.proofs.lemmas.List.{length-map, length-set, map-set}
 use Rattle.std.proofs.lemmas.Result.{err_from_is_err_and}
 use Rattle.nc_list.specs.declared.chunk.Chunk.{Chunk}
-use Rattle.nc_list.specs.Each.{Each}
+use Rattle.nc_base.specs.Each.{Each}
 use Rattle.nc_list.specs.Chunks.{IsAscending, Meets, live}
 use Rattle.nc_list.specs.Stamps.{BeginsAt}
 use Rattle.nc_list.specs.Parts.{IsRow, IsPut, all_of}

@@ -2,7 +2,7 @@ use Rattle.std.proofs.Common.{◌≡◌, ℕ, ◌+◌, ◌-◌, ◌<◌, ◌≤�
 use Rattle.std.proofs.lemmas.Grind.{common_steps, elements}
 use Rattle.std.proofs.lemmas.List.{length-map, length-set, length-take-le}
 use Rattle.nc_list.specs.declared.chunk.Chunk.{Chunk}
-use Rattle.nc_list.specs.Each.{Each}
+use Rattle.nc_base.specs.Each.{Each}
 use Rattle.nc_list.specs.Stamps.{BeginsAt, AreSince}
 use Rattle.nc_list.specs.Parts.{AreTakenFrom, OthersHaveSome, all_of, starts_of}
 use Rattle.nc_list.proofs.Pieces.{part_is, starts_long}

@@ -2,7 +2,7 @@ use Rattle.std.proofs.Common.{◌≡◌, ℕ, ◌+◌, ◌-◌, ◌%◌, sym, �
 use Rattle.nc_decode.specs.declared.instruction.Instr.{Instr}
 use Rattle.nc_decode.specs.Bits.{mark_bit}
 use Rattle.nc_text.specs.Marks.{mark_at}
-use Rattle.nc_region.proofs.patching.NewInstructions.{some_same}
+use Rattle.nc_base.proofs.Offered.{some_same}
 use Rattle.nc_region.proofs.patching.Standing.{standing}
 use Rattle.nc_region.proofs.patching.Lengths.{NextMark, no_mark, is_mark, ends_at_next}
 use Rattle.nc_region.proofs.patch.judge.length_at.Goals as goal

@@ -14,7 +14,7 @@ use Rattle.nc_acts.specs.declared.acts.Entry.{Entry}
 use Rattle.nc_acts.specs.Log.{Logs}
 use Rattle.nc_region.specs.Patch.{stands_there, log_of_instruction, log_of_patch}
 use Rattle.nc_region.specs.machinery.PatchSteps.{CanPatch, IsReplacing}
-use Rattle.nc_acts.proofs.Offered.{span_behind}
+use Rattle.nc_text.proofs.Offered.{span_behind}
 use Rattle.nc_acts.proofs.Offered.{same_code}
 use Rattle.nc_acts.proofs.Offered.{logs_none, logs_more}
 use Rattle.nc_region.proofs.patching.NewInstructions.{none_of_none, not_found, parted, span_none, whole_again}

@@ -8,7 +8,7 @@ use Rattle.nc_acts.specs.Acts.{puts_where}
 use Rattle.nc_acts.specs.Log.{Logs, only_acts}
 use Rattle.nc_region.specs.Patch.{any_place}
 use Rattle.nc_text.specs.Puts.{HasPut}
-use Rattle.nc_acts.proofs.Offered.{put_more}
+use Rattle.nc_text.proofs.Offered.{put_more}
 use Rattle.nc_region.proofs.chunks.ReadyPlaces.{ready_place}
 use Rattle.nc_acts.proofs.Offered.{log_put, ends_serialized}
 use Rattle.nc_region.proofs.patching.Replacing.{patching_from_put}

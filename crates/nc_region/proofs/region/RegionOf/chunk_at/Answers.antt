@@ -1,9 +1,10 @@
 use Rattle.std.proofs.Common.{ℕ, List, Option, Some, None, IfSome, subst, arith}
 use Rattle.nc_text.specs.Places.{limit_of}
 use Rattle.nc_list.specs.declared.chunk.Chunk.{Chunk}
-use Rattle.nc_list.proofs.Offered.{each_middle, ascending_lower}
+use Rattle.nc_base.proofs.Offered.{each_middle}
+use Rattle.nc_list.proofs.Offered.{ascending_lower}
 use Rattle.nc_acts.specs.Chunks.{HasGoodSpan}
-use Rattle.nc_region.specs.Each.{Each}
+use Rattle.nc_base.specs.Each.{Each}
 use Rattle.nc_region.specs.Region.{IsNextChunk}
 use Rattle.nc_region.proofs.region.RegionOf.chunk_at.Goals as goal
 

@@ -7,8 +7,8 @@ use Rattle.nc_text.specs.MarkedText.{with_span}
 use Rattle.nc_list.specs.declared.chunk.Chunk.{Chunk}
 use Rattle.nc_list.specs.declared.chunk.ChunkState.TheVariants.{Retired}
 use Rattle.nc_list.specs.Chunks.{IsRetired}
-use Rattle.nc_list.proofs.Offered.{each_map, each_contains}
-use Rattle.nc_region.specs.Each.{Each}
+use Rattle.nc_base.proofs.Offered.{each_map, each_contains}
+use Rattle.nc_base.specs.Each.{Each}
 use Rattle.nc_region.specs.Region.{Region, IsLive, IsAscending}
 use Rattle.nc_acts.specs.Chunks.{HasGoodSpan}
 use Rattle.nc_region.proofs.chunks.ReadyPlaces.{ready_held, ready_set}

@@ -3,9 +3,9 @@ use Rattle.std.proofs.lemmas.Grind.{elements}
 use Rattle.nc_text.specs.Places.{limit_of}
 use Rattle.nc_list.specs.declared.chunk.Chunk.{Chunk}
 use Rattle.nc_list.specs.declared.chunk.ChunkState.TheVariants.{Live}
-use Rattle.nc_list.proofs.Offered.{each_contains}
+use Rattle.nc_base.proofs.Offered.{each_contains}
 use Rattle.nc_acts.specs.Chunks.{HasGoodSpan}
-use Rattle.nc_region.specs.Each.{Each}
+use Rattle.nc_base.specs.Each.{Each}
 use Rattle.nc_region.proofs.region.RegionOf.live_at.Goals as goal
 
 -- what is found lies in the region

@@ -1,0 +1,4 @@
+pub mod Members
+pub mod Tests
+pub mod Lists
+pub mod Offered
