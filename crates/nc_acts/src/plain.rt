@@ -166,11 +166,11 @@ impl<G: GensRef + Drop> Acts for PlainOf<G> {
     }
 
     fn bump(&mut self) -> Result<u64, GensFull> {
-        let answer = self.gens.gens().bump(&mut self.keeper);
-        if answer.is_ok() {
+        let drawn = self.gens.gens().bump(&mut self.keeper);
+        if drawn.is_ok() {
             self.log.note(&Note::One(Entry::Did(Act::Bump)));
         }
-        answer
+        drawn
     }
 
     fn look(&mut self) -> u64 {

@@ -205,11 +205,11 @@ impl<A: Acts + Drop> Acts for Recorder<A> {
             × (self.new.entries.items ≡ self.old.entries.items) × (self.new.log.entries ≡ self.old.log.entries)) }
         ensures none_handed_on { OnErr result (A.logged self.new.acts ≡ A.logged self.old.acts) }
     {
-        let answer = self.acts.bump();
-        if answer.is_ok() {
+        let drawn = self.acts.bump();
+        if drawn.is_ok() {
             self.record(Entry::Did(Act::Bump));
         }
-        answer
+        drawn
     }
 
     fn look(&mut self) -> u64

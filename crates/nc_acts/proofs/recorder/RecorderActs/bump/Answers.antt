@@ -21,15 +21,15 @@ returns-then-is_ok g c =
     let acts = c.record.ensures.acts in
     let ok = sym c.is_ok.ensures.value ∙ c.if-is_ok.true in
     record {
-      room = c.bump-answer.ensures.room;
-      stamp = c.bump-answer.ensures.stamp;
-      raised = rw acts c.bump-answer.ensures.raised;
+      room = c.bump-drawn.ensures.room;
+      stamp = c.bump-drawn.ensures.stamp;
+      raised = rw acts c.bump-drawn.ensures.raised;
       logged = if_ok _ _ c.record.ensures.logged;
-      handed_on = rw acts c.bump-answer.ensures.logged;
+      handed_on = rw acts c.bump-drawn.ensures.logged;
       goes_on = if_ok _ _ c.record.ensures.goes_on;
-      marked = rw acts c.bump-answer.ensures.marked;
-      made = rw acts c.bump-answer.ensures.made;
-      full = rw acts c.bump-answer.ensures.full;
+      marked = rw acts c.bump-drawn.ensures.marked;
+      made = rw acts c.bump-drawn.ensures.made;
+      full = rw acts c.bump-drawn.ensures.full;
       unlogged = if_err _ _ ok;
       none_handed_on = if_err _ _ ok;
     }
