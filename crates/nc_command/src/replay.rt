@@ -1,10 +1,10 @@
 //! The command line of `nc_replay`.
 
-ghost use Rattle.std.specs.Prelude.{◌≡◌, ◌≤◌, IfOk, IfSome};
+ghost use Rattle.std.specs.Prelude.{◌≡◌, IfOk, IfSome};
 ghost use Rattle.nc_command.specs.Range.{AsksInRange};
 
 use crate::carrying::{Ask, ReplayRequest};
-use crate::options::{BUNDLES, WORKERS};
+use crate::options::{BUNDLES, WORKERS, number};
 use clap::builder::ValueParser;
 use clap::error::ErrorKind;
 use clap::{ArgMatches, Error};
@@ -92,19 +92,6 @@ static REPLAY: Program = Program {
         },
     ],
 };
-
-/// The number of an option. The option's parser has refused every number outside the range, so this function only has to
-/// return some number for the words that were refused.
-pub(crate) fn number(found: &ArgMatches<'_>, name: &str, least: u32, most: u32) -> u32
-    requires { least ≤ most }
-    ensures least { least ≤ result }
-    ensures most { result ≤ most }
-{
-    found
-        .get_one::<u32>(name)
-        .unwrap_or(least)
-        .clamp(least, most)
-}
 
 /// The command line of the work alone. Only this function names its table, so the proofs of its callers don't go through the table.
 fn work() -> &'static Program {

@@ -1,4 +1,4 @@
-use Rattle.nc_command.proofs.replay.number.Goals as goal
+use Rattle.nc_command.proofs.options.number.Goals as goal
 use Rattle.std.proofs.Common.{rules}
 
 pub returns-clause-most : goal.returns-clause-most
