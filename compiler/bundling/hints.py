@@ -30,8 +30,9 @@ HINTS = [
     Hint("main", "called by {library}/start.c or by a file like it: define main, or leave that file out and define start"),
     Hint("mem(cpy|set|move|cmp)", "compilers call this for structs and arrays, also with -ffreestanding: link "
          "{library}/strings.c, or a C library"),
-    Hint("__(u?div|u?mod|u?divmod)di[34]|__popcount[sd]i2",
+    Hint("__(u?div|u?mod|u?divmod)[dt]i[34]|__(popcount|parity|clz|ctz|ffs|clrsb|bswap|negv|absv)[sd]i2|__u?cmpdi2|__(add|sub|mul)v[sd]i3",
          "64-bit division and the counting of bits: link {library}/division.c"),
+    Hint("__(mul|div)[sd]c3|__powi[sd]f2", "complex numbers: link {library}/complex.c and {library}/floating.c"),
     Hint("__(add|sub|mul|div|neg|eq|ne|lt|le|gt|ge|unord)[sd]f[23]|__fix(uns)?[sd]f[sd]i|__float(un)?[sd]i[sd]f|__extendsfdf2|__truncdfsf2",
          "software floating point: link {library}/floating.c"),
     Hint(r"__\w+[sdtx][ifc]\d?", "from the compiler's own library, which isn't in bundles: define it, or do without"),

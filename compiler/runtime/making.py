@@ -21,7 +21,7 @@ NOT_THERE = "there is no %s below %s: `build --help` says what to get"
 MUSL_FOLDERS = """string stdlib ctype stdio math multibyte locale errno malloc malloc/mallocng internal exit env time unistd prng fenv
     setjmp stat fcntl misc thread signal select temp conf dirent mman linux sched process legacy search regex ../compat/time32""".split()
 MUSL_FAST = {"internal", "malloc", "malloc/mallocng", "string"}  # which musl's own Makefile optimises more
-OWN = ("division", "floating", "math", "strings")
+OWN = ("complex", "division", "floating", "math", "strings")
 # What math.c and strings.c have in place of musl's, by musl's folders.
 REPLACED = {
     "math": "ceil floor fmod llrint llround lrint lround nearbyint nearbyintf rint rintf round roundf trunc".split(),

@@ -27,7 +27,7 @@ COMMANDS = ["nc-bundle", "nc-cc", "nc_check", "nc_replay", "nc-run"]
 CRATES = ["nc_sandbox", "nc_host"]
 
 # What a C library for the sandbox is made of, and what nc-cc's hints name.
-RUNTIME_FILES = "division.c floating.c heap.h making.py math.c runtime.py setup.h start.c strings.c".split()
+RUNTIME_FILES = "complex.c division.c floating.c heap.h making.py math.c runtime.py setup.h start.c strings.c".split()
 
 # What stands where it is installed as it does in the repository.
 PAGES_AND_EXAMPLES = [

@@ -37,25 +37,25 @@ static void report(const char *name, u64 a, u64 b, u64 made, u64 right) {
         if (__builtin_expect(made_ != right_, 0)) report(name, a, b, made_, right_); \
     } while (0)
 
-static double number(u64 bits) {
+static inline double number(u64 bits) {
     double made;
     memcpy(&made, &bits, 8);
     return made;
 }
 
-static float number_s(u32 bits) {
+static inline float number_s(u32 bits) {
     float made;
     memcpy(&made, &bits, 4);
     return made;
 }
 
-static u64 bits_of(double made) {
+static inline u64 bits_of(double made) {
     u64 bits;
     memcpy(&bits, &made, 8);
     return bits;
 }
 
-static u32 bits_of_s(float made) {
+static inline u32 bits_of_s(float made) {
     u32 bits;
     memcpy(&bits, &made, 4);
     return bits;
@@ -66,7 +66,7 @@ enum { MOST = 2000 };
 /* Numbers of a format with `digits` in its fraction and `top` as the largest field. Fields are near the ends, the sizes of whole numbers,
    those of floats, and the distances at which a sum's smaller operand goes out. Fractions are near the ends and the middle, a tie of
    floats, and any. */
-static int boundaries(u64 *made, int digits, int top) {
+static inline int boundaries(u64 *made, int digits, int top) {
     static const int from_middle[] = {-151, -150, -149, -148, -127, -126, -125, -2, -1, 0,  1,  2,  22, 23, 24, 25,  26,  29,
                                       30,   31,   32,   33,   51,   52,   53,   54, 55, 56, 61, 62, 63, 64, 65, 126, 127, 128};
     static const int from_ends[] = {0, 1, 2, 3, 22, 23, 24, 25, 26, 51, 52, 53, 54, 55, 56};
@@ -86,7 +86,7 @@ static int boundaries(u64 *made, int digits, int top) {
 }
 
 /* Bits of a number of `wide` bits with `digits` in its fraction: any, near 1, subnormal, with few bits set, near the ends, or whole. */
-static u64 random_number(int wide, int digits) {
+static inline u64 random_number(int wide, int digits) {
     u64 bits = chance() >> (64 - wide), fraction = (1ull << digits) - 1, top = (1ull << (wide - 1 - digits)) - 1, sign = 1ull << (wide - 1);
     switch (chance() % 8) {
     case 0: return bits;
@@ -101,7 +101,7 @@ static u64 random_number(int wide, int digits) {
 }
 
 /* Another number: any, or with an exponent that is less by as much as a fraction has digits, or the same number but for a bit or two. */
-static u64 random_other(u64 first, int wide, int digits) {
+static inline u64 random_other(u64 first, int wide, int digits) {
     const u64 sign = 1ull << (wide - 1), one = 1ull << digits, other = random_number(wide, digits);
     u64 field = first & (sign - one), distance = chance() % ((u64)digits + 6) * one, few = chance() % 3;
     switch (chance() % 8) {
