@@ -356,7 +356,8 @@ NcsAt ncs_put(NcsBox *box, const void *from, uint32_t len);
 /* A folder below which files may be opened. */
 typedef struct NcsFolder {
     int file;     /* the folder, open in any way, also by O_PATH */
-    int writable; /* whether regular files are made, written and cut there, besides being read */
+    int writable; /* whether regular files are written, made and cut there, besides being read, and times of open files set. By the system calls
+                     that the host names, folders are made there too, and names changed and removed */
 } NcsFolder;
 
 #define NCS_WALL_CALLS 256u

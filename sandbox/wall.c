@@ -23,8 +23,9 @@ enum { CALL_RSEQ = 334, CALL_CLONE3 = 435, CALL_OPENAT2 = 437, CALL_NEW_RULES = 
 
 /* ---- Landlock: which files are opened, and how */
 
-#define READ (1u << 2 | 1u << 3)             /* a file; the names in a folder */
-#define WRITE (1u << 1 | 1u << 8 | 1u << 14) /* a file; make a regular one; cut one */
+#define READ (1u << 2 | 1u << 3) /* a file; the names in a folder */
+/* A file; remove a folder or a file; make one; give it another folder below the same one; cut a file. */
+#define WRITE (1u << 1 | 1u << 4 | 1u << 5 | 1u << 7 | 1u << 8 | 1u << 13 | 1u << 14)
 #define ASK_VERSION 1u
 #define PATH_BENEATH 1
 
@@ -130,8 +131,9 @@ static const struct {
 
 #define ANSWER_STEPS 2u
 #define JUDGED_STEPS 6u
+#define TIMES_STEPS 7u
 /* clang-format off */
-#define STEPS_MOST (5u + JUDGED_STEPS * (COUNT(JUDGED) + 2) + \
+#define STEPS_MOST (5u + JUDGED_STEPS * (COUNT(JUDGED) + 2) + TIMES_STEPS + \
                     ANSWER_STEPS * (COUNT(ALWAYS) + COUNT(WITH_FOLDERS) + COUNT(WITH_THREADS) + COUNT(ANSWERED) + NCS_WALL_CALLS))
 /* clang-format on */
 
@@ -182,6 +184,26 @@ static void add_judged(Filter *f, const Judged *judged, unsigned count) {
     }
 }
 
+/* The times of an open file are set. Landlock has no rule for them, so there may be no path. */
+static void add_times(Filter *f) {
+    const uint32_t path = offsetof(struct seccomp_data, args) + 8;
+    add(f, EQUAL, SYS_utimensat, 0, TIMES_STEPS - 1);
+    add(f, LOAD, path, 0, 0);
+    add(f, EQUAL, 0, 0, 3);
+    add(f, LOAD, path + 4, 0, 0);
+    add(f, EQUAL, 0, 0, 1);
+    add(f, ANSWER, SECCOMP_RET_ALLOW, 0, 0);
+    add(f, ANSWER, SECCOMP_RET_KILL_PROCESS, 0, 0);
+}
+
+static int has_writable(const NcsWall *wall) {
+    unsigned k = 0;
+    while (k < wall->folder_count && !wall->folders[k].writable) {
+        k++;
+    }
+    return k < wall->folder_count;
+}
+
 /* What isn't named ends the process, and so does each call by the way of 32-bit code, where the numbers mean other calls. Those of x32 have
    numbers of their own. A signal is sent only to this process. */
 static void fill(Filter *f, const NcsWall *wall) {
@@ -198,6 +220,9 @@ static void fill(Filter *f, const NcsWall *wall) {
     add_judged(f, JUDGED, COUNT(JUDGED));
     add_judged(f, &own_signal, 1);
     add_judged(f, &NEW_THREAD, wall->threads ? 1 : 0);
+    if (has_writable(wall)) {
+        add_times(f);
+    }
     add_answered(f);
     add(f, ANSWER, SECCOMP_RET_KILL_PROCESS, 0, 0);
 }

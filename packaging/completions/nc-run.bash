@@ -12,7 +12,11 @@ _nc_run() {
         mapfile -t COMPREPLY < <(compgen -d -- "$word")
         return
         ;;
-    *) [[ $word != -* ]] || words="--time --memory --live-code --call --dir --dir-rw --write --wall --no-wall --help --version -h -V" ;;
+    --env)
+        mapfile -t COMPREPLY < <(compgen -e -- "$word")
+        return
+        ;;
+    *) [[ $word != -* ]] || words="--time --memory --live-code --call --dir --dir-rw --write --env --wall --no-wall --help --version -h -V" ;;
     esac
     mapfile -t COMPREPLY < <(compgen -W "$words" -- "$word")
 }

@@ -52,7 +52,7 @@ int kinds_judge_file(int file) {
     if (error != 0 || files_stat(file, &about) != 0) {
         return error != 0 ? error : errno;
     }
-    return S_ISREG(about.st_mode) ? 0 : S_ISDIR(about.st_mode) ? EISDIR : EACCES;
+    return S_ISREG(about.st_mode) ? 0 : S_ISDIR(about.st_mode) ? EISDIR : S_ISLNK(about.st_mode) ? ELOOP : EACCES;
 }
 
 int kinds_is_proc(int file) {

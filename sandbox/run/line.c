@@ -1,4 +1,5 @@
 /* The command line. TRUSTED, NOT PROVED. */
+#define _GNU_SOURCE
 #include "run.h"
 
 #include "nc_host.h"
@@ -7,6 +8,7 @@
 #include <stdio.h>
 #include <stdlib.h>
 #include <string.h>
+#include <unistd.h>
 
 #define PAGE 4096u
 #define MEMORY_DEFAULT (256u << 20)
@@ -27,9 +29,10 @@ static const char HELP[] =
     "      --memory <SIZE>     Bytes of data, heap and stack; K, M and G may follow [default: 256M]\n"
     "      --live-code <SIZE>  Bytes of code that the program may make, as for --memory, up to 63M [default: 0]\n"
     "      --call <NAME>       Call this function of the file, and print its result\n"
-    "      --dir <DIR>         Let the program read files below this folder\n"
-    "      --dir-rw <DIR>      Let the program read, write and make files below this folder\n"
-    "      --write <SIZE>      Bytes to write to files below it, as for --memory; a new file counts 4096 [default: 1G]\n"
+    "      --dir <DIR>         Let the program read what is below this folder, which is its /; DIR=/NAME gives it another name\n"
+    "      --dir-rw <DIR>      The same, and let the program write, make, rename and remove it\n"
+    "      --write <SIZE>      Bytes to write to files there, as for --memory; a new file counts 4096 [default: 1G]\n"
+    "      --env <NAME>        Give the program this variable of the environment; NAME=VALUE gives it a value of its own\n"
     "      --wall <HOW>        Whether to run without a whole second wall [default: try] [possible values: try, must]\n"
     "      --no-wall           Leave out the second wall, so that a program out of its box could do all that you can\n"
     "  -h, --help              Print help\n"
@@ -155,17 +158,60 @@ static int take_call(const char *value, Line *line) {
     return -1;
 }
 
-static int take_folder(const char *value, Line *line) {
-    if (line->folder != NULL) {
-        return wrong("there can be only one --dir or --dir-rw, and this is another: ", value);
+/* The last `=/` of the value, if there is one, is before the name that the folder gets. */
+static const char *find_name(const char *value) {
+    const char *name = NULL, *at;
+    for (at = strstr(value, "=/"); at != NULL; at = strstr(at + 1, "=/")) {
+        name = at;
     }
-    line->folder = value;
-    return -1;
+    return name;
+}
+
+static int add_folder(const char *value, Line *line, int writable) {
+    const char *name = find_name(value);
+    Folder *folder = &line->folders[line->folder_count];
+    unsigned k = 0;
+    if (line->folder_count == FOLDERS_MAX) {
+        return wrong("there can be only 16 folders, and this is another: ", value);
+    }
+    *folder = (Folder){.host = value, .host_len = name != NULL ? (size_t)(name - value) : strlen(value), .writable = writable, .file = -1};
+    if (name != NULL && !view_plain("", name + 1, folder->name)) {
+        return wrong("the name of a folder is too long: ", value);
+    }
+    while (strcmp(line->folders[k].name, folder->name) != 0) {
+        k++;
+    }
+    line->folder_count++;
+    return k + 1 == line->folder_count ? -1 : wrong("two folders have one name, where =/NAME after this one gives it another: ", value);
+}
+
+static int take_folder(const char *value, Line *line) {
+    return add_folder(value, line, 0);
 }
 
 static int take_writable(const char *value, Line *line) {
-    line->writable = 1;
-    return take_folder(value, line);
+    return add_folder(value, line, 1);
+}
+
+/* The variable of nc-run's own environment, as NAME=VALUE; or NULL. */
+static const char *find_variable(const char *name) {
+    size_t len = strlen(name), k = 0;
+    while (environ[k] != NULL && (strncmp(environ[k], name, len) != 0 || environ[k][len] != '=')) {
+        k++;
+    }
+    return environ[k];
+}
+
+/* One that nc-run hasn't the program doesn't get. */
+static int take_env(const char *value, Line *line) {
+    const char *given = strchr(value, '=') != NULL ? value : find_variable(value);
+    if (*value == 0 || *value == '=' || line->env_count == ENV_MAX) {
+        return wrong(line->env_count == ENV_MAX ? "there can be only 256 --env, and this is another: " : "--env wants a name: ", value);
+    }
+    if (given != NULL) {
+        line->env[line->env_count++] = given;
+    }
+    return -1;
 }
 
 static int take_help(const char *value, Line *line) {
@@ -193,6 +239,7 @@ static const struct Option {
     {"--dir", take_folder, 1},
     {"--dir-rw", take_writable, 1},
     {"--write", take_write, 1},
+    {"--env", take_env, 1},
     {"--wall", take_wall, 1},
     {"--no-wall", take_no_wall, 0},
     {"--help", take_help, 0},

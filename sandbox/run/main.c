@@ -11,6 +11,7 @@
 #include <stdlib.h>
 #include <string.h>
 #include <sys/prctl.h>
+#include <sys/syscall.h>
 #include <unistd.h>
 
 #define FILE_MOST ((size_t)1 << 30)
@@ -77,9 +78,10 @@ static int make_box(Run *run) {
     return calls_give(run) ? ON : report_system("a call of the host can't be added to the box", 0);
 }
 
-/* The words of the command line, from the file's name on. */
+/* The words of the command line, from the file's name on, and behind them those of the environment. */
 static const char *word(const Run *run, unsigned k) {
-    return k == 0 ? run->line.file : run->line.words[k - 1];
+    const Line *line = &run->line;
+    return k == 0 ? line->file : k <= line->count ? line->words[k - 1] : line->env[k - 1 - line->count];
 }
 
 /* Their bytes, each with its 0. */
@@ -92,26 +94,35 @@ static uint64_t words_len(const Run *run, unsigned count) {
     return len;
 }
 
-/* Writes the words at the end of the memory, and below them argv, which ends with a null. The address of argv, a multiple of 16; or 0 if
-   there is no room above the data. */
-static uint32_t lay_words(Run *run, unsigned count) {
-    uint32_t heap = ncs_take(run->box, 0).at, at, argv, zero = 0;
-    uint64_t len = words_len(run, count);
+/* Writes words to an address of the box, and their addresses from another one on, with a null behind them. The address behind the words, or
+   0. */
+static uint32_t lay_some(Run *run, unsigned from, unsigned end, uint32_t at, uint32_t pointers) {
+    const uint32_t zero = 0;
     unsigned k;
-    if (heap == 0 || len + 4ull * count + 4 + 15 > run->line.memory - heap) {
-        return 0;
-    }
-    at = run->line.memory - (uint32_t)len;
-    argv = (at - 4 * count - 4) & ~15u;
-    for (k = 0; k < count; k++) {
+    for (k = from; k < end; k++, pointers += 4) {
         uint32_t size = (uint32_t)strlen(word(run, k)) + 1;
-        if (!ncs_set(run->box, (NcsAt){argv + 4 * k}, &at, 4) || !ncs_set(run->box, (NcsAt){at}, word(run, k), size)) {
+        if (!ncs_set(run->box, (NcsAt){pointers}, &at, 4) || !ncs_set(run->box, (NcsAt){at}, word(run, k), size)) {
             return 0;
         }
         at += size;
     }
+    return ncs_set(run->box, (NcsAt){pointers}, &zero, 4) ? at : 0;
+}
+
+/* Writes the words at the end of the memory, and below them argv and the environment, each of which ends with a null. The address of argv, a
+   multiple of 16; or 0 if there is no room above the data. */
+static uint32_t lay_words(Run *run) {
+    unsigned own = 1 + run->line.count, count = own + run->line.env_count;
+    uint32_t heap = ncs_take(run->box, 0).at, at, argv;
+    uint64_t len = words_len(run, count), room = 4 * (count + 2ull);
+    if (heap == 0 || len + room + 15 > run->line.memory - heap) {
+        return 0;
+    }
+    at = run->line.memory - (uint32_t)len;
+    argv = (at - (uint32_t)room) & ~15u;
     run->memory_end = argv;
-    return ncs_set(run->box, (NcsAt){argv + 4 * count}, &zero, 4) ? argv : 0;
+    at = lay_some(run, 0, own, at, argv);
+    return at != 0 && lay_some(run, own, count, at, argv + 4 * (own + 1)) != 0 ? argv : 0;
 }
 
 /* The result of a function goes to standard output; that of the program is its status. */
@@ -140,14 +151,13 @@ static int call_function(Run *run) {
 }
 
 static int start(Run *run) {
-    unsigned count = 1 + run->line.count;
-    uint32_t argv = lay_words(run, count);
+    uint32_t argv = lay_words(run);
     NcsAt entry = ncs_entry(run->module);
     NcsEnd end;
     if (argv == 0) {
-        return report_file(run, "there is no room for the words of the command line above its data", "");
+        return report_file(run, "there is no room for the words of the command line above its data: give more --memory", "");
     }
-    end = ncs_call(run->box, entry, NCS_ARGS(count, argv));
+    end = ncs_call(run->box, entry, NCS_ARGS(1 + run->line.count, argv));
     return finish(run, entry, &end);
 }
 
@@ -161,23 +171,41 @@ static const char *prepare(Run *run) {
     if (what == NULL && (signal(SIGPIPE, SIG_IGN) == SIG_ERR || signal(SIGXFSZ, SIG_IGN) == SIG_ERR)) {
         what = "a signal";
     }
-    if (what == NULL && run->line.folder != NULL) {
-        what = opening_folder(&run->files, run->line.folder, run->line.writable, run->line.write);
+    run->files.left = run->line.write;
+    things_begin(run);
+    return what != NULL ? what : view_begin(&run->files.view, run->line.folders, run->line.folder_count);
+}
+
+/* What the calls of nc_run.h need of the system besides. The first ones are for folders that are only read, too. */
+/* clang-format off */
+static const int CALLS[] = {
+    SYS_getdents64, SYS_readlinkat,
+    SYS_mkdirat, SYS_unlinkat, SYS_renameat, SYS_ftruncate, SYS_fchmod,
+};
+/* clang-format on */
+#define CALLS_TO_READ 2u
+#define CALLS_TO_CHANGE (sizeof CALLS / sizeof *CALLS)
+
+static int build_wall(const Run *run, NcsRefusal *why) {
+    NcsFolder folders[FOLDERS_MAX];
+    NcsWall wall = {.folders = folders, .folder_count = run->files.view.count, .calls = CALLS};
+    unsigned k;
+    for (k = 0; k < wall.folder_count; k++) {
+        folders[k] = (NcsFolder){.file = run->line.folders[k].file, .writable = run->line.folders[k].writable};
+        wall.call_count = folders[k].writable || wall.call_count == CALLS_TO_CHANGE ? CALLS_TO_CHANGE : CALLS_TO_READ;
     }
-    return what;
+    return ncs_wall(&wall, why);
 }
 
 /* Gives up what the program's calls don't need: files from the parent, and by the second wall all that the system can take away. */
 static int give_up(const Run *run) {
-    const NcsFolder folder = {.file = run->files.folder, .writable = run->files.writable};
-    const NcsWall wall = {.folders = &folder, .folder_count = folder.file >= 0};
     NcsRefusal why;
     int stands, status;
     files_leave_others(&run->files);
     if (run->line.wall == WALL_NONE) {
         return ON;
     }
-    stands = ncs_wall(&wall, &why);
+    stands = build_wall(run, &why);
     if (stands == NCS_WALL_WHOLE) {
         return ON;
     }

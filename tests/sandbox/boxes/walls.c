@@ -178,6 +178,7 @@ static const Row READING[] = {
     {"the memory of the process", EACCES, SYS_openat, {AT_FDCWD, (long)"/proc/self/mem", O_RDWR}, 0},
     {"what a file system is", EBADF, SYS_fstatfs, {-1}, 0},
     {"a socket, with a folder", KILLED, SYS_socket, {AF_INET, SOCK_STREAM}, 0},
+    {"times of an open file, with a folder", KILLED, SYS_utimensat, {-1}, 0},
 };
 
 static const Row WRITING[] = {
@@ -193,6 +194,29 @@ static const Row WRITING[] = {
     {"a link", KILLED, SYS_link, {(long)"out", (long)"in/link"}, 0},
     {"a device", KILLED, SYS_mknod, {(long)"in/device", S_IFCHR | 0600, 0}, 0},
     {"rights of a file", KILLED, SYS_chmod, {(long)"in/file", 04777}, 0},
+    {"times of an open file", EBADF, SYS_utimensat, {-1}, 0},
+    {"times of a file at a path", KILLED, SYS_utimensat, {AT_FDCWD, (long)"out"}, 0},
+    {"times of a file at a path whose address ends in zeros", KILLED, SYS_utimensat, {AT_FDCWD, 1l << 32}, 0},
+    {"times of a file at a path whose address begins with zeros", KILLED, SYS_utimensat, {AT_FDCWD, 1}, 0},
+};
+
+/* What the host names besides, for names in the folder. */
+static const int CHANGES[] = {SYS_mkdirat, SYS_unlinkat, SYS_renameat, SYS_symlinkat};
+static const Row CHANGING[] = {
+    {"a folder in the folder", MADE, SYS_mkdirat, {AT_FDCWD, (long)"in/folder", 0700}, 0},
+    {"a folder outside of it", EACCES, SYS_mkdirat, {AT_FDCWD, (long)"folder", 0700}, 0},
+    {"a folder that goes", MADE, SYS_unlinkat, {AT_FDCWD, (long)"in/folder", AT_REMOVEDIR}, 0},
+    {"a file outside of it that goes", EACCES, SYS_unlinkat, {AT_FDCWD, (long)"out"}, 0},
+    {"a file of another name", MADE, SYS_renameat, {AT_FDCWD, (long)"in/file", AT_FDCWD, (long)"in/other"}, 0},
+    {"its old name", MADE, SYS_renameat, {AT_FDCWD, (long)"in/other", AT_FDCWD, (long)"in/file"}, 0},
+    {"a file that comes out", EACCES, SYS_renameat, {AT_FDCWD, (long)"in/file", AT_FDCWD, (long)"file"}, 2},
+    {"a file that comes in", EACCES, SYS_renameat, {AT_FDCWD, (long)"out", AT_FDCWD, (long)"in/out"}, 2},
+    {"a link in the folder", EACCES, SYS_symlinkat, {(long)"out", AT_FDCWD, (long)"in/link"}, 0},
+};
+static const Row UNCHANGING[] = {
+    {"a folder in the folder to be read", EACCES, SYS_mkdirat, {AT_FDCWD, (long)"in/folder", 0700}, 0},
+    {"a file in the folder to be read that goes", EACCES, SYS_unlinkat, {AT_FDCWD, (long)"in/file"}, 0},
+    {"a name in the folder to be read", EACCES, SYS_renameat, {AT_FDCWD, (long)"in/file", AT_FDCWD, (long)"in/other"}, 0},
 };
 
 static const int CALLS[] = {SYS_getppid, SYS_openat, SYS_kill, SYS_bind};
@@ -474,18 +498,21 @@ static int lay(void) {
 }
 
 static void clear(void) {
-    static const char *const names[] = {"in/file", "in/new", "in/made", "new", "out"};
+    static const char *const names[] = {"in/file",   "in/new", "in/made", "in/other", "in/out", "in/link",
+                                        "in/folder", "new",    "out",     "file",     "folder"};
     size_t k;
     for (k = 0; k < COUNT(names); k++) {
-        (void)unlink(names[k]); /* not all of them are there */
+        (void)remove(names[k]); /* not all of them are there */
     }
     CHECK(rmdir("in") == 0 && chdir("..") == 0 && rmdir(place) == 0);
 }
 
 int main(void) {
     const NcsWall closed = {.threads = 0}, read_alone = {.folders = &reading, .folder_count = 1},
-                  written = {.folders = &writing, .folder_count = 1}, calling = {.calls = CALLS, .call_count = COUNT(CALLS)},
-                  threads = {.threads = 1};
+                  written = {.folders = &writing, .folder_count = 1},
+                  changed = {.folders = &writing, .folder_count = 1, .calls = CHANGES, .call_count = COUNT(CHANGES)},
+                  unchanged = {.folders = &reading, .folder_count = 1, .calls = CHANGES, .call_count = COUNT(CHANGES)},
+                  calling = {.calls = CALLS, .call_count = COUNT(CALLS)}, threads = {.threads = 1};
     int *which = mmap(NULL, sizeof *which, PROT_READ | PROT_WRITE, MAP_SHARED | MAP_ANONYMOUS, -1, 0);
     if (which == MAP_FAILED || !lay()) {
         return 2;
@@ -499,6 +526,8 @@ int main(void) {
     try_rows("nothing to open", &closed, CLOSED, COUNT(CLOSED));
     try_rows("a folder", &read_alone, READING, COUNT(READING));
     try_rows("a folder to be written", &written, WRITING, COUNT(WRITING));
+    try_rows("names in it", &changed, CHANGING, COUNT(CHANGING));
+    try_rows("names in a folder to be read", &unchanged, UNCHANGING, COUNT(UNCHANGING));
     try_rows("calls of the host's", &calling, CALLING, COUNT(CALLING));
     try_rows("threads", &threads, THREADING, COUNT(THREADING));
     try_ways();

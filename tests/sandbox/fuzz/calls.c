@@ -25,7 +25,17 @@
 #define WRITE_MOST 0x20000u /* bytes that may be written in the folder */
 #define NUMBERS_MOST 1024u  /* of the files of this process */
 #define STANDARD 3
-#define CLOSE 5 /* the number of the call nc_close */
+#define CLOSE 5           /* the number of the call nc_close */
+#define SLEEP 24          /* and of nc_sleep */
+#define WAIT_MOST 0xFFFFu /* nanoseconds */
+/* What an input's byte says: the calls before those for code, those behind them, a path, or something else. */
+enum {
+    TO_EXIT = NC_RUN_CODE,
+    TO_LAY,
+    TO_CALL_MORE = TO_LAY + PATHS,
+    TO_ANYWHERE = TO_CALL_MORE + NC_RUN_END - NC_RUN_CODE_END,
+    TO_MOST = 32
+};
 
 /* As the program reads it. */
 typedef struct Call {
@@ -60,7 +70,7 @@ static void see_numbers(uint8_t taken[NUMBERS_MOST]) {
     MUST(closedir(dir) == 0);
 }
 
-/* Whether a file is a regular one in the folder. */
+/* Whether a file is a regular one or a folder, and in the program's folder or that itself. */
 static int is_in_folder(int file) {
     char name[64], to[PATH_MAX];
     size_t len = strlen(folder_path());
@@ -70,7 +80,8 @@ static int is_in_folder(int file) {
     got = readlink(name, to, sizeof to - 1);
     MUST(got >= 0 && fstat(file, &about) == 0);
     to[got] = 0;
-    return S_ISREG(about.st_mode) && strncmp(to, folder_path(), len) == 0 && to[len] == '/';
+    return (S_ISREG(about.st_mode) || S_ISDIR(about.st_mode)) && strncmp(to, folder_path(), len) == 0 &&
+           (to[len] == '/' || (to[len] == 0 && S_ISDIR(about.st_mode)));
 }
 
 /* The files that were opened are those that the program has numbers for, and the folder itself. */
@@ -127,7 +138,8 @@ static uint32_t word(const Trial *t, uint8_t which, uint32_t extra) {
     static const uint32_t hows[] = {NC_OPEN_READ, NC_OPEN_WRITE, NC_OPEN_BOTH, NC_OPEN_WRITE | NC_OPEN_CREATE,
                                     NC_OPEN_BOTH | NC_OPEN_CREATE, NC_OPEN_BOTH | NC_OPEN_CREATE | NC_OPEN_NEW,
                                     NC_OPEN_WRITE | NC_OPEN_EMPTY, NC_OPEN_WRITE | NC_OPEN_APPEND, NC_OPEN_CREATE, NC_OPEN_EMPTY, 3,
-                                    0x8000 | NC_OPEN_READ};
+                                    0x8000 | NC_OPEN_READ,
+                                    NC_OPEN_FOLDER, NC_OPEN_NO_LINK, NC_OPEN_FOLDER | NC_OPEN_WRITE, NC_OPEN_NO_LINK | NC_OPEN_CREATE};
     /* clang-format on */
     uint32_t low = which & 31;
     switch (which >> 5) {
@@ -142,13 +154,23 @@ static uint32_t word(const Trial *t, uint8_t which, uint32_t extra) {
     }
 }
 
+/* The address of a call. */
+static uint32_t place_of(unsigned what, uint32_t extra) {
+    return what < NC_RUN_CODE  ? NCS_CALLBACK(what)
+         : what == TO_EXIT     ? NCS_EXIT
+         : what >= TO_ANYWHERE ? extra
+                               : NCS_CALLBACK(what - TO_CALL_MORE + NC_RUN_CODE_END);
+}
+
 static void read_call(Trial *t, Input *input) {
     uint8_t bytes[8];
     uint32_t extra, k;
+    unsigned what;
     Call *call = &t->calls[t->count];
     fuzz_bytes(input, bytes, sizeof bytes);
-    if (bytes[0] % 16 >= 12) {
-        put_path(t, bytes[0] % PATHS, bytes + 1);
+    what = bytes[0] % TO_MOST;
+    if (what >= TO_LAY && what < TO_CALL_MORE) {
+        put_path(t, what - TO_LAY, bytes + 1);
         return;
     }
     memset(call, 0, sizeof *call);
@@ -156,7 +178,11 @@ static void read_call(Trial *t, Input *input) {
     for (k = 0; k < 4; k++) {
         call->args[k] = word(t, bytes[1 + k], extra);
     }
-    call->at = bytes[0] % 16 < 8 ? NCS_CALLBACK(bytes[0] % 16u) : bytes[0] % 16 == 8 ? NCS_EXIT : extra;
+    call->at = place_of(what, extra);
+    if (call->at == NCS_CALLBACK(SLEEP)) {
+        call->args[0] &= WAIT_MOST;
+        call->args[1] &= 1u << 31;
+    }
     t->count++;
 }
 

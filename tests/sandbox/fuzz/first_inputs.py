@@ -96,11 +96,13 @@ def files(folder):
 
 # ---- For `calls`: bytes as read_call of calls.c reads them. An argument is a byte that says which number it is.
 
-READ, WRITE, CLOCK, MEMORY, OPEN, CLOSE, SEEK, SIZE, EXIT, ANYWHERE = range(10)
+READ, WRITE, CLOCK, MEMORY, OPEN, CLOSE, SEEK, SIZE, EXIT, LAY = range(10)
+STATUS, LIST, LINK, ENTER, WHERE, MAKE, REMOVE, RENAME, CUT, CHANGE, COPY, TERMINAL, SLEEP, RANDOM, ANYWHERE = range(LAY + 4, LAY + 19)
 NAMES = ["file", "sub", "inner", "made", "..", ".", "", "up", "out", "above", "beyond", "loop", "self", "root", "pipe", "secret", "dir",
          "d", "fd", "mem", "cwd"]
 PARTS = {name: number for number, name in enumerate(NAMES)}
-WAYS = ["read", "write", "both", "write create", "both create", "new", "empty", "append", "create", "empty only", "wrong", "large"]
+WAYS = ["read", "write", "both", "write create", "both create", "new", "empty", "append", "create", "empty only", "wrong", "large",
+        "folder", "no link", "folder write", "no link create"]
 HOWS = {name: 5 << 5 | number for number, name in enumerate(WAYS)}
 READ_ONLY, WRITABLE, OF_KERNEL = b"\0", b"\1", b"\2"
 
@@ -112,7 +114,7 @@ def a_call(number, *arguments, extra=0):
 def a_path(slot, *parts, above=False):
     """Lays a path, of which `above` says whether it begins with the place of the folder above."""
     count = next(count for count in range(0xF0 if above else 0, 0x100) if count % 7 == len(parts))
-    return bytes([12 + slot, count, *[PARTS[part] for part in parts], *[0] * (6 - len(parts))])
+    return bytes([LAY + slot, count, *[PARTS[part] for part in parts], *[0] * (6 - len(parts))])
 
 
 def path(slot):
@@ -142,6 +144,15 @@ def opens(how, *paths):
 
 OUT = [["out"], ["..", "secret"], ["above", "secret"], ["root", "secret"], ["beyond"], ["sub", "..", "..", "made"]]
 KINDS = [["pipe"], ["sub"], ["loop"], [""], ["."], ["sub", "up"], ["self"]]
+
+
+def on_each(number, slots, *arguments, extra=0):
+    """A call on several paths that are laid, one after the other."""
+    return b"".join(a_path(0, *parts) + a_call(number, path(0), *arguments, extra=extra) for parts in slots)
+
+
+EVERY = [["file"], ["sub"], ["made"], *OUT, *KINDS]
+MODE = 6 << 5
 CALLS = {
     "reads": [WRITABLE, a_path(0, "file"), an_open(0, "read"), a_call(SIZE, 3), a_call(READ, 3, buffer(0), 16),
               a_call(READ, 3, buffer(1), MANY), a_call(SEEK, 3), a_call(READ, 3, LAST_BYTE, 1), a_call(CLOSE, 3),
@@ -168,6 +179,30 @@ CALLS = {
     "a limit": [WRITABLE, a_path(0, "made"), an_open(0, "both create"), a_call(WRITE, 3, buffer(0), MANY) * 40],
     "a limit, with seeks": [WRITABLE, a_path(0, "made"), an_open(0, "both create"),
                             (a_call(WRITE, 3, buffer(0), MANY) + a_call(SEEK, 3)) * 20, a_call(WRITE, 3, FIRST, ALL)],
+    "a limit, with folders": [WRITABLE, a_path(0, "made"), an_open(0, "both create"), a_path(1, "d"), a_call(MAKE, path(1), MODE),
+                              a_call(WRITE, 3, buffer(0), MANY) * 40],
+    "asks": [WRITABLE, on_each(STATUS, EVERY, 0, 0, buffer(0)), on_each(STATUS, EVERY, 0, HOWS["no link"], buffer(0))],
+    "links": [WRITABLE, on_each(LINK, EVERY, buffer(0), MANY)],
+    "enters": [WRITABLE, on_each(ENTER, EVERY), a_call(WHERE, ALL, buffer(0), MANY)],
+    "names": [WRITABLE, a_path(0, "sub"), an_open(0, "folder"), a_call(LIST, 3, buffer(0), MANY), a_call(LIST, 3, buffer(0), MANY),
+              a_call(SEEK, 3), a_call(LIST, 3, buffer(0), 16), a_call(WHERE, 3, buffer(0), MANY), a_call(READ, 3, buffer(0), 16)],
+    "makes": [WRITABLE, on_each(MAKE, EVERY, MODE, extra=0o7777)],
+    "changes": [WRITABLE, on_each(CHANGE, EVERY, 0, MODE, buffer(0), extra=0o7777)],
+    "renames": [WRITABLE, a_path(1, "made"), on_each(RENAME, EVERY, path(1))],
+    "removes": [WRITABLE, on_each(REMOVE, EVERY, 0), on_each(REMOVE, EVERY, 1)],
+    "changes, read only": [READ_ONLY, on_each(MAKE, EVERY[:4], MODE), on_each(CHANGE, EVERY[:4], 0, MODE), a_path(1, "made"),
+                           on_each(RENAME, EVERY[:4], path(1)), on_each(REMOVE, EVERY[:4], 0), on_each(REMOVE, EVERY[:4], 1)],
+    "the kernel's names": [OF_KERNEL, on_each(STATUS, [["mem"], ["."]], 0, 0, buffer(0)), on_each(ENTER, [["fd"], ["."]]),
+                           on_each(LINK, [["cwd"]], buffer(0), MANY), on_each(MAKE, [["made"]], MODE), on_each(REMOVE, [["mem"]], 0)],
+    "in and out": [WRITABLE, (a_path(0, "sub") + a_call(ENTER, path(0)) + a_path(0, "..", "..", "made") + a_call(MAKE, path(0), MODE)
+                              + a_path(1, "..", "inner") + a_call(RENAME, path(0), path(1)) + a_call(REMOVE, path(1), 1)) * 4],
+    "a place that changes": [WRITABLE, a_path(0, "made"), an_open(0, "both create"), a_call(CUT, 3, 16), a_call(CUT, 3, FIRST),
+                             a_call(WRITE, 3, buffer(0), 16), a_call(CUT, 3, ALL, ALL), a_call(CUT, 3, 1), a_call(WRITE, 3, buffer(0), 16)],
+    "copies": [WRITABLE, a_path(0, "made"), an_open(0, "both create"), a_call(COPY, 3, 9), a_call(COPY, 9, 1, 1), a_call(SEEK, 1),
+               a_call(WRITE, 9, buffer(0), MANY), a_call(COPY, 9, 9, 1), a_call(COPY, 0, 3, 1), a_call(CLOSE, 9), a_call(CLOSE, 1),
+               a_call(COPY, 0, edge(4)), a_call(COPY, 0, edge(5)), a_call(COPY, 0, ALL, 1), a_call(CLOSE, 0)],
+    "things": [WRITABLE, *[a_call(TERMINAL, number) for number in (0, 1, 2, 3, ALL)], a_call(SLEEP, 9), a_call(SLEEP, 0, ALL),
+               *[a_call(RANDOM, at, length) for at in (0, LOW, FIRST, LAST_BYTE, END, buffer(0)) for length in (0, 1, 2, ALL)]],
     "anywhere": [WRITABLE, a_call(ANYWHERE, extra=0x10000)],
 }
 

@@ -4,7 +4,6 @@
 
 #include "fuzz.h"
 
-#include <dirent.h>
 #include <fcntl.h>
 #include <ftw.h>
 #include <limits.h>
@@ -37,17 +36,37 @@ static struct stat levels_were[LEVELS];
 static struct stat folders_were[2]; /* the folder, and `sub` in it */
 static int folder = -1;             /* the folder above */
 
-/* ---- Making and removing */
+/* ---- Removing */
 
 static int remove_one(const char *name, const struct stat *about, int kind, struct FTW *where) {
     (void)about;
+    return where->level == 0 && strcmp(name, path) == 0 ? 0 : kind == FTW_DP ? rmdir(name) : unlink(name);
+}
+
+static int was_closed; /* a folder that can't be read, before it was opened up */
+
+static int open_up(const char *name, const struct stat *about, int kind, struct FTW *where) {
+    (void)about;
     (void)where;
-    return kind == FTW_DP ? rmdir(name) : unlink(name);
+    was_closed |= kind == FTW_DNR;
+    return kind == FTW_D || kind == FTW_DNR ? chmod(name, 0755) : 0;
+}
+
+/* All that is below a folder of ours, and that folder itself unless it is the one of the program. */
+static int remove_below(const char *name) {
+    int error = 0;
+    do {
+        was_closed = 0;
+        error |= nftw(name, open_up, 16, FTW_PHYS);
+    } while (was_closed && error == 0);
+    return error == 0 ? nftw(name, remove_one, 16, FTW_DEPTH | FTW_PHYS) : error;
 }
 
 static void remove_all(void) {
-    (void)nftw(root, remove_one, 16, FTW_DEPTH | FTW_PHYS); /* nobody is told, since the process ends */
+    (void)remove_below(root); /* nobody is told, since the process ends */
 }
+
+/* ---- Making */
 
 static void make_levels(void) {
     const char *where = getenv("TMPDIR");
@@ -62,7 +81,7 @@ static void make_levels(void) {
     len = snprintf(path, sizeof path, "%s/dir", above);
     MUST(len > 0 && (size_t)len < sizeof path && mkdir(path, 0755) == 0);
     folder = open(above, O_PATH | O_DIRECTORY | O_CLOEXEC);
-    MUST(folder >= 0 && mkdirat(folder, "dir/sub", 0755) == 0 && mkfifoat(folder, "dir/pipe", 0644) == 0);
+    MUST(folder >= 0);
 }
 
 static void write_one(Known *known) {
@@ -89,6 +108,7 @@ static struct stat level(unsigned k) {
 
 static void make_links(void) {
     size_t k;
+    MUST(mkdirat(folder, "dir/sub", 0755) == 0 && mkfifoat(folder, "dir/pipe", 0644) == 0);
     for (k = 0; k < LENGTH(links); k++) {
         MUST(symlinkat(links[k].to, folder, links[k].name) == 0);
     }
@@ -102,16 +122,20 @@ static void see_levels(void) {
     }
 }
 
-void folder_begin(void) {
+static void fill(void) {
     size_t k;
-    make_levels();
     make_links();
-    write_one(&secret);
     for (k = 0; k < LENGTH(inside); k++) {
         write_one(&inside[k]);
     }
-    see_levels();
     see_folders();
+}
+
+void folder_begin(void) {
+    make_levels();
+    write_one(&secret);
+    fill();
+    see_levels();
 }
 
 const char *folder_path(void) {
@@ -160,70 +184,50 @@ int folder_outside_is_same(void) {
     return is_as_it_was(&secret);
 }
 
-static int is_known(const char *name) {
-    struct stat about;
-    size_t k;
-    for (k = 0; k < LENGTH(inside) && strcmp(name, inside[k].name) != 0; k++) {}
-    return k < LENGTH(inside) || (fstatat(folder, name, &about, AT_SYMLINK_NOFOLLOW) == 0 && !S_ISREG(about.st_mode));
-}
+/* ---- What is in it */
 
-/* Calls a function with each file in a folder that wasn't there at first. For how many it says so. */
-static unsigned each_made(const char *name, int (*what)(const char *)) {
-    int file = openat(folder, name, O_RDONLY | O_DIRECTORY | O_CLOEXEC);
-    unsigned count = 0;
-    DIR *dir = file >= 0 ? fdopendir(file) : NULL;
-    struct dirent *entry;
-    MUST(dir != NULL);
-    while ((entry = readdir(dir)) != NULL) {
-        char full[PATH_MAX];
-        MUST(snprintf(full, sizeof full, "%s/%s", name, entry->d_name) < (int)sizeof full);
-        count += !is_known(full) && what(full);
-    }
-    MUST(closedir(dir) == 0);
-    return count;
-}
+typedef struct Counts {
+    unsigned all, links, pipes, others;
+} Counts;
+static Counts counts;
 
-static int has_bad_mode(const char *name) {
-    struct stat about;
-    return fstatat(folder, name, &about, AT_SYMLINK_NOFOLLOW) != 0 || (about.st_mode & 07000) != 0;
-}
-
-static int cannot_be_removed(const char *name) {
-    return unlinkat(folder, name, 0) != 0;
-}
-
-static int is_made(const char *name) {
+static int count_one(const char *name, const struct stat *about, int kind, struct FTW *where) {
     (void)name;
-    return 1;
+    (void)kind;
+    counts.all += where->level != 0;
+    counts.links += S_ISLNK(about->st_mode);
+    counts.pipes += S_ISFIFO(about->st_mode);
+    counts.others += !S_ISLNK(about->st_mode) && !S_ISFIFO(about->st_mode) &&
+                     ((!S_ISREG(about->st_mode) && !S_ISDIR(about->st_mode)) || (about->st_mode & 07000) != 0);
+    return 0;
 }
 
-unsigned folder_made(void) {
-    return each_made("dir", is_made) + each_made("dir/sub", is_made);
+/* What is in folders that can't be read isn't counted. */
+static Counts count(void) {
+    memset(&counts, 0, sizeof counts);
+    MUST(nftw(path, count_one, 16, FTW_PHYS) == 0);
+    return counts;
+}
+
+unsigned folder_count(void) {
+    return count().all;
 }
 
 int folder_inside_is_same(void) {
     struct stat dir, sub;
-    MUST(fstatat(folder, "dir", &dir, 0) == 0 && fstatat(folder, "dir/sub", &sub, 0) == 0);
-    return is_same(&dir, &folders_were[0]) && is_same(&sub, &folders_were[1]) && is_as_it_was(&inside[0]) && is_as_it_was(&inside[1]) &&
-           folder_made() == 0;
+    MUST(fstatat(folder, "dir", &dir, 0) == 0);
+    return is_same(&dir, &folders_were[0]) && fstatat(folder, "dir/sub", &sub, 0) == 0 && is_same(&sub, &folders_were[1]) &&
+           is_as_it_was(&inside[0]) && is_as_it_was(&inside[1]);
 }
 
 int folder_inside_is_good(void) {
-    struct stat dir;
-    MUST(fstatat(folder, "dir", &dir, 0) == 0);
-    return dir.st_nlink == folders_were[0].st_nlink && each_made("dir", has_bad_mode) + each_made("dir/sub", has_bad_mode) == 0;
+    Counts now = count();
+    return now.links <= LENGTH(links) + 1 && now.pipes <= 1 && now.others == 0;
 }
 
 void folder_restore(void) {
-    size_t k;
-    if (folder_inside_is_same()) {
-        return;
+    if (!folder_inside_is_same()) {
+        MUST(chmod(path, 0755) == 0 && remove_below(path) == 0);
+        fill();
     }
-    MUST(each_made("dir", cannot_be_removed) + each_made("dir/sub", cannot_be_removed) == 0);
-    for (k = 0; k < LENGTH(inside); k++) {
-        if (!is_as_it_was(&inside[k])) {
-            write_one(&inside[k]);
-        }
-    }
-    see_folders();
 }

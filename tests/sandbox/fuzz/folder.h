@@ -16,14 +16,14 @@ const char *folder_above(void);
 /* A part of a path, by a number: a name that is there or isn't, a link, one that leads out, `..`. */
 const char *folder_part(unsigned number);
 
-/* How many files have been made in it. */
-unsigned folder_made(void);
+/* How many files, folders, links and other things are in it. */
+unsigned folder_count(void);
 
-/* Gives all files their first contents again, and removes those that were made. */
+/* Gives it its first contents again. */
 void folder_restore(void);
 
-/* Whether nothing outside of the folder has changed; whether nothing in it has, since it was restored; and whether what was made in it is
-   regular files without special modes. */
+/* Whether nothing outside of the folder has changed; whether nothing in it has, since it was restored; and whether what is in it now is
+   regular files and folders without special modes, and no more links and pipes than there were. */
 int folder_outside_is_same(void);
 int folder_inside_is_same(void);
 int folder_inside_is_good(void);

@@ -17,15 +17,21 @@
 
 REAL(NcsAt, ncs_callback, NcsBox *box, NcsCallback function, void *user, unsigned args);
 
-/* Whether the program has a file with this number: one of nc-run's own, or one that it has opened. And whether that was sought or read
-   since its last write. */
-enum { NONE, OWN, OPENED };
-static uint8_t files[RULES_FILES], moved[RULES_FILES];
+/* The open files, and which one the program has by each number, or NONE. The first ones are nc-run's own. */
+typedef struct Opened {
+    unsigned users;
+    int moved; /* whether it was sought, read or cut since its last write */
+    uint32_t how;
+} Opened;
+#define NONE 0xFF
+static Opened opened[RULES_FILES];
+static uint8_t files[RULES_FILES];
 static NcsBox *judged_box;
 static int files_given;
 static uint32_t memory_end;
-static uint64_t left; /* bytes that may be written */
-static unsigned made; /* files */
+static uint64_t left;       /* bytes that may be written */
+static unsigned count;      /* of what is in the folder */
+static int64_t size_before; /* of the file of a call */
 
 typedef struct Given {
     NcsCallback function;
@@ -39,15 +45,30 @@ static int has_file(uint32_t number) {
 }
 
 static int has_opened(uint32_t number) {
-    return number < RULES_FILES && files[number] == OPENED;
+    return has_file(number) && files[number] >= STANDARD;
 }
 
-static uint32_t least_free(void) {
-    uint32_t k = 0;
+static Opened *file_of(uint32_t number) {
+    return &opened[files[number]];
+}
+
+static uint32_t least_free(uint32_t from) {
+    uint32_t k = from;
     while (k < RULES_FILES && files[k] != NONE) {
         k++;
     }
     return k;
+}
+
+/* Gives an open file a number, or takes it away. */
+static void give_number(uint32_t number, uint8_t file) {
+    if (files[number] != NONE) {
+        file_of(number)->users--;
+    }
+    files[number] = file;
+    if (file != NONE) {
+        opened[file].users++;
+    }
 }
 
 static int has_range(uint32_t at, uint32_t len) {
@@ -56,9 +77,9 @@ static int has_range(uint32_t at, uint32_t len) {
 
 /* ---- What each call returns */
 
-/* Whether such a call on these bytes can succeed at all. */
-static int may_transfer(const uint32_t *args, int64_t result, int can_own) {
-    if (!has_opened(args[0]) && !(has_file(args[0]) && can_own)) {
+/* Whether such a call on these bytes can succeed at all. One of nc-run's own files is for reading, and two are for writing. */
+static int may_transfer(const uint32_t *args, int64_t result, int reads) {
+    if (!has_opened(args[0]) && !(has_file(args[0]) && reads == (files[args[0]] == 0))) {
         MUST(result == -EBADF);
         return 0;
     }
@@ -67,18 +88,18 @@ static int may_transfer(const uint32_t *args, int64_t result, int can_own) {
 }
 
 static void rule_of_read(const uint32_t *args, int64_t result) {
-    if (may_transfer(args, result, args[0] == 0)) {
-        moved[args[0]] = 1;
+    if (may_transfer(args, result, 1)) {
+        file_of(args[0])->moved = 1;
     }
 }
 
 /* Where it isn't all of the room that is left, the system has taken less. */
 static void rule_of_write(const uint32_t *args, int64_t result) {
-    if (may_transfer(args, result, args[0] != 0) && has_opened(args[0]) && args[2] != 0) {
-        uint64_t besides = moved[args[0]] ? BLOCK : 0;
+    if (may_transfer(args, result, 0) && has_opened(args[0]) && args[2] != 0) {
+        uint64_t besides = file_of(args[0])->moved ? BLOCK : 0;
         MUST(besides + (uint64_t)result <= left && result != 0);
         left -= besides + (uint64_t)result;
-        moved[args[0]] = 0;
+        file_of(args[0])->moved = 0;
     }
 }
 
@@ -91,41 +112,57 @@ static void rule_of_memory(const uint32_t *args, int64_t result) {
     MUST(result == (int64_t)memory_end);
 }
 
-/* A new file counts as a block. */
-static void see_made(void) {
-    unsigned now = folder_made();
-    if (now != made) {
-        MUST(now == made + 1 && left >= BLOCK);
+/* Whatever is new in the folder counts as a block. */
+static void see_count(void) {
+    unsigned now = folder_count();
+    if (now != count) {
+        MUST(now == count + 1 && left >= BLOCK);
         left -= BLOCK;
-        made = now;
+        count = now;
     }
+}
+
+/* What succeeds only where the program may change something, and may be less than there was. */
+static void see_change(int64_t result) {
+    MUST(result <= 0 && (result < 0 || files_given == RULES_WRITE));
+    count = folder_count();
+}
+
+static uint8_t new_opened(uint32_t how) {
+    uint8_t k = STANDARD;
+    while (opened[k].users != 0) {
+        k++;
+        MUST(k < RULES_FILES);
+    }
+    opened[k].moved = 0;
+    opened[k].how = how;
+    return k;
 }
 
 static void rule_of_open(const uint32_t *args, int64_t result) {
     uint32_t changing = args[1] & (NC_OPEN_WRITE | NC_OPEN_BOTH | NC_OPEN_CREATE | NC_OPEN_EMPTY | NC_OPEN_APPEND);
     if (result >= 0) {
-        MUST(result < (int64_t)RULES_FILES && (uint32_t)result == least_free());
+        MUST(result < (int64_t)RULES_FILES && (uint32_t)result == least_free(0));
         MUST(files_given == RULES_WRITE || (files_given == RULES_READ && changing == 0));
         MUST(has_range(args[0], 1));
-        files[result] = OPENED;
-        moved[result] = 0;
+        give_number((uint32_t)result, new_opened(args[1]));
     }
     if ((args[1] & NC_OPEN_CREATE) != 0) {
-        see_made();
+        see_count();
     }
 }
 
 static void rule_of_close(const uint32_t *args, int64_t result) {
     MUST(result == (has_file(args[0]) ? 0 : -EBADF));
     if (has_file(args[0])) {
-        files[args[0]] = NONE;
+        give_number(args[0], NONE);
     }
 }
 
 static void rule_of_lseek(const uint32_t *args, int64_t result) {
     MUST(result < 0 || (has_opened(args[0]) && args[3] <= 2));
     if (result >= 0) {
-        moved[args[0]] = 1;
+        file_of(args[0])->moved = 1;
     }
 }
 
@@ -133,12 +170,98 @@ static void rule_of_size(const uint32_t *args, int64_t result) {
     MUST(has_file(args[0]) ? result != -EBADF : result == -EBADF);
 }
 
-/* By the numbers of the calls. */
-static void (*const RULES[])(const uint32_t *, int64_t) = {
-    rule_of_read, rule_of_write, rule_of_clock, rule_of_memory, rule_of_open, rule_of_close, rule_of_lseek, rule_of_size,
-};
+static void rule_of_status(const uint32_t *args, int64_t result) {
+    MUST(result <= 0 && (result < 0 || has_range(args[3], sizeof(struct nc_status))));
+    MUST(result < 0 || (args[0] != 0 ? files_given != RULES_NONE && has_range(args[0], 1) : has_file(args[1])));
+}
 
-/* ---- What a call does to memory: nothing, but for the range of a read, and a hole that is told */
+static void rule_of_list(const uint32_t *args, int64_t result) {
+    MUST(result <= (int64_t)args[2] && (result < 0 || (has_opened(args[0]) && has_range(args[1], args[2]))));
+}
+
+static void rule_of_link(const uint32_t *args, int64_t result) {
+    MUST(result <= (int64_t)args[2] && (result < 0 || (files_given != RULES_NONE && has_range(args[0], 1))));
+}
+
+static void rule_of_enter(const uint32_t *args, int64_t result) {
+    MUST(result <= 0 && (result < 0 || (files_given != RULES_NONE && has_range(args[0], 1))));
+}
+
+static void rule_of_where(const uint32_t *args, int64_t result) {
+    MUST(result != 0 && result <= (int64_t)args[2]);
+    MUST(result < 0 || args[0] == (uint32_t)NC_WHERE || has_opened(args[0]));
+}
+
+static void rule_of_make(const uint32_t *args, int64_t result) {
+    (void)args;
+    MUST(result <= 0 && (result < 0 || files_given == RULES_WRITE));
+    see_count();
+}
+
+static void rule_of_remove(const uint32_t *args, int64_t result) {
+    MUST(result < 0 || args[1] <= 1);
+    see_change(result);
+}
+
+static void rule_of_rename(const uint32_t *args, int64_t result) {
+    MUST(result < 0 || (has_range(args[0], 1) && has_range(args[1], 1)));
+    see_change(result);
+}
+
+static void rule_of_cut(const uint32_t *args, int64_t result) {
+    int64_t len = (int64_t)((uint64_t)args[2] << 32 | args[1]);
+    MUST(result <= 0 && (result < 0 || (has_opened(args[0]) && len >= 0 && files_given == RULES_WRITE)));
+    if (result == 0) {
+        uint64_t more = len > size_before ? (uint64_t)(len - size_before) : 0;
+        MUST((file_of(args[0])->how & (NC_OPEN_WRITE | NC_OPEN_BOTH)) != 0 && more <= left);
+        left -= more;
+        file_of(args[0])->moved = 1;
+    }
+}
+
+static void rule_of_change(const uint32_t *args, int64_t result) {
+    MUST(result < 0 || (args[0] != 0 ? has_range(args[0], 1) : has_opened(args[1])));
+    see_change(result);
+}
+
+static void rule_of_copy(const uint32_t *args, int64_t result) {
+    MUST(result < 0 || (has_file(args[0]) && (uint32_t)result == (args[2] != 0 ? args[1] : least_free(args[1]))));
+    if (result >= 0 && (uint32_t)result != args[0]) {
+        MUST(result < (int64_t)RULES_FILES);
+        give_number((uint32_t)result, files[args[0]]);
+    }
+}
+
+static void rule_of_terminal(const uint32_t *args, int64_t result) {
+    MUST(!has_file(args[0]) ? result == -EBADF : result >= 0 ? !has_opened(args[0]) : result == -ENOTTY);
+}
+
+static void rule_of_sleep(const uint32_t *args, int64_t result) {
+    MUST(result == (args[1] >> 31 != 0 ? -EINVAL : 0));
+}
+
+static void rule_of_random(const uint32_t *args, int64_t result) {
+    MUST(has_range(args[0], args[1]) ? result <= (int64_t)args[1] && (result > 0 || args[1] == 0) : result == -EFAULT);
+}
+
+/* By the numbers of the calls. Those for code have none. */
+#define RULE(number, name, words) [number] = rule_of_##name,
+static void (*const RULES[])(const uint32_t *, int64_t) = {NC_RUN_CALLS(RULE)};
+
+/* ---- What a call does to memory: nothing, but for a range that it fills */
+
+#define NUMBER_OF(number, name, words) NUMBER_##name = number,
+enum { NC_RUN_CALLS(NUMBER_OF) };
+
+static uint32_t range_of(size_t call, const uint32_t *args, uint64_t *end) {
+    uint32_t at = call == NUMBER_status ? args[3] : call == NUMBER_random ? args[0] : args[1];
+    uint64_t len = call == NUMBER_status ? sizeof(struct nc_status)
+                 : call == NUMBER_random ? args[1]
+                 : call == NC_RUN_CODE   ? sizeof(NcsHole)
+                                         : args[2];
+    *end = at + len;
+    return at;
+}
 
 /* The bytes on one side of a range, as far as they are the box's. */
 typedef struct Side {
@@ -163,14 +286,15 @@ static int is_as_it_was(const Side *side) {
 static uint64_t judge(NcsBox *box, void *user, const uint32_t *args) {
     const Given *g = user;
     size_t k = (size_t)(g - given);
-    uint64_t at = args[1], end = at + (k == NC_RUN_CODE ? sizeof(NcsHole) : args[2]);
+    uint64_t end, at = range_of(k, args, &end);
     Side below, above;
     int64_t result;
+    size_before = k == NUMBER_cut ? (int64_t)given[NUMBER_size].function(box, given[NUMBER_size].user, args) : 0;
     see_side(&below, at < AROUND ? 0 : at - AROUND, at);
     see_side(&above, end, end + AROUND);
     result = (int64_t)g->function(box, g->user, args);
     MUST(box == judged_box && result >= -ERROR_MOST && is_as_it_was(&below) && is_as_it_was(&above));
-    if (k < sizeof RULES / sizeof *RULES) {
+    if (k < sizeof RULES / sizeof *RULES && RULES[k] != NULL) {
         RULES[k](args, result);
     }
     return (uint64_t)result;
@@ -188,22 +312,22 @@ NcsAt __wrap_ncs_callback(NcsBox *box, NcsCallback function, void *user, unsigne
 void rules_begin(NcsBox *box, int what, uint32_t end, uint64_t most) {
     unsigned k;
     memset(files, NONE, sizeof files);
-    memset(moved, 0, sizeof moved);
+    memset(opened, 0, sizeof opened);
     for (k = 0; k < STANDARD; k++) {
-        files[k] = OWN;
+        give_number(k, (uint8_t)k);
     }
     given_count = 0;
     judged_box = box;
     files_given = what;
     memory_end = end;
     left = most;
-    made = 0;
+    count = folder_count();
 }
 
 unsigned rules_opened(void) {
-    unsigned count = 0, k;
-    for (k = 0; k < RULES_FILES; k++) {
-        count += files[k] == OPENED;
+    unsigned found = 0, k;
+    for (k = STANDARD; k < RULES_FILES; k++) {
+        found += opened[k].users != 0;
     }
-    return count;
+    return found;
 }

@@ -13,10 +13,13 @@ static Run run;
 
 void seam_begin(NcsModule *module, NcsBox *box, const char *folder, int writable, uint64_t most) {
     memset(&run, 0, sizeof run);
-    MUST(files_begin(&run.files) == NULL && opening_folder(&run.files, folder, writable, most) == NULL);
+    run.line.folders[0] = (Folder){.host = folder, .host_len = strlen(folder), .writable = writable, .file = -1};
+    MUST(files_begin(&run.files) == NULL && view_begin(&run.files.view, run.line.folders, 1) == NULL);
+    run.files.left = most;
     run.module = module;
     run.box = box;
     run.memory_end = MEMORY_END;
+    things_begin(&run);
     MUST(calls_give(&run));
 }
 
@@ -25,5 +28,6 @@ uint32_t seam_memory_end(void) {
 }
 
 void seam_end(void) {
-    MUST(close(run.files.folder) == 0 && (run.files.numbers < 0 || close(run.files.numbers) == 0));
+    const View *view = &run.files.view;
+    MUST(close(view->folders[0].file) == 0 && (view->numbers < 0 || close(view->numbers) == 0));
 }

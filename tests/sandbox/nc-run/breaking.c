@@ -4,6 +4,7 @@
    BREAKING   what clock_gettime does in place of its work, by a system call: one of the names below. It fails as that does, and tells its
               result as a time of so many nanoseconds, unless that is the number of a file
    LACKING    the number of a system call that `syscall` finds missing
+   REFUSED    the name of a function that fails with EPERM: one of those at the end of this file
    NO_PROC    set: /proc isn't there
    SWAPPED    a name in the folder `dir`, to which `dir/pipe` is renamed once the program has asked for the first time what is there */
 #define _GNU_SOURCE
@@ -18,9 +19,13 @@
 #include <sys/mman.h>
 #include <sys/prctl.h>
 #include <sys/ptrace.h>
+#include <sys/random.h>
 #include <sys/socket.h>
+#include <sys/stat.h>
 #include <sys/syscall.h>
+#include <sys/vfs.h>
 #include <time.h>
+#include <unistd.h>
 
 typedef struct Act {
     const char *name;
@@ -38,6 +43,11 @@ static const Act acts[] = {
     {"open", SYS_openat, {AT_FDCWD, (long)"secret", O_RDONLY}},
     {"open-within", SYS_openat, {AT_FDCWD, (long)"dir/file", O_RDONLY}},
     {"write-within", SYS_openat, {AT_FDCWD, (long)"dir/file", O_WRONLY}},
+    {"make-within", SYS_mkdirat, {AT_FDCWD, (long)"dir/made", 0700}},
+    {"make", SYS_mkdirat, {AT_FDCWD, (long)"made", 0700}},
+    {"remove", SYS_unlinkat, {AT_FDCWD, (long)"secret"}},
+    {"rename", SYS_renameat, {AT_FDCWD, (long)"secret", AT_FDCWD, (long)"dir/secret"}},
+    {"times", SYS_utimensat, {AT_FDCWD, (long)"dir/file"}},
     {"read-9", SYS_read, {9, (long)page, 1}},
     {"dumpable", SYS_prctl, {PR_GET_DUMPABLE}},
 };
@@ -113,4 +123,36 @@ int open(const char *path, int flags, ...) {
         return -1;
     }
     return (int)raw(SYS_openat, AT_FDCWD, (long)path, flags, mode);
+}
+
+/* ---- Functions that fail */
+
+#define FAILS(name) (is_set("REFUSED", name) ? (errno = EPERM, 1) : 0)
+
+int fchmod(int file, mode_t mode) {
+    return FAILS("fchmod") ? -1 : (int)raw(SYS_fchmod, file, (long)mode, 0, 0);
+}
+
+int futimens(int file, const struct timespec times[2]) {
+    return FAILS("futimens") ? -1 : (int)raw(SYS_utimensat, file, 0, (long)times, 0);
+}
+
+int ftruncate(int file, off_t len) {
+    return FAILS("ftruncate") ? -1 : (int)raw(SYS_ftruncate, file, len, 0, 0);
+}
+
+int fstatfs(int file, struct statfs *about) {
+    return FAILS("fstatfs") ? -1 : (int)raw(SYS_fstatfs, file, (long)about, 0, 0);
+}
+
+ssize_t getrandom(void *to, size_t len, unsigned flags) {
+    return FAILS("getrandom") ? -1 : raw(SYS_getrandom, (long)to, (long)len, flags, 0);
+}
+
+int clock_nanosleep(clockid_t clock, int flags, const struct timespec *wanted, struct timespec *left) {
+    return FAILS("clock_nanosleep") ? EPERM : raw(SYS_clock_nanosleep, clock, flags, (long)wanted, (long)left) != 0 ? errno : 0;
+}
+
+off_t lseek(int file, off_t place, int from) {
+    return FAILS("lseek") ? -1 : raw(SYS_lseek, file, place, from, 0);
 }

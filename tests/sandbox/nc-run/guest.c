@@ -20,7 +20,7 @@ static void put(int file, const char *text) {
 }
 static void put_number(int file, long long number) {
     char digits[24], *at = digits + sizeof digits;
-    unsigned left = (unsigned)(number < 0 ? -number : number);
+    unsigned left = (unsigned)(number < 0 ? -number : number); /* numbers here are small */
     *--at = 0;
     do *--at = (char)('0' + left % 10);
     while ((left /= 10) != 0);
@@ -99,8 +99,51 @@ static int hostile(void) {
     line(1, "open of 0", nc_open((const char *)0, 0, 0));
     *(char *)(end - 1) = 'a';
     line(1, "open across the end", nc_open((const char *)(end - 1), 0, 0));
-    for (u32 k = 0; k < 5000; k++) bytes[k] = 'a';
+    for (u32 k = 0; k < 5000; k++) bytes[k] = "/."[k % 2];
     line(1, "open of a long path", nc_open(bytes, 0, 0));
+    return 0;
+}
+/* The same for the calls with paths, and those that fill memory. */
+static int hostile_names(void) {
+    u32 end = nc_memory() + 4096 & ~4095u;
+    char *last = (char *)(end - 1), *below = (char *)0x8000;
+    struct nc_status about;
+    *last = 'a';
+    line(1, "status across the end", nc_status(last, 0, 0, &about));
+    line(1, "status to the end", nc_status(".", 0, 0, (struct nc_status *)(end - sizeof about + 1)));
+    line(1, "status to the code", nc_status(0, 0, 0, (struct nc_status *)below));
+    line(1, "status of file 64", nc_status(0, 64, 0, &about));
+    line(1, "status in another way", nc_status(".", 0, 1, &about));
+    line(1, "names across the end", nc_list(nc_open(".", 0, 0), last, 2));
+    line(1, "names to no room", nc_list(3, bytes, 1));
+    line(1, "names of a file that isn't open", nc_list(-1, bytes, 99));
+    line(1, "names of a pipe or a device", nc_list(0, bytes, 99));
+    line(1, "link across the end", nc_link("sub/up", last, 2));
+    line(1, "link to nothing", nc_link("sub/up", 0, 0));
+    line(1, "enter across the end", nc_enter(last));
+    line(1, "where to no room", nc_where(NC_WHERE, bytes, 1));
+    line(1, "where across the end", nc_where(NC_WHERE, last, 2));
+    line(1, "where of a pipe or a device", nc_where(0, bytes, 99));
+    line(1, "where of file 64", nc_where(64, bytes, 99));
+    line(1, "make across the end", nc_make(last, 0777));
+    line(1, "remove across the end", nc_remove(last, 0));
+    line(1, "remove in another way", nc_remove("nothing", 2));
+    line(1, "rename across the end", nc_rename("file", last));
+    line(1, "rename of it", nc_rename(last, "file"));
+    line(1, "cut of file 64", nc_cut(64, 0));
+    line(1, "cut of a standard file", nc_cut(1, 0));
+    line(1, "cut to -1", nc_cut(3, -1));
+    line(1, "times across the end", nc_change("file", 0, NC_MODE_KEEP, (const long long *)(end - 15)));
+    line(1, "change of file 64", nc_change(0, 64, 0, 0));
+    line(1, "change of a standard file", nc_change(0, 0, 0, 0));
+    line(1, "copy of file 64", nc_copy(64, 0, 0));
+    line(1, "copy to 64", nc_copy(0, 64, 0));
+    line(1, "copy to just 64", nc_copy(0, 64, 1));
+    line(1, "copy to just -1", nc_copy(0, -1, 1));
+    line(1, "terminal of file -1", nc_terminal(-1));
+    line(1, "sleep of -1", nc_sleep(-1));
+    line(1, "random across the end", nc_random(last, 2));
+    line(1, "random of nothing", nc_random(0, 0));
     return 0;
 }
 
@@ -187,6 +230,127 @@ static int all(const char *path) {
     return 0;
 }
 
+/* ---- A list of calls: words of the command line, with a comma between two calls. Each prints its name and its result */
+
+static u32 octal_of(const char *text) {
+    u32 number = 0;
+    for (; *text != 0; text++) number = 8 * number + (u32)(*text - '0');
+    return number;
+}
+static void put_octal(u32 number) {
+    char digits[12], *at = digits + sizeof digits;
+    *--at = 0;
+    do *--at = (char)('0' + number % 8);
+    while ((number /= 8) != 0);
+    put(1, at);
+}
+static int do_status(const char *path, int how) {
+    struct nc_status about;
+    int error = nc_status(path, 0, how, &about);
+    if (error != 0) return error;
+    put(1, "mode: ");
+    put_octal(about.mode);
+    put(1, "\n");
+    if ((about.mode & 0170000) == 0100000) line(1, "size", (long long)about.size);
+    return 0;
+}
+static int do_same(const char *path, int file) {
+    struct nc_status one, other;
+    int error = nc_status(path, 0, 0, &one), again = nc_status(0, file, 0, &other);
+    return error != 0 ? error : again != 0 ? again : one.device == other.device && one.inode == other.inode;
+}
+static int do_list(const char *path) {
+    int file = nc_open(path, NC_OPEN_FOLDER, 0), got;
+    if (file < 0) return file;
+    while ((got = nc_list(file, bytes, 96)) > 0)
+        for (char *at = bytes; at < bytes + got; at += *(unsigned short *)(at + 16)) put(1, at + 19), put(1, "\n");
+    nc_close(file);
+    return got;
+}
+static int do_link(const char *path, int len) {
+    char to[100];
+    int got = nc_link(path, to, (u32)len);
+    if (got > 0) nc_write(1, to, (u32)got), put(1, "\n");
+    return got;
+}
+static int do_where(int file) {
+    char to[100];
+    int got = nc_where(file, to, sizeof to);
+    if (got > 0) put(1, to), put(1, "\n");
+    return got;
+}
+static int do_change(const char *path, const char *mode, int seconds) {
+    const long long times[] = {seconds * 1000000000ll + 7, NC_TIME_KEEP};
+    return nc_change(path, -1, *mode == '-' ? NC_MODE_KEEP : octal_of(mode), seconds != 0 ? times : 0);
+}
+static int do_read(int file) {
+    int got = nc_read(file, bytes, 100);
+    if (got > 0) nc_write(1, bytes, (u32)got), put(1, "\n");
+    return got;
+}
+static long long do_call(const char *name, const char *a, const char *b, const char *c) {
+    int n = number_of(a);
+    if (same(name, "status")) return do_status(a, number_of(b));
+    if (same(name, "same")) return do_same(a, number_of(b));
+    if (same(name, "list")) return do_list(a);
+    if (same(name, "names")) return nc_list(n, bytes, 100);
+    if (same(name, "link")) return do_link(a, number_of(b));
+    if (same(name, "enter")) return nc_enter(a);
+    if (same(name, "where")) return do_where(n);
+    if (same(name, "make")) return nc_make(a, octal_of(b));
+    if (same(name, "remove")) return nc_remove(a, number_of(b));
+    if (same(name, "rename")) return nc_rename(a, b);
+    if (same(name, "open")) return nc_open(a, number_of(b), octal_of(c));
+    if (same(name, "close")) return nc_close(n);
+    if (same(name, "read")) return do_read(n);
+    if (same(name, "write")) return nc_write(n, b, length(b));
+    if (same(name, "lseek")) return nc_lseek(n, number_of(b), 0);
+    if (same(name, "cut")) return nc_cut(n, number_of(b));
+    if (same(name, "change")) return do_change(a, b, number_of(c));
+    if (same(name, "change-open")) return nc_change(0, n, octal_of(b), 0);
+    if (same(name, "copy")) return nc_copy(n, number_of(b), number_of(c));
+    if (same(name, "terminal")) return nc_terminal(n);
+    if (same(name, "random")) return nc_random(bytes, 1);
+    if (same(name, "rows")) return nc_terminal(n) >> 32;
+    return -999;
+}
+static int do_calls(char **words) {
+    while (*words != 0) {
+        const char *name = *words, *given[3] = {"", "", ""};
+        for (int k = -1; *words != 0 && !same(*words, ","); words++, k++)
+            if (k >= 0 && k < 3) given[k] = *words;
+        words += *words != 0;
+        line(1, name, do_call(name, given[0], given[1], given[2]));
+    }
+    return 0;
+}
+
+/* The words of the environment, which lie behind those of the command line. */
+static int environment(char **words) {
+    for (; *words != 0; words++) put(1, *words), put(1, "\n");
+    return 0;
+}
+/* Whether a wait lasts as long as it has to and takes no time of the processor. */
+static int waits(void) {
+    long long steady = nc_clock(NC_CLOCK_STEADY), used = nc_clock(NC_CLOCK_PROCESSOR);
+    line(1, "sleep", nc_sleep(50000000));
+    line(1, "waited", nc_clock(NC_CLOCK_STEADY) - steady >= 50000000);
+    line(1, "used little", nc_clock(NC_CLOCK_PROCESSOR) - used < 25000000);
+    return 0;
+}
+/* Whether bytes differ from zeros, from those of the next call, and in all of their bits. */
+static int chances(void) {
+    unsigned char *one = (unsigned char *)many, *other = one + 4096, ones = 0, zeros = 255;
+    u32 same_bytes = 0;
+    line(1, "random", nc_random(one, 4096));
+    line(1, "random", nc_random(other, 4096));
+    for (u32 k = 0; k < 4096; k++) ones |= one[k], zeros &= one[k], same_bytes += one[k] == other[k];
+    line(1, "all bits", ones == 255 && zeros == 0);
+    line(1, "other bytes", same_bytes < 100);
+    line(1, "many", nc_random(_end, nc_memory() - (u32)_end));
+    return 0;
+}
+
 static u32 next_random(u32 *state) {
     *state ^= *state << 13;
     *state ^= *state >> 17;
@@ -194,19 +358,19 @@ static u32 next_random(u32 *state) {
 }
 /* A number that a call may take amiss, a path, a range of memory, or any number. */
 static u32 any(u32 *state) {
-    static const char *const paths[] = {"file",    "sub/inner", "made",   "sub/more", "out", "../secret",
-                                        "../made", "/made",     "beyond", "pipe",     "."};
+    static const char *const paths[] = {"file", "sub/inner", "made", "sub/more", "out",    "../secret", "../made", "/made", "beyond",
+                                        "pipe", ".",         "sub",  "..",       "sub/up", "/",         "loop",    "other"};
     const u32 edges[] = {0, 1, 2, 3, 4, 63, 64, 0x41, 0x242, 0x7FFFFFFF, 0x80000000, 0xFFFFFFFF, 0xFFFF, 0x10000, nc_memory(), 4096};
     u32 k = next_random(state), way = next_random(state) % 8;
     if (way < 4) return edges[k % (sizeof edges / sizeof *edges)];
     if (way == 4) return (u32)paths[k % (sizeof paths / sizeof *paths)];
     return way == 5 ? (u32)bytes + k % sizeof bytes : way == 6 ? k % 70 : k;
 }
-/* Any calls with any arguments. */
+/* Any calls with any arguments, but for one that would wait. */
 static int random_calls(u32 state) {
     for (u32 k = 0; k < 200000; k++) {
-        u32 at = 0x100 + 32 * (next_random(&state) % 12), a = any(&state), b = any(&state), c = any(&state), d = any(&state);
-        ((u32(*)(u32, u32, u32, u32))at)(a, b, c, d);
+        u32 call = next_random(&state) % NC_RUN_END, a = any(&state), b = any(&state), c = any(&state), d = any(&state);
+        if (call != 24) ((u32(*)(u32, u32, u32, u32))(0x100 + 32 * call))(a, b, c, d);
     }
     return 9;
 }
@@ -268,6 +432,11 @@ int start(int argc, char **argv) {
     if (same(what, "reads")) return reads();
     if (same(what, "flood")) return flood();
     if (same(what, "hostile")) return hostile();
+    if (same(what, "hostile-names")) return hostile_names();
+    if (same(what, "do")) return do_calls(argv + 2);
+    if (same(what, "environment")) return environment(argv + argc + 1);
+    if (same(what, "waits")) return waits();
+    if (same(what, "chances")) return chances();
     if (same(what, "show")) return show(path, how);
     if (same(what, "set")) return set(path, how, argc > 4 ? argv[4] : "");
     if (same(what, "spill") && nc_open(path, NC_OPEN_WRITE, 0) >= 0) __asm__ volatile("hlt");

@@ -10,7 +10,8 @@ use std::os::fd::{AsRawFd, BorrowedFd};
 pub struct Folder<'a> {
     /// The folder, open in any way.
     pub file: BorrowedFd<'a>,
-    /// Whether regular files are made, written and cut there, besides being read.
+    /// Whether regular files are written, made and cut there, besides being read, and times of open files set. By the system calls that the
+    /// host names, folders are made there too, and names changed and removed.
     pub writable: bool,
 }
 
