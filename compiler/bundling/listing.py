@@ -8,6 +8,7 @@ from collections import Counter
 from collections.abc import Iterable, Iterator
 
 from .encoded import instructions_of, refused_name
+from .exceptions import NAME, LandingPads
 from .sections import Section, Sections
 from .statements import Statement, symbols
 from .thunks import without_thunks
@@ -23,7 +24,6 @@ REFUSED = {
     **dict.fromkeys(MACROS, "the assembler's macros and conditions aren't read: use those of the preprocessor, in a file .S"),
     **dict.fromkeys([".intel_syntax", ".code16", ".code64", ".code16gcc"], "only 32-bit code in AT&T syntax is read: use -m32 -masm=att"),
     **dict.fromkeys([".bundle_align_mode", ".bundle_lock", ".bundle_unlock"], "this text is in bundles already: assemble it as it is"),
-    **dict.fromkeys([".cfi_lsda", ".cfi_personality"], "exceptions aren't kept: compile with -fno-exceptions"),
 }
 
 NUMBERED = re.compile(r"(?<![\w.%])(?<!\w\$)(\d+)([bf])\b")
@@ -83,12 +83,14 @@ class Listing:
         self.weak = {name for statement in self.statements if statement.word == ".weak" for name in symbols(statement.operands)}
         self.functions = self.globals | set(self.functions_by_type())
         self.starts = self.starts_of_functions()
+        self.landing = LandingPads(self.statements, self.sections, self.labels).by_places
         self.pointed: dict[str, list[int]] = {}  # the labels that a pointer may hold, with the statements that take their addresses
         for index, statement in enumerate(self.statements):
             for name in self.taken(index, statement):
                 if name in self.labels:
                     self.pointed.setdefault(self.named_once(name), []).append(index)
-        self.inside = self.pointed_inside()
+        self.inside = self.by_functions(name for name in self.pointed.keys() - self.functions if self.is_held(name))
+        self.landing_inside = self.by_functions({name for names in self.landing.values() for name in names})
 
     def code(self) -> Iterator[tuple[int, Statement]]:
         """The statements of code sections."""
@@ -150,10 +152,14 @@ class Listing:
         before = bisect_right(starts, place)
         return self.statements[starts[before - 1]].word.split(".cold")[0] if before else None
 
-    def pointed_inside(self) -> dict[str | None, list[str]]:
-        """For each function the labels inside it that a pointer may hold."""
+    def is_held(self, name: str) -> bool:
+        """Whether a pointer may hold a label's address, and not only the unwinder."""
+        return any(index not in self.landing for index in self.pointed[name])
+
+    def by_functions(self, names: Iterable[str]) -> dict[str | None, list[str]]:
+        """Labels by the functions in which they are."""
         found: dict[str | None, list[str]] = {}
-        for name in self.pointed.keys() - self.functions:
+        for name in names:
             found.setdefault(self.function_at(self.labels[name]), []).append(name)
         return found
 
@@ -161,10 +167,16 @@ class Listing:
         """The labels inside the function in which a statement is that a pointer may hold."""
         return self.inside.get(self.function_at(index), [])
 
+    def landing_beside(self, index: int) -> list[str]:
+        """The landing pads of that function."""
+        return self.landing_inside.get(self.function_at(index), [])
+
     def taken(self, index: int, statement: Statement) -> list[str]:
         """The names whose addresses a statement takes."""
         section = self.sections[index]
-        if statement.kind == "assignment":
+        if section.name.startswith(NAME):
+            names = self.landing.get(index, [])
+        elif statement.kind == "assignment":
             names = symbols(statement.operands)
         elif statement.kind == "directive" and statement.word in EQUATES:
             names = [] if symbols(statement.operands)[0] in self.aliases else symbols(statement.operands.partition(",")[2])

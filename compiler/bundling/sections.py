@@ -14,7 +14,6 @@ SEVERAL = re.compile(r",\s*(?:comdat|unique)\b")  # sections of one name, which 
 OPERANDS = re.compile(r'(?:"([^"]*)"|([^",\s]*))\s*(?:,\s*(\d\w*))?\s*(?:,\s*"([^"]*)")?')
 NUMBERED = "parts of a section by numbers aren't read: give them sections with names"
 REFUSED_NAMES = [
-    (re.compile(r"\.gcc_except_table"), "exceptions aren't kept: compile with -fno-exceptions"),
     (re.compile(r"\.gnu\.lto_"), "this is no code yet: compile with -fno-lto"),
 ]
 

@@ -15,7 +15,8 @@ SECTIONS {
         __text_end = .;
     } = 0x90909090
 
-    .rodata DEFINED(nc_data) ? nc_data : 0x04010000 : { __rodata_start = .; *(.rodata .rodata.*) }
+    .rodata DEFINED(nc_data) ? nc_data : 0x04010000 : { __rodata_start = .; *(.rodata .rodata.*) *(.gcc_except_table .gcc_except_table.*) }
+    .eh_frame : { PROVIDE(__eh_frame_start = .); KEEP(*(.eh_frame)) KEEP(*(.eh_frame_end)) }
     . = ALIGN(0x1000);
     .data : { __data_start = .; *(.data .data.*) *(.got .got.plt) }
     .init_array : {
@@ -31,7 +32,7 @@ SECTIONS {
     .bss : { __bss_start = .; *(.bss .bss.* COMMON) }
     . = ALIGN(16);
     _end = .;
-    /DISCARD/ : { *(.comment) *(.note .note.*) *(.eh_frame .eh_frame_hdr) }
+    /DISCARD/ : { *(.comment) *(.note .note.*) *(.eh_frame_hdr) }
 }
 /* The host's trampolines: bundle starts below 00010000. */
 PROVIDE(host_exit = 0x00000020);
