@@ -19,7 +19,10 @@ if not os.path.exists(DRIVER):  # where Reedbodkin is installed
 NOT_THERE = "there is no %s below %s: `build --help` says what to get"
 
 MUSL_FOLDERS = """string stdlib ctype stdio math multibyte locale errno malloc malloc/mallocng internal exit env time unistd prng fenv
-    setjmp stat fcntl misc thread signal select temp conf dirent mman linux sched process legacy search regex ../compat/time32""".split()
+    setjmp stat fcntl misc thread signal select temp conf dirent mman linux sched process legacy search regex ../compat/time32
+    complex crypt ipc ldso network passwd termios""".split()
+# Sources in assembly, in the place of empty ones in C.
+ASSEMBLY = {"setjmp": "i386/*.s", "ldso": "i386/dlsym_time64.S"}
 MUSL_FAST = {"internal", "malloc", "malloc/mallocng", "string"}  # which musl's own Makefile optimises more
 OWN = ("complex", "division", "floating", "math", "strings")
 # What math.c and strings.c have in place of musl's, by musl's folders.
@@ -150,9 +153,9 @@ def build_folder(musl: str, made: str, cc: str, name: str) -> list[str]:
     """The objects of one of musl's folders, where they aren't there yet."""
     folder = os.path.join(made, "musl-" + cc, name.replace("/", "-"))
     os.makedirs(folder, exist_ok=True)
-    files = sorted(glob.glob(os.path.join(musl, "src", name, "*.c")))
-    if name == "setjmp":
-        files = sorted(glob.glob(os.path.join(musl, "src/setjmp/i386/*.s")))
+    patterns = {"*.c", ASSEMBLY.get(name, "*.c")}
+    found_all = [path for pattern in patterns for path in glob.glob(os.path.join(musl, "src", name, pattern))]
+    files = sorted(path for path in found_all if os.path.getsize(path))
     if len(glob.glob(os.path.join(folder, "*.o"))) < len(files):
         level = "-O3" if name in MUSL_FAST else "-Os"
         nc_cc(["-c", level, *C_FLAGS, "-D_XOPEN_SOURCE=700", *including(musl, made, inner=True), *files], cc, cwd=folder)

@@ -11,9 +11,11 @@ import tempfile
 
 from making import HERE, Fault, build_objects, compile_code, compile_inner, extract, found, join, write_headers
 
-PARTS = ("run/start.c", "run/calls.c", "run/heap.c", "run/threads.c", "run/templates.cc")
+PARTS = ("run/start.c", "run/calls.c", "run/heap.c", "run/sigsetjmp.s", "run/threads.c", "run/templates.cc")
 # Of musl's own heap, what a heap of another kind needs too.
 KEPT = {"memalign.o", "posix_memalign.o", "reallocarray.o"}
+# What stands in libc.a and is named apart, as in musl.
+EMPTY = ["m", "rt", "pthread", "crypt", "util", "xnet", "resolv", "dl"]
 CONFIG = "templates/bits/c++config.h"
 CODE = os.path.join(HERE, "code")
 HEADERS = ("include", "arch/generic", "arch/i386")
@@ -54,7 +56,8 @@ def runtime(sources: str, cc: str = "gcc") -> dict[str, bytes]:
         objects["run"] = [compile_inner(musl, made, cc, name) for name in PARTS]
         objects["code"] = [compile_code(musl, made, cc, path) for path in sorted(glob.glob(os.path.join(CODE, "*.c")))]
         files = headers(musl, made)
-        archives: dict[str, list[str]] = {"libc.a": [path for paths in objects.values() for path in paths], "libm.a": []}
+        archives: dict[str, list[str]] = {"libc.a": [path for paths in objects.values() for path in paths],
+                                          **{f"lib{name}.a": [] for name in EMPTY}}
         for name, parts in archives.items():
             join(os.path.join(made, name), parts)
             with open(os.path.join(made, name), "rb") as file:
