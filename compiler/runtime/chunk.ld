@@ -8,12 +8,13 @@ SECTIONS {
     .host 0x03ff0000 : { *(.host) }
 
     .text DEFINED(nc_base) ? nc_base : 0x00010000 : {
-        __text_start = .;
         *(.text.start) *(.text .text.*)
         INPUT_SECTION_FLAGS(SHF_EXECINSTR) *(*)
         . = ALIGN(32);
         __text_end = .;
     } = 0x90909090
+    /* A number, and no label of the code: the first function's name is the only one there. */
+    __text_start = ABSOLUTE(ADDR(.text));
 
     .rodata DEFINED(nc_data) ? nc_data : 0x04010000 : { __rodata_start = .; *(.rodata .rodata.*) *(.gcc_except_table .gcc_except_table.*) }
     .eh_frame : { PROVIDE(__eh_frame_start = .); KEEP(*(.eh_frame)) KEEP(*(.eh_frame_end)) }
