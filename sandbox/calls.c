@@ -25,6 +25,7 @@ static NcsEnd refused(uint32_t how) {
 static NcsEnd ended(NcsBox *b, const Thread *t, uint32_t how) {
     b->end = refused(how);
     b->end.place = t->place;
+    memcpy(b->reg, t->reg, sizeof b->reg);
     b->dead = 1;
     return b->end;
 }

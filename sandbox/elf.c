@@ -159,6 +159,23 @@ const char *ncs_elf_function(const Image *image, uint32_t at, uint32_t *offset) 
     return found;
 }
 
+void ncs_elf_functions(const Image *image, NcsTell tell, void *user) {
+    const char *name;
+    Elf32_Ehdr h;
+    size_t k;
+    if (image->symbol_count == 0) {
+        return; /* code alone has no header */
+    }
+    memcpy(&h, image->bytes, sizeof h);
+    for (k = 0; k < image->symbol_count; k++) {
+        Elf32_Sym s;
+        memcpy(&s, image->bytes + image->symbols + k * sizeof s, sizeof s);
+        if (is_of_code(image, &h, &s) && (name = shown_name(image, &s)) != NULL) {
+            tell(user, (NcsAt){s.st_value}, name);
+        }
+    }
+}
+
 void ncs_elf_copy_data(const Image *image, uintptr_t to) {
     size_t k;
     for (k = 0; k < image->segment_count; k++) {

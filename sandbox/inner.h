@@ -186,6 +186,7 @@ typedef struct Image {
 const char *ncs_elf_read(Image *image);                                          /* NULL, or what is wrong */
 uint32_t ncs_elf_symbol(const Image *image, const char *name);                   /* 0 if there is none */
 const char *ncs_elf_function(const Image *image, uint32_t at, uint32_t *offset); /* NULL if there is none */
+void ncs_elf_functions(const Image *image, NcsTell tell, void *user);
 void ncs_elf_copy_data(const Image *image, uintptr_t to); /* each segment of data to its address, counted from `to` */
 
 /* ---- changes.c: code that changes while boxes run it */
@@ -269,6 +270,7 @@ struct NcsBox {
     int denied, dead;
     uint32_t nest_at; /* the stack pointer that the code left at its last call of the host: untrusted */
     NcsEnd end;       /* what left it dead */
+    uint32_t reg[8];  /* the code's then: untrusted */
     unsigned callback_count;
     struct {
         NcsCallback function;

@@ -149,6 +149,10 @@ const char *ncs_function_at(const NcsModule *m, NcsAt at, uint32_t *offset) {
     return ncs_elf_function(&m->image, at.at, offset);
 }
 
+void ncs_functions(const NcsModule *m, NcsTell tell, void *user) {
+    ncs_elf_functions(&m->image, tell, user);
+}
+
 /* The file is only read. If it changes meanwhile, the name may be wrong, but ends. */
 const char *ncs_function_in(const void *file, size_t len, NcsAt at, uint32_t *offset) {
     Image image;

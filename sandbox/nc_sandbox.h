@@ -99,6 +99,10 @@ const char *ncs_function_at(const NcsModule *module, NcsAt at, uint32_t *offset)
 /* As ncs_function_at, for a file whose code was refused. The name is in the file, which nobody changes meanwhile. */
 const char *ncs_function_in(const void *file, size_t len, NcsAt at, uint32_t *offset);
 
+/* Tells each name that ncs_function_at may return, and its address, in the order of the file. */
+typedef void (*NcsTell)(void *user, NcsAt at, const char *name);
+void ncs_functions(const NcsModule *module, NcsTell tell, void *user);
+
 /* Frees a module. Its code and data stay until its last box is freed. Null is allowed. */
 void ncs_module_free(NcsModule *module);
 
@@ -311,6 +315,32 @@ NcsAt ncs_code_calls(NcsBox *box, NcsSpan area);
 
 /* Within a call-back of the box, ends the call that made it with NCS_DENIED, once the call-back has returned. Elsewhere it does nothing. */
 void ncs_deny(NcsBox *box);
+
+/* ---- Debugging */
+
+#define NCS_TRACE_CALLS 16u
+
+/* What the code of a box was doing, for whoever looks for a mistake in it. The code can forge all of this. */
+typedef struct NcsTrace {
+    uint32_t reg[8];              /* EAX, ECX, EDX, EBX, ESP, EBP, ESI and EDI */
+    uint32_t is_full;             /* whether ESP has gone down beyond the memory: there was no room for what was to be put there */
+    uint32_t count;               /* of the calls that follow */
+    NcsAt calls[NCS_TRACE_CALLS]; /* the instructions by which the file's code came there, the innermost first: 00000000 beyond `count` */
+} NcsTrace;
+
+/* Writes what the box was doing when a call left it dead, and returns 1. Returns 0, and writes nothing, if the box isn't dead, or if the end
+   has no place in the code. A call is found by its address to return to, on the stack, or within 4 MiB above its end. It is the one that a
+   frame pointer leads to, else the nearest one that goes to the function at hand, else the nearest. So the list may have gaps, and calls
+   that are over. It has no calls by code that a box has made. */
+int ncs_trace(NcsBox *box, NcsTrace *to);
+
+/* Where a box is in the process, for debuggers and profilers. Code in a box isn't to learn it. */
+typedef struct NcsLinear {
+    uint32_t code, data; /* the linear addresses of address 0 of its code and of its data */
+    NcsSpan file;        /* the file's code, by its own addresses */
+} NcsLinear;
+
+NcsLinear ncs_linear(const NcsBox *box);
 
 /* ---- Memory */
 

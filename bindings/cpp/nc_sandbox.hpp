@@ -187,6 +187,15 @@ class Module {
         return place;
     }
 
+    /* ncs_functions. Calls `tell` with an At and a const char *, for each name that function_at may return. It throws nothing. */
+    template <class Tell>
+    void functions(Tell tell) const noexcept {
+        if (handle_ != nullptr) {
+            ncs_functions(
+                handle(), [](void *user, NcsAt at, const char *name) { (*static_cast<Tell *>(user))(At(at), name); }, &tell);
+        }
+    }
+
     /* ncs_function_in. The name is in the file. */
     static Place function_in(Bytes file, At at) noexcept {
         Place place;
@@ -482,6 +491,19 @@ class Killer {
     std::weak_ptr<detail::Handle> handle_;
 };
 
+/* What the code of a box was doing, for whoever looks for a mistake in it. The code can forge all of this. */
+struct Trace {
+    std::vector<Untrusted<std::uint32_t>> registers; /* EAX, ECX, EDX, EBX, ESP, EBP, ESI and EDI */
+    bool is_full = false;                            /* ESP has gone down beyond the memory */
+    std::vector<At> calls;                           /* by which the file's code came there, the innermost first */
+};
+
+/* Where a box is in the process: the linear addresses of address 0 of its code and of its data, and the file's code by its own. */
+struct Linear {
+    std::uint32_t code = 0, data = 0;
+    CodeSpan file;
+};
+
 class Box : public Access {
   public:
     Box() noexcept = default;
@@ -528,6 +550,23 @@ class Box : public Access {
 
     /* ncs_reset. Returns whether it was done. */
     [[nodiscard]] bool reset() noexcept { return box() != nullptr && ncs_reset(box()) != 0; }
+
+    /* ncs_trace. Returns nothing if the box isn't dead, or if the end has no place in the code. */
+    std::optional<Trace> trace() const {
+        NcsTrace told{};
+        if (box() == nullptr || ncs_trace(box(), &told) == 0) {
+            return std::nullopt;
+        }
+        Trace made{{std::begin(told.reg), std::end(told.reg)}, told.is_full != 0, {}};
+        made.calls.assign(told.calls, told.calls + told.count);
+        return made;
+    }
+
+    /* ncs_linear. */
+    Linear linear() const noexcept {
+        const NcsLinear told = box() != nullptr ? ncs_linear(box()) : NcsLinear{};
+        return {told.code, told.data, {told.file.from, told.file.len}};
+    }
 
     /* A Killer, which ends the calls of this box from any thread. */
     Killer killer() const noexcept { return state_ != nullptr ? Killer(state_->handle) : Killer(); }

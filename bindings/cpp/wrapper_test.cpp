@@ -273,7 +273,20 @@ void names_of_places(const std::vector<char> &file) {
     CHECK(place.name != nullptr && std::strcmp(place.name, "sum") == 0 && place.offset == 3);
     CHECK(same.name != nullptr && std::strcmp(same.name, "sum") == 0 && same.offset == 0);
     CHECK(guest.function_at(ncs::At()).name == nullptr && ncs::Module().function_at(at("sum")).name == nullptr);
+    int sums = 0;
+    guest.functions([&](ncs::At found, const char *name) { sums += found == at("sum") && std::strcmp(name, "sum") == 0; });
+    CHECK(sums == 1);
     CHECK(guest.entry() == at("start") && ncs::Module().entry() == ncs::At());
+}
+
+void what_a_box_was_doing() {
+    ncs::Box box = new_box();
+    CHECK(!box.trace() && !ncs::Box().trace() && ncs::Box().linear().code == 0);
+    const ncs::End end = box.call(at("touch"), 0x1234, 0);
+    const auto trace = box.trace();
+    CHECK(trace && trace->registers.size() == 8 && !trace->is_full && trace->calls.empty());
+    CHECK(!end && std::strcmp(guest.function_at(end.place()).name, "touch") == 0);
+    CHECK(box.linear().file.from == ncs::At(0x10000) && box.linear().file.len != 0 && box.reset() && !box.trace());
 }
 
 void live_code() {
@@ -409,6 +422,7 @@ int main(int argc, char **argv) {
     const std::vector<char> file = checks::read_file(argc == 2 ? argv[1] : "");
     guest = checks::must(ncs::Module::elf(checks::bytes_of(file)));
     names_of_places(file);
+    what_a_box_was_doing();
     for (auto test : {calls, memory, words_of_memory, callbacks, results_of_callbacks, within_itself, exceptions, exceptions_of_others,
                       lives, left_behind, live_code, refusals, threads, held_signals, promises, children, walls}) {
         test();

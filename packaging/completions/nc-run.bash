@@ -7,7 +7,7 @@ _nc_run() {
     --live-code) words="1M 16M" ;;
     --write) words="1M 1G" ;;
     --wall) words="try must" ;;
-    --call) words= ;;
+    --call | --debug) words= ;;
     --dir | --dir-rw)
         mapfile -t COMPREPLY < <(compgen -d -- "$word")
         return
@@ -16,7 +16,7 @@ _nc_run() {
         mapfile -t COMPREPLY < <(compgen -e -- "$word")
         return
         ;;
-    *) [[ $word != -* ]] || words="--time --memory --live-code --call --dir --dir-rw --write --env --wall --no-wall --help --version -h -V" ;;
+    *) [[ $word != -* ]] || words="--time --memory --live-code --call --dir --dir-rw --write --env --wall --no-wall --perf-map --debug --help --version -h -V" ;;
     esac
     mapfile -t COMPREPLY < <(compgen -W "$words" -- "$word")
 }

@@ -5,6 +5,7 @@
 #include "nc_host.h"
 
 #include <errno.h>
+#include <limits.h>
 #include <stdio.h>
 #include <stdlib.h>
 #include <string.h>
@@ -35,6 +36,8 @@ static const char HELP[] =
     "      --env <NAME>        Give the program this variable of the environment; NAME=VALUE gives it a value of its own\n"
     "      --wall <HOW>        Whether to run without a whole second wall [default: try] [possible values: try, must]\n"
     "      --no-wall           Leave out the second wall, so that a program out of its box could do all that you can\n"
+    "      --perf-map          Name the program's functions to perf, by perf-PID.map of /tmp\n"
+    "      --debug <FD>        Tell a debugger by this open file where the program is, and wait for it, as nc-gdb wants\n"
     "  -h, --help              Print help\n"
     "  -V, --version           Print version\n";
 
@@ -153,6 +156,23 @@ static int take_no_wall(const char *value, Line *line) {
     return -1;
 }
 
+/* 0, 1 and 2 are the program's. */
+static int take_debug(const char *value, Line *line) {
+    uint64_t file;
+    const char *rest;
+    if (!read_number(value, 10, INT_MAX, &file, &rest) || *rest != 0 || file < 3) {
+        return wrong("--debug wants the number of an open file from 3 on: ", value);
+    }
+    line->debugger = (int)file;
+    return -1;
+}
+
+static int take_perf_map(const char *value, Line *line) {
+    (void)value;
+    line->maps = 1;
+    return -1;
+}
+
 static int take_call(const char *value, Line *line) {
     line->call = value;
     return -1;
@@ -242,6 +262,8 @@ static const struct Option {
     {"--env", take_env, 1},
     {"--wall", take_wall, 1},
     {"--no-wall", take_no_wall, 0},
+    {"--perf-map", take_perf_map, 0},
+    {"--debug", take_debug, 1},
     {"--help", take_help, 0},
     {"-h", take_help, 0},
     {"--version", take_version, 0},

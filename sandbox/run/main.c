@@ -62,6 +62,7 @@ static int load(Run *run) {
     if (run->module == NULL) {
         return report_refusal(run, &why);
     }
+    run->has_lines = lines_are_in(run->bytes, run->len);
     free(run->bytes); /* the module has a copy */
     run->bytes = NULL;
     return ON;
@@ -165,7 +166,7 @@ static int start(Run *run) {
    one beyond the longest file allowed, are errors of the program's call. NULL, or what failed, with errno. */
 static const char *prepare(Run *run) {
     const char *what = files_begin(&run->files);
-    if (what == NULL && prctl(PR_SET_DUMPABLE, 0ul, 0ul, 0ul, 0ul) != 0) {
+    if (what == NULL && run->line.debugger == 0 && prctl(PR_SET_DUMPABLE, 0ul, 0ul, 0ul, 0ul) != 0) {
         what = "prctl";
     }
     if (what == NULL && (signal(SIGPIPE, SIG_IGN) == SIG_ERR || signal(SIGXFSZ, SIG_IGN) == SIG_ERR)) {
@@ -197,6 +198,25 @@ static int build_wall(const Run *run, NcsRefusal *why) {
     return ncs_wall(&wall, why);
 }
 
+/* Tells a debugger where the program is: the linear addresses of code and data, the span of the code, the entry, the end of the memory, and
+   the file. Then it waits until the debugger lets it go on. */
+static int wait_for_debugger(const Run *run) {
+    NcsLinear at = ncs_linear(run->box);
+    NcsAt entry = run->line.call != NULL ? ncs_symbol(run->module, run->line.call) : ncs_entry(run->module);
+    FILE *file = fdopen(run->line.debugger, "w");
+    int told = file != NULL &&
+               fprintf(file, "%08x %08x %08x %08x %08x %08x %s\n", (unsigned)at.code, (unsigned)at.data, (unsigned)at.file.from.at,
+                       (unsigned)(at.file.from.at + at.file.len), (unsigned)entry.at, (unsigned)run->line.memory, run->line.file) > 0;
+    told = file != NULL && fclose(file) == 0 && told;
+    return told && raise(SIGSTOP) == 0 ? ON : report_system("the debugger's file", errno);
+}
+
+/* What tools of developers are told, if they are to be. */
+static int tell_tools(const Run *run) {
+    const char *what = run->line.maps ? perf_write_map(run->module, run->box) : NULL;
+    return what != NULL ? report_system(what, errno) : run->line.debugger != 0 ? wait_for_debugger(run) : ON;
+}
+
 /* Gives up what the program's calls don't need: files from the parent, and by the second wall all that the system can take away. */
 static int give_up(const Run *run) {
     NcsRefusal why;
@@ -217,6 +237,7 @@ static int run_all(Run *run) {
     const char *what = prepare(run);
     int status = what != NULL ? report_system(what, errno) : load(run);
     status = status == ON ? make_box(run) : status;
+    status = status == ON ? tell_tools(run) : status;
     status = status == ON ? give_up(run) : status;
     return status != ON ? status : run->line.call != NULL ? call_function(run) : start(run);
 }

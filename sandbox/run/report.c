@@ -4,6 +4,10 @@
 #include <stdio.h>
 #include <string.h>
 
+#define FAULTS_OF_MEMORY 12 /* and those above */
+#define PAGE_FAULT 14
+#define ESP 4 /* of a trace's registers */
+
 int report_system(const char *what, int error) {
     fprintf(stderr, "nc-run: %s%s%s\n", what, error != 0 ? ": " : "", error != 0 ? strerror(error) : "");
     return STATUS_SYSTEM;
@@ -59,22 +63,47 @@ static const char *cause(uint32_t trap) {
     return "a fault";
 }
 
-static void print_cause(const NcsEnd *end) {
+static void print_fault(const NcsEnd *end, const NcsTrace *trace) {
+    if (end->trap >= FAULTS_OF_MEMORY && trace->is_full) {
+        fprintf(stderr, ": its stack is full, at %08x; nc-cc --data leaves more room for it", (unsigned)trace->reg[ESP]);
+        return;
+    }
+    fprintf(stderr, ": %s", cause(end->trap));
+    if (end->trap == PAGE_FAULT) {
+        fprintf(stderr, ", at %08x", (unsigned)end->data);
+    }
+}
+
+static void print_cause(const NcsEnd *end, const NcsTrace *trace) {
     switch (end->how) {
     case NCS_STOPPED: fputs(": a stop (hlt), which is also wherever no code is", stderr); break;
-    case NCS_FAULTED:
-        fprintf(stderr, ": %s", cause(end->trap));
-        if (end->trap == 14) {
-            fprintf(stderr, ", at %08x", (unsigned)end->data);
-        }
-        break;
+    case NCS_FAULTED: print_fault(end, trace); break;
     case NCS_BAD_CALL: fputs(": a call of the host where there is none, or without a stack", stderr); break;
     default: fputs(": a call of the host was to return there", stderr); break;
     }
 }
 
+/* The calls that led to the end, and how to find the lines of all these places. */
+static void print_calls(const Run *run, const NcsEnd *end, const NcsTrace *trace) {
+    uint32_t places[1 + NCS_TRACE_CALLS], k;
+    places[0] = end->place;
+    for (k = 0; k < trace->count; k++) {
+        fputs("  called", stderr);
+        print_place(run, trace->calls[k].at);
+        fputc('\n', stderr);
+        places[1 + k] = trace->calls[k].at;
+    }
+    if (trace->count == NCS_TRACE_CALLS) {
+        fputs("  ..\n", stderr);
+    }
+    if (run->has_lines) {
+        lines_print_command(run->line.file, places, 1 + trace->count);
+    }
+}
+
 /* Crashes and the end of the time. Where one thread makes one call, any other end is the system's refusal (NCS_HOST). */
 int report_end(const Run *run, const NcsEnd *end, int was_entered) {
+    NcsTrace trace;
     if (end->how == NCS_BAD_ENTRY && !was_entered) {
         return run->line.call != NULL ? report_file(run, "no function of the code begins at ", run->line.call)
                                       : report_file(run, "its entry isn't at a bundle start of the code", "");
@@ -85,10 +114,13 @@ int report_end(const Run *run, const NcsEnd *end, int was_entered) {
     }
     fprintf(stderr, "nc-run: %s: %s", run->line.file, end->how == NCS_LATE ? "out of time" : "crashed");
     print_place(run, end->place);
+    memset(&trace, 0, sizeof trace);
+    (void)ncs_trace(run->box, &trace); /* a box that was never entered has none */
     if (end->how != NCS_LATE) {
-        print_cause(end);
+        print_cause(end, &trace);
     }
     fputc('\n', stderr);
+    print_calls(run, end, &trace);
     return end->how == NCS_LATE ? STATUS_LATE : STATUS_CRASHED;
 }
 

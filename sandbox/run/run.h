@@ -68,6 +68,8 @@ typedef struct Line {
     const char *env[ENV_MAX]; /* each as NAME=VALUE */
     unsigned env_count;
     int wall;
+    int maps;     /* whether perf is told of its functions */
+    int debugger; /* the file by which a debugger is told where the program is, or 0 */
     const char *file;
     char **words; /* those that follow the file's name */
     unsigned count;
@@ -182,6 +184,19 @@ int kinds_judge_file(int file);   /* one that it would open: EISDIR for a folder
 int kinds_judge_folder(int file); /* one in which it would make a file, or of which it asks something */
 int kinds_is_proc(int file);      /* no error: whether it is one of procfs */
 
+/* ---- lines.c: source lines of the program's code, which nc-run doesn't read, and a debugger */
+
+/* Whether a file that is accepted says which lines its code is of. */
+int lines_are_in(const uint8_t *bytes, size_t len);
+
+/* Prints the command that tells the lines of these places of the code. */
+void lines_print_command(const char *file, const uint32_t *places, size_t count);
+
+/* ---- perf.c */
+
+/* Writes perf-PID.map of /tmp, by which perf names the program's functions. NULL, or what failed, with errno. */
+const char *perf_write_map(const NcsModule *module, const NcsBox *box);
+
 /* ---- main.c */
 
 #define RUN_TERMINALS 3u
@@ -191,6 +206,7 @@ typedef struct Run {
     Files files;
     uint8_t *bytes; /* of the file */
     size_t len;
+    int has_lines;
     NcsModule *module;
     NcsBox *box;
     uint32_t memory_end;              /* of the memory that the program may use */

@@ -42,6 +42,7 @@ pub const NCS_CALLBACKS: u32 = 64;
 pub const NCS_CALLBACK_ARGS: u32 = 12;
 pub const NCS_EXIT: u32 = 0x40;
 pub const NCS_FAULT_CODE: u32 = 256;
+pub const NCS_TRACE_CALLS: u32 = 16;
 
 pub const NCS_WALL_CALLS: u32 = 256;
 pub const NCS_NO_WALL: u32 = 0;
@@ -115,6 +116,23 @@ pub struct NcsEnd {
 
 #[repr(C)]
 #[derive(Clone, Copy, Debug)]
+pub struct NcsTrace {
+    pub reg: [u32; 8],
+    pub is_full: u32,
+    pub count: u32,
+    pub calls: [NcsAt; NCS_TRACE_CALLS as usize],
+}
+
+#[repr(C)]
+#[derive(Clone, Copy, Debug)]
+pub struct NcsLinear {
+    pub code: u32,
+    pub data: u32,
+    pub file: NcsSpan,
+}
+
+#[repr(C)]
+#[derive(Clone, Copy, Debug)]
 pub struct NcsFolder {
     pub file: c_int,
     pub writable: c_int,
@@ -132,6 +150,8 @@ pub struct NcsWall {
 
 pub type NcsCallback = unsafe extern "C" fn(box_: *mut NcsBox, user: *mut c_void, args: *const u32) -> u64;
 
+pub type NcsTell = unsafe extern "C" fn(user: *mut c_void, at: NcsAt, name: *const c_char);
+
 extern "C" {
     pub fn ncs_module_elf(file: *const c_void, len: usize, why: *mut NcsRefusal) -> *mut NcsModule;
     pub fn ncs_module_code(code: *const c_void, len: usize, why: *mut NcsRefusal) -> *mut NcsModule;
@@ -139,6 +159,7 @@ extern "C" {
     pub fn ncs_entry(module: *const NcsModule) -> NcsAt;
     pub fn ncs_function_at(module: *const NcsModule, at: NcsAt, offset: *mut u32) -> *const c_char;
     pub fn ncs_function_in(file: *const c_void, len: usize, at: NcsAt, offset: *mut u32) -> *const c_char;
+    pub fn ncs_functions(module: *const NcsModule, tell: NcsTell, user: *mut c_void);
     pub fn ncs_module_free(module: *mut NcsModule);
     pub fn ncs_module_live(bundles: u32, calls: u32, why: *mut NcsRefusal) -> *mut NcsModule;
     pub fn ncs_module_live_elf(
@@ -178,6 +199,8 @@ extern "C" {
     pub fn ncs_callback(box_: *mut NcsBox, function: NcsCallback, user: *mut c_void, args: c_uint) -> NcsAt;
     pub fn ncs_code_calls(box_: *mut NcsBox, area: NcsSpan) -> NcsAt;
     pub fn ncs_deny(box_: *mut NcsBox);
+    pub fn ncs_trace(box_: *mut NcsBox, to: *mut NcsTrace) -> c_int;
+    pub fn ncs_linear(box_: *const NcsBox) -> NcsLinear;
     pub fn ncs_at(box_: *mut NcsBox, at: NcsAt, len: u32) -> *mut c_void;
     pub fn ncs_set(box_: *mut NcsBox, at: NcsAt, from: *const c_void, len: u32) -> c_int;
     pub fn ncs_get(box_: *mut NcsBox, to: *mut c_void, at: NcsAt, len: u32) -> c_int;

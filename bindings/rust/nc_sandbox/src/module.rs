@@ -1,8 +1,8 @@
 //! Modules.
 
-use crate::ffi::{self, NcsModule};
+use crate::ffi::{self, NcsAt, NcsModule};
 use crate::{At, Refusal};
-use std::ffi::{c_char, CStr, CString};
+use std::ffi::{c_char, c_void, CStr, CString};
 use std::fmt;
 use std::ptr::NonNull;
 
@@ -55,6 +55,14 @@ impl Module {
         Some((unsafe { text(name) }?, offset))
     }
 
+    /// `ncs_functions`: the names that [`Module::function_at`] may return, each with its address, in the order of the file.
+    pub fn functions(&self) -> Vec<(At, &str)> {
+        let mut found: Vec<(At, &str)> = Vec::new();
+        // SAFETY: the module is there as long as this value, and `note` gets what it asks for: the vector is there until the call returns.
+        unsafe { ffi::ncs_functions(self.handle.as_ptr(), note, (&raw mut found).cast()) };
+        found
+    }
+
     /// `ncs_function_in`: as [`Module::function_at`], for a file whose code was refused.
     pub fn function_in(file: &[u8], at: At) -> Option<(&str, u32)> {
         let mut offset = 0;
@@ -63,6 +71,17 @@ impl Module {
         // SAFETY: nc_sandbox.h: the name is in the file.
         Some((unsafe { text(name) }?, offset))
     }
+}
+
+/// Takes a name that the library tells.
+///
+/// # Safety
+///
+/// `user` leads to a vector that nobody else uses, and the name is valid as long as its lifetime says.
+unsafe extern "C" fn note(user: *mut c_void, at: NcsAt, name: *const c_char) {
+    // SAFETY: as above.
+    let (found, name) = unsafe { (&mut *user.cast::<Vec<(At, &str)>>(), text(name)) };
+    found.extend(name.map(|name| (At::new(at.at), name)));
 }
 
 /// A name of the library's, or `None` for a null pointer.

@@ -21,6 +21,8 @@ fn said() -> (String, String) {
         NcsHole { at, len, held }
         NcsLimits { memory, depth, milliseconds }
         NcsEnd { how, result, high, place, trap, data, status }
+        NcsTrace { reg, is_full, count, calls }
+        NcsLinear { code, data, file }
         NcsFolder { file, writable }
         NcsWall { folders, folder_count, calls, call_count, threads }
     }
@@ -30,7 +32,7 @@ fn said() -> (String, String) {
         NCS_RETURNED NCS_STOPPED NCS_FAULTED NCS_LATE NCS_KILLED NCS_EXITED NCS_BAD_ENTRY NCS_BAD_CALL NCS_DENIED
         NCS_TOO_DEEP NCS_DEAD NCS_BUSY NCS_HOST
         NCS_MEMORY_MAX NCS_DEPTH_MAX NCS_ARGS_MAX NCS_CALLBACKS NCS_CALLBACK_ARGS NCS_EXIT
-        NCS_FAULT_CODE
+        NCS_FAULT_CODE NCS_TRACE_CALLS
         NCS_WALL_CALLS NCS_NO_WALL NCS_WALL_FILTER NCS_WALL_WHOLE
     }
     for k in [0, 63] {

@@ -248,10 +248,29 @@ fn a_box_keeps_its_module() -> Outcome {
 }
 
 #[test]
+fn what_a_box_was_doing() -> Outcome {
+    with_guest(|module| {
+        let mut sandbox = Sandbox::new(module, LIMITS)?;
+        assert!(sandbox.trace().is_none());
+        let ended: Result<(), End> = sandbox.call(at("touch"), (0x1234u32, 0u32));
+        let Err(End::Faulted { place, .. }) = ended else { panic!("it ended otherwise") };
+        let trace = sandbox.trace().ok_or("no trace")?;
+        assert_eq!((trace.is_full, trace.calls.len()), (false, 0));
+        assert_eq!(module.function_at(place).map(|(name, _)| name), Some("touch"));
+        let linear = sandbox.linear();
+        assert!(linear.file.from <= place && place < linear.file.end() && linear.code != linear.data);
+        sandbox.reset()?;
+        assert!(sandbox.trace().is_none());
+        Ok(())
+    })
+}
+
+#[test]
 fn names_of_places() -> Outcome {
     with_guest(|module| {
         assert_eq!((module.entry(), module.function_at(at("sum").offset(3))), (at("start"), Some(("sum", 3))));
         assert_eq!((module.function_at(At::new(0)), module.function_at(at("greeting"))), (None, None));
+        assert!(module.functions().contains(&(at("sum"), "sum")) && !module.functions().iter().any(|f| f.1 == "greeting"));
         let file = std::fs::read(std::env::var("NC_SANDBOX_GUEST")?)?;
         assert_eq!(
             (Module::function_in(&file, at("add")), Module::function_in(&[], at("add"))),
