@@ -18,7 +18,7 @@ sys.path.append(os.path.join(TOP, "compiler", "runtime"))
 from runtime import runtime
 
 PROGRAMS = ["nc_check", "nc_replay"]
-REWRITER, DRIVER = "compiler/nc-bundle", "compiler/nc-cc"
+REWRITER, DRIVER, DEBUGGER = "compiler/nc-bundle", "compiler/nc-cc", "debugger/nc-gdb"
 SHARE, DOC = "share/reedbodkin/", "share/doc/reedbodkin/"
 RUNTIME = SHARE + "runtime/"
 
@@ -53,6 +53,7 @@ FILES = [
     ("compiler/runtime/chunk.ld", SHARE + "chunk.ld"),
     ("compiler/bundling", SHARE + "bundling"),
     ("compiler/driving", SHARE + "driving"),
+    ("debugger/debugging", SHARE + "debugging"),
     ("packaging/nc_toolchain.cmake", "lib/cmake/nc_host/nc_toolchain.cmake"),
     ("packaging/meson/nc-cc", "share/meson/cross/nc-cc"),
     *[("docs/man/" + name + ".1", "share/man/man1/" + name + ".1") for name in COMMANDS],
@@ -174,6 +175,7 @@ def tree(cpu: str = DEFAULT, anew: bool = False) -> dict[str, Entry]:
     made["bin/nc-bundle"] = File(read(REWRITER), 0o755)
     made["bin/nc-cc"] = File(read(DRIVER), 0o755)
     made["bin/nc-c++"] = Link("nc-cc")
+    made["bin/nc-gdb"] = File(read(DEBUGGER), 0o755)
     made[SHARE + "VERSION"] = File(read("VERSION"), 0o644)
     for name in PROGRAMS:
         made["bin/" + name] = File(program(name, cpu, anew), 0o755)
