@@ -9,6 +9,13 @@ find_program(nc_CXX NAMES nc-c++ HINTS ${nc_PLACES} REQUIRED)
 set(CMAKE_C_COMPILER "${nc_CC}")
 set(CMAKE_CXX_COMPILER "${nc_CXX}")
 set(CMAKE_ASM_COMPILER "${nc_CC}")
+
+# What the project runs, such as its tests: relative names are below the folder where it runs, and its own folders have their names.
+find_program(nc_RUN NAMES nc-run HINTS ${nc_PLACES} "${CMAKE_CURRENT_LIST_DIR}/../out/sandbox")
+if(nc_RUN)
+    set(CMAKE_CROSSCOMPILING_EMULATOR "${nc_RUN}" --dir-rw . --dir "${CMAKE_SOURCE_DIR}=${CMAKE_SOURCE_DIR}"
+        --dir-rw "${CMAKE_BINARY_DIR}=${CMAKE_BINARY_DIR}")
+endif()
 unset(nc_PLACES)
 
 # CMake's own test programs begin at main, and a program for the sandbox at start.
@@ -19,3 +26,6 @@ set(CMAKE_FIND_ROOT_PATH_MODE_PROGRAM NEVER)
 set(CMAKE_FIND_ROOT_PATH_MODE_LIBRARY ONLY)
 set(CMAKE_FIND_ROOT_PATH_MODE_INCLUDE ONLY)
 set(CMAKE_FIND_ROOT_PATH_MODE_PACKAGE ONLY)
+if(NOT DEFINED ENV{PKG_CONFIG_LIBDIR})
+    set(ENV{PKG_CONFIG_LIBDIR} "${CMAKE_CURRENT_LIST_DIR}/../../../share/reedbodkin/libc/pkgconfig")
+endif()
