@@ -56,6 +56,7 @@ FILES = [
     ("debugger/debugging", SHARE + "debugging"),
     ("packaging/nc_toolchain.cmake", "lib/cmake/nc_host/nc_toolchain.cmake"),
     ("packaging/meson/nc-cc", "share/meson/cross/nc-cc"),
+    ("packaging/meson/nc-run", "share/meson/cross/nc-run"),
     *[("docs/man/" + name + ".1", "share/man/man1/" + name + ".1") for name in COMMANDS],
     *[("packaging/completions/" + name + ".bash", "share/bash-completion/completions/" + name) for name in COMMANDS],
     *[("packaging/completions/_" + name, "share/zsh/site-functions/_" + name) for name in COMMANDS],
