@@ -10,10 +10,11 @@ extern char **__environ;
 /* The name that pthread_arch.h of this folder gives it, as bytes. */
 struct pthread thread_block __asm__("only_thread");
 
-static void set_up(void) {
+/* The environment is a list that ends with a null, or NULL for none. */
+static void set_up(char **environment) {
     static char *nothing[1];
     static size_t no_aux[2];
-    __environ = nothing;
+    __environ = environment ? environment : nothing;
     libc.auxv = no_aux;
     thread_block.self = &thread_block;
     thread_block.tid = 1;

@@ -7,6 +7,6 @@ int main(int, char **);
 
 __attribute__((section(".text.start"))) void start(void) {
     static char *arguments[2] = {"program", 0};
-    set_up();
+    set_up(0);
     exit(main(1, arguments));
 }

@@ -14,7 +14,7 @@ static void find_heap(void) {}
 __attribute__((section(".text.start"))) void begin(char *at, char *end) {
     heap = at;
     heap_end = end;
-    set_up();
+    set_up(0);
 }
 
 /* What musl takes for a system call, with the numbers of i386. */

@@ -1,15 +1,12 @@
-/* The system calls that musl makes, as far as nc-run has them; the others fail with ENOSYS. For sources that see musl's inner headers. */
+/* The system calls of open files and of the process. */
 
-#include <errno.h>
 #include <fcntl.h>
-#include <nc_run.h>
 #include <string.h>
-#include <sys/stat.h>
+#include <sys/ioctl.h>
 #include <sys/uio.h>
-#include "kstat.h"
-#include "syscall.h"
+#include "calls.h"
 
-enum { BILLION = 1000000000, ENDED_BY_SIGNAL = 128 };
+enum { ENDED_BY_SIGNAL = 128 };
 
 /* Reads or writes the parts of a list one by one, up to the first that isn't done whole. */
 static long transfer(int call(int, const struct iovec *), int file, const struct iovec *parts, long count) {
@@ -27,59 +24,92 @@ static int read_part(int file, const struct iovec *part) { return nc_read(file, 
 
 static int write_part(int file, const struct iovec *part) { return nc_write(file, part->iov_base, part->iov_len); }
 
-/* A clock's time, or its resolution, as two numbers of 64 bits. */
-static long tell_time(long clock, long long *to) {
-    long long now = nc_clock((int)clock);
-    if (now < 0) return (long)now;
-    to[0] = now / BILLION;
-    to[1] = now % BILLION;
-    return 0;
-}
+static long long wide(long low, long high) { return (long long)high << 32 | (unsigned long)low; }
 
 static long seek(int file, long high, long low, long long *to, int from) {
-    long long place = nc_lseek(file, (long long)high << 32 | (unsigned long)low, from);
+    long long place = nc_lseek(file, wide(low, high), from);
     if (place < 0) return (long)place;
     *to = place;
     return 0;
 }
 
-/* Of an open file there is its length and whether it is a regular one. */
-static long tell_file(int file, struct kstat *about) {
-    long long len = nc_size(file);
-    if (len < 0 && len != -ESPIPE) return (long)len;
-    memset(about, 0, sizeof *about);
-    about->st_mode = (len < 0 ? S_IFIFO : S_IFREG) | 0600;
-    about->st_nlink = 1;
-    about->st_size = len < 0 ? 0 : len;
-    about->st_blksize = 4096;
+/* Reads or writes at a place of its own, and goes back. No other thread sees the place meanwhile. */
+static long transfer_at(int call(int, const struct iovec *), int file, const struct iovec *part, long long place) {
+    long long was = nc_lseek(file, 0, SEEK_CUR), there = was < 0 ? was : nc_lseek(file, place, SEEK_SET);
+    if (there < 0) return (long)there;
+    long done = call(file, part);
+    nc_lseek(file, was, SEEK_SET);
+    return done;
+}
+
+/* Flags that are set when a file is opened stay as they are. No file stays open in another program. */
+static long control(int file, int what, long value) {
+    struct nc_status about;
+    long error = nc_status(0, file, 0, &about);
+    if (error < 0) return error;
+    switch (what) {
+    case F_DUPFD:
+    case F_DUPFD_CLOEXEC: return nc_copy(file, (int)value, 0);
+    case F_GETFD:
+    case F_SETFD: return 0;
+    case F_GETFL: return about.how & (O_ACCMODE | O_APPEND);
+    case F_SETFL: return (value & (O_APPEND | O_NONBLOCK)) == (about.how & O_APPEND) ? 0 : -EINVAL;
+    default: return -ENOSYS;
+    }
+}
+
+static long tell_terminal(int file, unsigned long what, struct winsize *to) {
+    long long size = nc_terminal(file);
+    if (size < 0 || what != TIOCGWINSZ) return size < 0 ? (long)size : -ENOTTY;
+    *to = (struct winsize){.ws_row = (unsigned short)(size >> 32), .ws_col = (unsigned short)size};
     return 0;
 }
 
-static long open_file(const char *path, long how, long mode) {
-    return nc_open(path, (int)how & ~(O_LARGEFILE | O_CLOEXEC | O_NOCTTY | O_NONBLOCK), (unsigned)mode);
+static long call_of_files(long number, long a, long b, long c, long d, long e) {
+    struct iovec part = {(void *)b, (size_t)c};
+    switch (number) {
+    case SYS_read: return read_part((int)a, &part);
+    case SYS_write: return write_part((int)a, &part);
+    case SYS_pread64: return transfer_at(read_part, (int)a, &part, wide(d, e));
+    case SYS_pwrite64: return transfer_at(write_part, (int)a, &part, wide(d, e));
+    case SYS_readv: return transfer(read_part, (int)a, (const struct iovec *)b, c);
+    case SYS_writev: return transfer(write_part, (int)a, (const struct iovec *)b, c);
+    case SYS_close: return nc_close((int)a);
+    case SYS__llseek: return seek((int)a, b, c, (long long *)d, (int)e);
+    case SYS_ftruncate64: return nc_cut((int)a, wide(b, c));
+    case SYS_getdents64: return nc_list((int)a, (void *)b, (unsigned)c);
+    case SYS_dup: return nc_copy((int)a, 0, 0);
+    case SYS_dup2:
+    case SYS_dup3: return nc_copy((int)a, (int)b, 1);
+    case SYS_fcntl64: return control((int)a, (int)b, c);
+    case SYS_ioctl: return tell_terminal((int)a, (unsigned long)b, (struct winsize *)c);
+    default: return -ENOSYS;
+    }
 }
 
-/* The number and the arguments are those of Linux for i386. */
-long host_syscall(long number, long a, long b, long c, long d, long e, long f) {
-    (void)f;
+static long call_of_process(long number, long a, long b) {
     switch (number) {
     case SYS_exit:
     case SYS_exit_group: nc_exit((int)a);
     case SYS_tkill: nc_exit(ENDED_BY_SIGNAL + (int)b); /* what abort and raise come to */
-    case SYS_read: return nc_read((int)a, (void *)b, (unsigned)c);
-    case SYS_write: return nc_write((int)a, (const void *)b, (unsigned)c);
-    case SYS_readv: return transfer(read_part, (int)a, (const struct iovec *)b, c);
-    case SYS_writev: return transfer(write_part, (int)a, (const struct iovec *)b, c);
-    case SYS_open: return open_file((const char *)a, b, c);
-    case SYS_openat: return a == AT_FDCWD ? open_file((const char *)b, c, d) : -EBADF;
-    case SYS_close: return nc_close((int)a);
-    case SYS__llseek: return seek((int)a, b, c, (long long *)d, (int)e);
-    case SYS_fstat64: return tell_file((int)a, (struct kstat *)b);
-    case SYS_clock_gettime64: return tell_time(a, (long long *)b);
-    case SYS_ioctl: return -ENOTTY;
     case SYS_gettid:
     case SYS_getpid: return 1;
+    case SYS_getppid: return 0;
+    case SYS_getuid32:
+    case SYS_geteuid32:
+    case SYS_getgid32:
+    case SYS_getegid32: return OWN_ID;
+    case SYS_getrandom: return nc_random((void *)a, (unsigned)b);
+    case SYS_sched_yield:
     case SYS_rt_sigprocmask: return 0; /* no signal comes in */
     default: return -ENOSYS;
     }
+}
+
+long host_syscall(long number, long a, long b, long c, long d, long e, long f) {
+    (void)f;
+    long result = call_of_files(number, a, b, c, d, e);
+    if (result == -ENOSYS) result = call_of_process(number, a, b);
+    if (result == -ENOSYS) result = call_of_names(number, a, b, c, d, e);
+    return result == -ENOSYS ? call_of_times(number, a, b, c, d, e) : result;
 }

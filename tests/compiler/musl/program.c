@@ -125,13 +125,6 @@ static int files(const char *name) {
     return printf(" %d\n", fclose(file)) < 0;
 }
 
-/* A file's number can't be copied, and nothing claims that it was. */
-static int copies(void) {
-    int one = dup(1), first = errno, other = fcntl(1, F_DUPFD, 5);
-    printf("%d %d %d %d\n", one, first == ENOSYS, other, errno == ENOSYS);
-    return 0;
-}
-
 static int clocks(void) {
     struct timespec a, b;
     time_t now = time(NULL);
@@ -172,7 +165,6 @@ int main(int argc, char **argv) {
     if (!strcmp(what, "jumps")) return jumps();
     if (!strcmp(what, "counts")) return counts();
     if (!strcmp(what, "files")) return files(argv[2]);
-    if (!strcmp(what, "copies")) return copies();
     if (!strcmp(what, "clocks")) return clocks();
     if (!strcmp(what, "ends")) return ends();
     if (!strcmp(what, "aborts")) abort();

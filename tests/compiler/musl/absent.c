@@ -1,0 +1,74 @@
+/* The functions of the C library that fail with ENOSYS by nc-run, as docs/GUIDE.md lists them: prints the names of those that do. */
+#define _GNU_SOURCE
+#include <errno.h>
+#include <fcntl.h>
+#include <poll.h>
+#include <pthread.h>
+#include <signal.h>
+#include <spawn.h>
+#include <stdio.h>
+#include <sys/file.h>
+#include <sys/mman.h>
+#include <sys/resource.h>
+#include <sys/select.h>
+#include <sys/socket.h>
+#include <sys/stat.h>
+#include <sys/statvfs.h>
+#include <sys/time.h>
+#include <sys/utsname.h>
+#include <sys/wait.h>
+#include <time.h>
+#include <unistd.h>
+
+static char *const no_words[] = {NULL};
+static struct pollfd files[1];
+static struct flock lock = {.l_type = F_RDLCK};
+static struct itimerval interval;
+static struct rlimit limit;
+static struct sigaction action;
+static struct statvfs system_of_files;
+static struct utsname name;
+static fd_set set;
+static int two[2], status;
+static pthread_t thread;
+static pid_t child;
+static timer_t timer;
+
+static void *nothing(void *given) {
+    return given;
+}
+
+/* Tells a function whose result is -1 and an error, or an error's number. */
+static void tell(const char *function, long result) {
+    if ((result == -1 ? errno : result) == ENOSYS) puts(function);
+    errno = 0;
+}
+
+int main(void) {
+    FD_SET(0, &set);
+    tell("alarm", setitimer(ITIMER_REAL, &interval, NULL));
+    tell("chown", chown(".", 1, 1));
+    tell("execve", execve("program", no_words, no_words));
+    tell("fcntl(F_SETLK)", fcntl(0, F_SETLK, &lock));
+    tell("flock", flock(0, LOCK_SH));
+    tell("fork", fork());
+    tell("fsync", fsync(0));
+    tell("getrlimit", getrlimit(RLIMIT_NOFILE, &limit));
+    tell("kill", kill(99, SIGTERM));
+    tell("link", link("a", "b"));
+    tell("mkfifo", mkfifo("a", 0600));
+    tell("mmap", mmap(NULL, 4096, PROT_READ, MAP_PRIVATE | MAP_ANONYMOUS, -1, 0) == MAP_FAILED ? -1 : 0);
+    tell("pipe", pipe(two));
+    tell("poll", poll(files, 1, 0));
+    tell("posix_spawn", posix_spawn(&child, "program", NULL, NULL, no_words, no_words));
+    tell("pthread_create", pthread_create(&thread, NULL, nothing, NULL));
+    tell("select", select(1, &set, NULL, NULL, NULL));
+    tell("sigaction", sigaction(SIGTERM, &action, NULL));
+    tell("socket", socket(AF_UNIX, SOCK_STREAM, 0));
+    tell("statvfs", statvfs(".", &system_of_files));
+    tell("symlink", symlink("a", "b"));
+    tell("timer_create", timer_create(CLOCK_REALTIME, NULL, &timer));
+    tell("uname", uname(&name));
+    tell("waitpid", waitpid(-1, &status, 0));
+    return 0;
+}
