@@ -129,14 +129,14 @@ static uint32_t lay_words(Run *run) {
 /* The result of a function goes to standard output; that of the program is its status. */
 static int finish(Run *run, NcsAt function, const NcsEnd *end) {
     if (end->how == NCS_EXITED) {
-        return (int)(end->status & LOW_BITS);
+        return report_lack(run, (int)(end->status & LOW_BITS));
     }
     if (end->how != NCS_RETURNED) {
         NcsEnd again = end->how == NCS_BAD_ENTRY ? ncs_call(run->box, function, NCS_NO_ARGS) : *end;
         return report_end(run, end, again.how != NCS_BAD_ENTRY); /* a box that was entered is dead */
     }
     if (run->line.call == NULL) {
-        return (int)(end->result & LOW_BITS);
+        return report_lack(run, (int)(end->result & LOW_BITS));
     }
     return printf("%u\n", (unsigned)end->result) < 0 || fflush(stdout) != 0 ? report_system("standard output", errno) : 0;
 }

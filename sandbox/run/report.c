@@ -127,3 +127,12 @@ int report_end(const Run *run, const NcsEnd *end, int was_entered) {
 int report_wall(int stands, const NcsRefusal *why) {
     return report_system(stands == NCS_WALL_FILTER ? "the system has no Landlock, so the second wall isn't whole" : why->sentence, 0);
 }
+
+int report_lack(const Run *run, int status) {
+    if (status != 0 && run->lacks_folder) {
+        fprintf(stderr, "nc-run: %s: it asked for files, and has no folder: give --dir or --dir-rw\n", run->line.file);
+    } else if (status != 0 && run->lacks_right) {
+        fprintf(stderr, "nc-run: %s: it was to change files that it only reads: give --dir-rw\n", run->line.file);
+    }
+    return status;
+}

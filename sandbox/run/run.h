@@ -211,6 +211,7 @@ typedef struct Run {
     NcsBox *box;
     uint32_t memory_end;              /* of the memory that the program may use */
     int64_t terminals[RUN_TERMINALS]; /* what nc_terminal says of 0, 1 and 2 */
+    int lacks_folder, lacks_right;    /* whether a call failed that --dir, or --dir-rw, would have let succeed */
 } Run;
 
 /* ---- things.c and serve.c: what a program calls */
@@ -228,5 +229,6 @@ int report_file(const Run *run, const char *sentence, const char *word); /* the 
 int report_refusal(const Run *run, const NcsRefusal *why);
 int report_end(const Run *run, const NcsEnd *end, int was_entered); /* of a call that neither returned nor exited */
 int report_wall(int stands, const NcsRefusal *why);                 /* that isn't whole */
+int report_lack(const Run *run, int status);                        /* which option would have helped a program that failed */
 
 #endif

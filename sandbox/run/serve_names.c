@@ -9,10 +9,17 @@ int serve_path(NcsBox *box, uint32_t at, char path[PATH_MAX]) {
     return len < 0 ? EFAULT : len == PATH_MAX - 1 ? ENAMETOOLONG : 0;
 }
 
+/* What a call returns; and notes which option would have let it succeed. */
+static uint64_t named(Run *run, long long number) {
+    run->lacks_right |= number == -EROFS;
+    run->lacks_folder |= number == -EACCES && run->files.view.count == 0;
+    return result_of(number);
+}
+
 uint64_t call_open(NcsBox *box, void *user, const uint32_t *args) {
     char path[PATH_MAX];
     int error = serve_path(box, args[0], path);
-    return error != 0 ? failed(error) : result_of(opening_open(&((Run *)user)->files, path, args[1], args[2]));
+    return error != 0 ? failed(error) : named(user, opening_open(&((Run *)user)->files, path, args[1], args[2]));
 }
 
 uint64_t call_status(NcsBox *box, void *user, const uint32_t *args) {
@@ -22,7 +29,7 @@ uint64_t call_status(NcsBox *box, void *user, const uint32_t *args) {
     if (error == 0) {
         error = -about_tell(&((Run *)user)->files, args[0] != 0 ? path : NULL, args[1], args[2], &status);
     }
-    return failed(error != 0 ? error : ncs_set(box, (NcsAt){args[3]}, &status, sizeof status) ? 0 : EFAULT);
+    return named(user, error != 0 ? -error : ncs_set(box, (NcsAt){args[3]}, &status, sizeof status) ? 0 : -EFAULT);
 }
 
 uint64_t call_link(NcsBox *box, void *user, const uint32_t *args) {
@@ -33,7 +40,7 @@ uint64_t call_link(NcsBox *box, void *user, const uint32_t *args) {
     }
     len = about_link(&((Run *)user)->files, path, to);
     if (len < 0) {
-        return result_of(len);
+        return named(user, len);
     }
     len = (uint32_t)len < args[2] ? len : (int)args[2];
     return len == 0 || ncs_set(box, (NcsAt){args[1]}, to, (uint32_t)len) ? result_of(len) : failed(EFAULT);
@@ -42,7 +49,7 @@ uint64_t call_link(NcsBox *box, void *user, const uint32_t *args) {
 uint64_t call_enter(NcsBox *box, void *user, const uint32_t *args) {
     char path[PATH_MAX];
     int error = serve_path(box, args[0], path);
-    return error != 0 ? failed(error) : result_of(names_enter(&((Run *)user)->files, path));
+    return error != 0 ? failed(error) : named(user, names_enter(&((Run *)user)->files, path));
 }
 
 uint64_t call_where(NcsBox *box, void *user, const uint32_t *args) {
@@ -61,20 +68,20 @@ uint64_t call_where(NcsBox *box, void *user, const uint32_t *args) {
 uint64_t call_make(NcsBox *box, void *user, const uint32_t *args) {
     char path[PATH_MAX];
     int error = serve_path(box, args[0], path);
-    return error != 0 ? failed(error) : result_of(names_make(&((Run *)user)->files, path, args[1]));
+    return error != 0 ? failed(error) : named(user, names_make(&((Run *)user)->files, path, args[1]));
 }
 
 uint64_t call_remove(NcsBox *box, void *user, const uint32_t *args) {
     char path[PATH_MAX];
     int error = serve_path(box, args[0], path);
-    return error != 0 ? failed(error) : result_of(names_remove(&((Run *)user)->files, path, args[1]));
+    return error != 0 ? failed(error) : named(user, names_remove(&((Run *)user)->files, path, args[1]));
 }
 
 uint64_t call_rename(NcsBox *box, void *user, const uint32_t *args) {
     char path[PATH_MAX], to[PATH_MAX];
     int error = serve_path(box, args[0], path);
     error = error != 0 ? error : serve_path(box, args[1], to);
-    return error != 0 ? failed(error) : result_of(names_rename(&((Run *)user)->files, path, to));
+    return error != 0 ? failed(error) : named(user, names_rename(&((Run *)user)->files, path, to));
 }
 
 uint64_t call_change(NcsBox *box, void *user, const uint32_t *args) {
@@ -84,5 +91,5 @@ uint64_t call_change(NcsBox *box, void *user, const uint32_t *args) {
     if (error != 0 || (args[3] != 0 && !ncs_get(box, times, (NcsAt){args[3]}, sizeof times))) {
         return failed(error != 0 ? error : EFAULT);
     }
-    return result_of(about_change(&((Run *)user)->files, args[0] != 0 ? path : NULL, args[1], args[2], args[3] != 0 ? times : NULL));
+    return named(user, about_change(&((Run *)user)->files, args[0] != 0 ? path : NULL, args[1], args[2], args[3] != 0 ? times : NULL));
 }

@@ -310,6 +310,7 @@ static long long do_call(const char *name, const char *a, const char *b, const c
     if (same(name, "change-open")) return nc_change(0, n, octal_of(b), 0);
     if (same(name, "copy")) return nc_copy(n, number_of(b), number_of(c));
     if (same(name, "terminal")) return nc_terminal(n);
+    if (same(name, "exit")) nc_exit(n);
     if (same(name, "random")) return nc_random(bytes, 1);
     if (same(name, "rows")) return nc_terminal(n) >> 32;
     return -999;
