@@ -302,7 +302,7 @@ static int take_option(char ***word, Line *line) {
 int line_read(int argc, char **argv, Line *line) {
     char **word = argv + (argc != 0);
     int status = -1;
-    memset(line, 0, sizeof *line);
+    memset(line, 0, offsetof(Line, folders));
     line->milliseconds = UINT32_MAX;
     line->memory = MEMORY_DEFAULT;
     line->write = WRITE_DEFAULT;

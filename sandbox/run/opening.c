@@ -22,7 +22,8 @@ static int changes(uint32_t how) {
 
 /* The error of what it isn't allowed to do, or 0. */
 static int judge_how(const Folder *folder, uint32_t how) {
-    if ((how & ~(uint32_t)HOWS) != 0 || (how & (NC_OPEN_WRITE | NC_OPEN_BOTH)) == (NC_OPEN_WRITE | NC_OPEN_BOTH)) {
+    uint32_t access = how & (NC_OPEN_WRITE | NC_OPEN_BOTH), makes_folder = NC_OPEN_FOLDER | NC_OPEN_CREATE;
+    if ((how & ~(uint32_t)HOWS) != 0 || access == (NC_OPEN_WRITE | NC_OPEN_BOTH) || (how & makes_folder) == makes_folder) {
         return EINVAL;
     }
     return folder == NULL ? EACCES : changes(how) && !folder->writable ? EROFS : 0;

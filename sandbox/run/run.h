@@ -60,11 +60,9 @@ enum { WALL_TRY, WALL_MUST, WALL_NONE };
 
 typedef struct Line {
     uint32_t milliseconds, memory;
-    uint32_t live;    /* bytes of code that the program may make */
-    uint64_t write;   /* bytes that may be written below the folders */
-    const char *call; /* the function to call, or NULL for the entry */
-    Folder folders[FOLDERS_MAX];
-    unsigned folder_count;
+    uint32_t live;            /* bytes of code that the program may make */
+    uint64_t write;           /* bytes that may be written below the folders */
+    const char *call;         /* the function to call, or NULL for the entry */
     const char *env[ENV_MAX]; /* each as NAME=VALUE */
     unsigned env_count;
     int wall;
@@ -74,6 +72,8 @@ typedef struct Line {
     char **words; /* those that follow the file's name */
     unsigned count;
     uint32_t numbers[NCS_ARGS_MAX]; /* the words, if a function is called */
+    unsigned folder_count;
+    Folder folders[FOLDERS_MAX]; /* the last, since most of these pages are never touched */
 } Line;
 
 /* Reads the command line. What the program ends with at once: after a help or a version 0, after a mistake STATUS_USAGE; or -1. */
