@@ -15,7 +15,8 @@ FAMILIES = [
     ("Command lines", 0.13, {"nc_cli", "nc_command"}),
     ("Files to verdicts", 0.29, {"nc_mnemonics", "nc_disasm", "nc_reading", "nc_report", "nc_output", "nc_files", "nc_check"}),
     ("Scripts to replies", 0.12, {"nc_work", "nc_lines", "nc_script", "nc_replay"}),
-    ("The region", 0.29, {"nc_base", "nc_decode", "nc_vet", "nc_text", "nc_gens", "nc_list", "nc_acts", "nc_region", "nc_histories", "nc_elf"}),
+    ("The region", 0.29, {"nc_base", "nc_decode", "nc_vet", "nc_text", "nc_gens", "nc_list", "nc_acts", "nc_region", "nc_histories",
+                          "nc_elf"}),
     ("Hosts", 0.17, {"nc_host_acts", "nc_host_handles", "nc_host", "nc_host_law", "nc_embed"}),
 ]
 SWEEPS = 40
