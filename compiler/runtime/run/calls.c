@@ -6,8 +6,6 @@
 #include <sys/uio.h>
 #include "calls.h"
 
-enum { ENDED_BY_SIGNAL = 128 };
-
 /* Reads or writes the parts of a list one by one, up to the first that isn't done whole. */
 static long transfer(int call(int, const struct iovec *), int file, const struct iovec *parts, long count) {
     long all = 0;
@@ -91,17 +89,15 @@ static long call_of_process(long number, long a, long b) {
     switch (number) {
     case SYS_exit:
     case SYS_exit_group: nc_exit((int)a);
-    case SYS_tkill: nc_exit(ENDED_BY_SIGNAL + (int)b); /* what abort and raise come to */
     case SYS_gettid:
-    case SYS_getpid: return 1;
+    case SYS_getpid: return OWN_PROCESS;
     case SYS_getppid: return 0;
     case SYS_getuid32:
     case SYS_geteuid32:
     case SYS_getgid32:
     case SYS_getegid32: return OWN_ID;
     case SYS_getrandom: return nc_random((void *)a, (unsigned)b);
-    case SYS_sched_yield:
-    case SYS_rt_sigprocmask: return 0; /* no signal comes in */
+    case SYS_sched_yield: return 0;
     default: return -ENOSYS;
     }
 }
@@ -110,6 +106,7 @@ long host_syscall(long number, long a, long b, long c, long d, long e, long f) {
     (void)f;
     long result = call_of_files(number, a, b, c, d, e);
     if (result == -ENOSYS) result = call_of_process(number, a, b);
+    if (result == -ENOSYS) result = call_of_signals(number, a, b, c);
     if (result == -ENOSYS) result = call_of_names(number, a, b, c, d, e);
     return result == -ENOSYS ? call_of_times(number, a, b, c, d, e) : result;
 }

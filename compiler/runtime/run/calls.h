@@ -7,9 +7,11 @@
 #include <nc_run.h>
 #include "syscall.h"
 
-enum { BILLION = 1000000000, OWN_ID = 1000 }; /* the number of the user, and of the group, who have each file */
+/* Who has each file, as a user and as a group; and the program's number. */
+enum { BILLION = 1000000000, OWN_ID = 1000, OWN_PROCESS = 1 };
 
 long call_of_names(long number, long a, long b, long c, long d, long e);
+long call_of_signals(long number, long a, long b, long c);
 long call_of_times(long number, long a, long b, long c, long d, long e);
 
 #endif

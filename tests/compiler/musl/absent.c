@@ -25,7 +25,6 @@ static struct pollfd files[1];
 static struct flock lock = {.l_type = F_RDLCK};
 static struct itimerval interval;
 static struct rlimit limit;
-static struct sigaction action;
 static struct statvfs system_of_files;
 static struct utsname name;
 static fd_set set;
@@ -54,7 +53,6 @@ int main(void) {
     tell("fork", fork());
     tell("fsync", fsync(0));
     tell("getrlimit", getrlimit(RLIMIT_NOFILE, &limit));
-    tell("kill", kill(99, SIGTERM));
     tell("link", link("a", "b"));
     tell("mkfifo", mkfifo("a", 0600));
     tell("mmap", mmap(NULL, 4096, PROT_READ, MAP_PRIVATE | MAP_ANONYMOUS, -1, 0) == MAP_FAILED ? -1 : 0);
@@ -63,7 +61,6 @@ int main(void) {
     tell("posix_spawn", posix_spawn(&child, "program", NULL, NULL, no_words, no_words));
     tell("pthread_create", pthread_create(&thread, NULL, nothing, NULL));
     tell("select", select(1, &set, NULL, NULL, NULL));
-    tell("sigaction", sigaction(SIGTERM, &action, NULL));
     tell("socket", socket(AF_UNIX, SOCK_STREAM, 0));
     tell("statvfs", statvfs(".", &system_of_files));
     tell("symlink", symlink("a", "b"));

@@ -7,6 +7,7 @@
 #include <ftw.h>
 #include <pthread.h>
 #include <semaphore.h>
+#include <signal.h>
 #include <stdio.h>
 #include <stdlib.h>
 #include <string.h>
@@ -302,6 +303,46 @@ static int chance(void) {
     return 0;
 }
 
+static volatile sig_atomic_t caught, last;
+static void catch (int signal) {
+    caught++;
+    last = signal;
+}
+static void catch_with_cause(int signal, siginfo_t *about, void *context) {
+    catch (about->si_signo == signal);
+    (void)context;
+}
+
+static int signals(void) {
+    struct sigaction action = {.sa_sigaction = catch_with_cause, .sa_flags = SA_SIGINFO | SA_RESETHAND}, before;
+    sigset_t set, old;
+    TELL(signal(SIGUSR1, catch) == SIG_DFL);
+    TELL(raise(SIGUSR1) + kill(getpid(), SIGUSR1));
+    printf("%d %d\n", caught, last == SIGUSR1);
+    TELL(sigaction(SIGUSR1, &action, &before));
+    printf("%d\n", before.sa_handler == catch);
+    TELL(raise(SIGUSR1));
+    TELL(sigaction(SIGUSR1, NULL, &before));
+    printf("%d %d %d\n", caught, last, before.sa_handler == SIG_DFL);
+    TELL(signal(SIGTERM, SIG_IGN) == SIG_DFL);
+    TELL(raise(SIGTERM) + raise(SIGCHLD));
+    signal(SIGUSR2, catch);
+    sigemptyset(&set);
+    sigaddset(&set, SIGUSR2);
+    TELL(sigprocmask(SIG_BLOCK, &set, &old));
+    TELL(raise(SIGUSR2) + raise(SIGUSR2));
+    TELL(sigpending(&set));
+    printf("%d %d %d\n", caught, sigismember(&set, SIGUSR2), sigismember(&old, SIGUSR2));
+    TELL(sigprocmask(SIG_SETMASK, &old, NULL));
+    printf("%d %d\n", caught, last == SIGUSR2);
+    TELL(sigaction(SIGKILL, &action, NULL));
+    TELL(kill(getpid(), 0));
+    TELL(raise(65));
+    signal(SIGABRT, catch);
+    fflush(stdout);
+    abort();
+}
+
 static int begins;
 static void begin(void) {
     begins++;
@@ -355,10 +396,10 @@ int main(int argc, char **argv) {
     static const struct {
         const char *name;
         int (*function)(void);
-    } all[] = {{"status", status},           {"folders", folders}, {"renames", renames}, {"where", where},
-               {"rights", rights},           {"moments", moments}, {"lengths", lengths}, {"numbers", numbers},
-               {"temporary", temporary},     {"at", at},           {"clocks", clocks},   {"chance", chance},
-               {"environment", environment}, {"threads", threads}, {"starts", starts},   {"waits", waits}};
+    } all[] = {{"status", status},   {"folders", folders}, {"renames", renames},         {"where", where},         {"rights", rights},
+               {"moments", moments}, {"lengths", lengths}, {"numbers", numbers},         {"temporary", temporary}, {"at", at},
+               {"clocks", clocks},   {"chance", chance},   {"environment", environment}, {"threads", threads},     {"signals", signals},
+               {"starts", starts},   {"waits", waits}};
     setvbuf(stdout, NULL, _IOFBF, 1 << 14);
     getcwd(begun, sizeof begun);
     for (size_t k = 0; argc > 1 && k < sizeof all / sizeof *all; k++)
