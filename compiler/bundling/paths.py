@@ -42,8 +42,12 @@ class Paths:
 
     def is_needed(self, labels: Iterable[str], register: str) -> bool:
         """Whether a path from one of the labels reads a part of the register before that is written, or leads outside with it."""
+        return self.is_needed_from([self.listing.labels[label] for label in labels], register)
+
+    def is_needed_from(self, places: Iterable[int | None], register: str) -> bool:
+        """The same for places."""
         seen: set[tuple[int | None, AbstractSet[str]]] = set()
-        waiting: list[tuple[int | None, AbstractSet[str]]] = [(self.listing.labels[label], ALL) for label in labels]
+        waiting: list[tuple[int | None, AbstractSet[str]]] = [(place, ALL) for place in places]
         while waiting:
             index, kept = waiting.pop()
             if (index, kept) in seen or not kept:

@@ -14,6 +14,8 @@ BUNDLE = 32
 FILL = "0x90"
 ALIGNMENTS = {".p2align", ".align", ".balign", ".p2alignw", ".p2alignl", ".balignw", ".balignl"}
 FOR_CLANG = {".addrsig", ".addrsig_sym"}
+# The name that rustc gives to a text. Its functions return three words in %eax, %edx and %ecx, which a return by %ecx would lose.
+OF_RUSTC = re.compile(r'"[^"]*-cgu\.\d+"$')
 OWN_ADDRESS = re.compile(r"\tmovl?\t\(%esp\), (%e(?:[a-d]x|[sd]i|bp))$")
 CALLS, JUMPS, RETURNS = {"call", "calll"}, {"jmp", "jmpl"}, {"ret", "retl"}
 NONE_FREE = ("each register may have an argument: load the target into one that has none, and go by that register, as compilers do by the "
@@ -27,6 +29,8 @@ class Bundler:
         self.listing, self.keep_returns = listing, keep_returns
         self.tables = Tables(listing)
         self.pads = self.tables.pads()  # labels at which %ecx is still to be restored
+        self.keeps_ecx = not keep_returns and any(statement.word == ".file" and OF_RUSTC.search(statement.operands)
+                                                  for statement in listing.statements)
         self.has_nops = False  # whether the text has nops of one byte
         self.bases = {}  # code section -> the label at its start, from which places are counted
         self.base = None  # that label for the current section, or None outside of code
@@ -73,10 +77,12 @@ class Bundler:
         elif popped:
             self.mask_and_go("jmp", "%ecx", ["popl %ecx", f"addl ${popped}, %esp"])
         else:
+            self.emit(*["movl %ecx, -4(%esp)"] * self.keeps_ecx)
             self.mask_and_go("jmp", "%ecx", ["popl %ecx"])
 
-    def call(self, statement):
-        """A call by a name or by a register. One through memory needs a register for the target, and the text shows none to be free."""
+    def call(self, index, statement):
+        """A call by a name or by a register. One through memory needs a register for the target, and the text shows none to be free. Behind
+        it %ecx is what the function has left below the stack."""
         target = statement.operands
         self.end_bundle(5)  # `and` has 3 bytes, `call` by a register 2
         if not target.startswith("*"):
@@ -85,6 +91,8 @@ class Bundler:
             self.mask_and_go("call", target[1:].strip())
         else:
             statement.refuse(NONE_FREE)
+        if self.keeps_ecx and self.tables.paths.is_needed_from([self.listing.after.get(index)], "%ecx"):
+            self.emit("movl -8(%esp), %ecx")
 
     def jump(self, index, statement):
         """A jump by a register, or through memory by one into which the target is loaded first."""
@@ -128,7 +136,7 @@ class Bundler:
         if word in RETURNS:
             self.ret(index, statement)
         elif word in CALLS:
-            self.call(statement)
+            self.call(index, statement)
         elif word in JUMPS and operands.startswith("*"):
             self.jump(index, statement)
         elif word == "pause" or word == "nop" or word.startswith("xchg") and operands.replace(" ", "") == "%eax,%eax":

@@ -17,6 +17,7 @@ Input = Tuple[str, Optional[str]]
 LANGUAGES = {
     ".c": "c", ".i": "cpp-output", ".cc": "c++", ".cp": "c++", ".cpp": "c++", ".cxx": "c++", ".c++": "c++", ".C": "c++",
     ".ii": "c++-cpp-output", ".s": "assembler", ".S": "assembler-with-cpp", ".sx": "assembler-with-cpp",
+    ".d": "d", ".f": "f77", ".f90": "f95", ".f95": "f95", ".f03": "f95", ".f08": "f95",
 }
 IN_CXX = {"c": "c++", "cpp-output": "c++-cpp-output"}
 # What is made: of several of these words, the one with the highest number counts.

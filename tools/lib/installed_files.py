@@ -32,7 +32,8 @@ RUNTIME_FILES = "complex.c division.c floating.c heap.h making.py math.c runtime
 # What stands where it is installed as it does in the repository.
 PAGES_AND_EXAMPLES = [
     "README.md", "SECURITY.md", "CHANGELOG.md", "CONTRIBUTING.md", "VERSION", "docs", "docs/charts",
-    "examples/check", "examples/host", "examples/sandbox", "examples/forth", "examples/run", "examples/boxes", "examples/boxes/calculator",
+    "examples/check", "examples/host", "examples/sandbox", "examples/forth", "examples/run", "examples/rust", "examples/languages",
+    "examples/boxes", "examples/boxes/calculator",
     "examples/boxes/costs", "examples/boxes/document", "examples/boxes/picture", "examples/boxes/plugins",
     *["examples/boxes/hosts" + part for part in ("", "/java", "/node", "/perl", "/postgres", "/prefork", "/python")],
     "examples/compile/sample.c", "examples/good.bin", "examples/bad.bin",
@@ -53,6 +54,7 @@ FILES = [
     ("compiler/runtime/chunk.ld", SHARE + "chunk.ld"),
     ("compiler/bundling", SHARE + "bundling"),
     ("compiler/driving", SHARE + "driving"),
+    ("compiler/rust", SHARE + "rust"),
     ("debugger/debugging", SHARE + "debugging"),
     ("packaging/nc_toolchain.cmake", "lib/cmake/nc_host/nc_toolchain.cmake"),
     ("packaging/meson/nc-cc", "share/meson/cross/nc-cc"),
@@ -176,6 +178,7 @@ def tree(cpu: str = DEFAULT, anew: bool = False) -> dict[str, Entry]:
     made["bin/nc-bundle"] = File(read(REWRITER), 0o755)
     made["bin/nc-cc"] = File(read(DRIVER), 0o755)
     made["bin/nc-c++"] = Link("nc-cc")
+    made["bin/nc-rustc"] = File(read("compiler/nc-rustc"), 0o755)
     made["bin/nc-gdb"] = File(read(DEBUGGER), 0o755)
     made[SHARE + "VERSION"] = File(read("VERSION"), 0o644)
     for name in PROGRAMS:
