@@ -7,6 +7,7 @@
 #include <string.h>
 
 #define NAME_MOST 255u          /* bytes of a name that is shown */
+#define LOOKED_AT 4096u         /* names, at most, for the one of a place */
 #define SYMBOLS_MOST (1u << 20) /* those of a file behind them are none, so that a search takes a fraction of a second */
 
 static int file_has(const Image *image, uint64_t at, uint64_t len) {
@@ -135,22 +136,26 @@ static const char *shown_name(const Image *image, const Elf32_Sym *s) {
     return len != 0 && len < most && name[len] == 0 && name[0] != '$' && !(name[0] == '.' && name[1] == 'L') ? name : NULL;
 }
 
-/* The nearest one at the address or below it. Of several at one address the last one of the table counts, as for nc_check. */
+/* The nearest one at the address or below it. Of several at one address the last one of the table counts, as for nc_check. Compilers lay
+   symbols out in the order of addresses, so from the end on few names are looked at, unless a file was made to take time. */
 const char *ncs_elf_function(const Image *image, uint32_t at, uint32_t *offset) {
     const char *found = NULL, *name;
-    uint32_t nearest = image->code_at;
+    uint32_t nearest = image->code_at, looked_at = 0;
     Elf32_Ehdr h;
     size_t k;
     if (at < image->code_at || at - image->code_at >= image->code_len || image->symbol_count == 0) {
         return NULL;
     }
     memcpy(&h, image->bytes, sizeof h);
-    for (k = 0; k < image->symbol_count; k++) {
+    for (k = image->symbol_count; k != 0 && looked_at < LOOKED_AT; k--) {
         Elf32_Sym s;
-        memcpy(&s, image->bytes + image->symbols + k * sizeof s, sizeof s);
-        if (s.st_value >= nearest && s.st_value <= at && is_of_code(image, &h, &s) && (name = shown_name(image, &s)) != NULL) {
-            nearest = s.st_value;
-            found = name;
+        memcpy(&s, image->bytes + image->symbols + (k - 1) * sizeof s, sizeof s);
+        if (s.st_value <= at && s.st_value >= nearest + (found != NULL) && is_of_code(image, &h, &s)) {
+            looked_at++;
+            if ((name = shown_name(image, &s)) != NULL) {
+                nearest = s.st_value;
+                found = name;
+            }
         }
     }
     if (found != NULL) {

@@ -92,8 +92,8 @@ NcsAt ncs_entry(const NcsModule *module);
 
 /* Returns the name of the function in which an address of the code lies, and writes the distance in bytes from its beginning to `offset`.
    The function is the nearest symbol of code at or below the address, of those with a name fit to be printed. Such a name has 1 to 255
-   printable ASCII characters, none of them a space, and doesn't begin with $ or .L. If there is no such symbol, the call returns null and
-   leaves `offset` as it is. The name is valid until the module is freed. */
+   printable ASCII characters, none of them a space, and doesn't begin with $ or .L. From the table's end on the call looks at 4096 names, at
+   most. If there is no such symbol, it returns null and leaves `offset` as it is. The name is valid until the module is freed. */
 const char *ncs_function_at(const NcsModule *module, NcsAt at, uint32_t *offset);
 
 /* As ncs_function_at, for a file whose code was refused. The name is in the file, which nobody changes meanwhile. */
