@@ -62,7 +62,8 @@ pub fn begin(count: i32, words: *mut *const Letter) {
 pub fn args() -> impl Iterator<Item = &'static str> {
     let words = WORDS.load(Ordering::Relaxed);
     // SAFETY: the C library has given so many texts, each with its 0, which stay.
-    (0..COUNT.load(Ordering::Relaxed) as usize).map(move |k| unsafe { CStr::from_ptr(*words.add(k)) }.to_str().unwrap_or(""))
+    (0..COUNT.load(Ordering::Relaxed) as usize)
+        .map(move |k| unsafe { CStr::from_ptr(*words.add(k)) }.to_str().unwrap_or(""))
 }
 
 /// Ends the program.
@@ -80,7 +81,11 @@ const ALIGNED: usize = 16;
 // SAFETY: these are the C library's, whose blocks stay until they are freed.
 unsafe impl GlobalAlloc for Heap {
     unsafe fn alloc(&self, layout: Layout) -> *mut u8 {
-        if layout.align() <= ALIGNED { malloc(layout.size()) } else { aligned_alloc(layout.align(), layout.size()) }
+        if layout.align() <= ALIGNED {
+            malloc(layout.size())
+        } else {
+            aligned_alloc(layout.align(), layout.size())
+        }
     }
 
     unsafe fn alloc_zeroed(&self, layout: Layout) -> *mut u8 {
@@ -145,7 +150,11 @@ impl File {
 
 impl Write for File {
     fn write_str(&mut self, text: &str) -> fmt::Result {
-        if self.write_all(text.as_bytes()) { Ok(()) } else { Err(fmt::Error) }
+        if self.write_all(text.as_bytes()) {
+            Ok(())
+        } else {
+            Err(fmt::Error)
+        }
     }
 }
 
@@ -159,7 +168,11 @@ struct Pieces {
 impl Pieces {
     fn flush(&mut self) -> fmt::Result {
         let len = core::mem::take(&mut self.len);
-        if self.file.write_all(&self.bytes[..len]) { Ok(()) } else { Err(fmt::Error) }
+        if self.file.write_all(&self.bytes[..len]) {
+            Ok(())
+        } else {
+            Err(fmt::Error)
+        }
     }
 }
 
@@ -180,7 +193,8 @@ impl Write for Pieces {
 #[doc(hidden)]
 pub fn print(file: i32, text: fmt::Arguments, end: &str) {
     let mut to = Pieces { file: File(file), bytes: [0; 512], len: 0 };
-    let _ = to.write_fmt(text).and_then(|()| to.write_str(end)).and_then(|()| to.flush()); // as printf, whose result few look at
+    let _ = to.write_fmt(text).and_then(|()| to.write_str(end)).and_then(|()| to.flush());
+    // as printf, whose result few look at
 }
 
 /// As in `std`, to standard output.

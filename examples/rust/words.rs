@@ -25,8 +25,8 @@ fn main() -> i32 {
 }
 
 fn mean(counts: &BTreeMap<String, u32>) -> f64 {
-    let (letters, words) = counts.iter().fold((0, 0), |sums, (word, &count)| {
-        (sums.0 + word.chars().count() as u32 * count, sums.1 + count)
-    });
+    let (letters, words) = counts
+        .iter()
+        .fold((0, 0), |sums, (word, &count)| (sums.0 + word.chars().count() as u32 * count, sums.1 + count));
     f64::from(letters) / f64::from(words.max(1))
 }

@@ -270,7 +270,9 @@ fn names_of_places() -> Outcome {
     with_guest(|module| {
         assert_eq!((module.entry(), module.function_at(at("sum").offset(3))), (at("start"), Some(("sum", 3))));
         assert_eq!((module.function_at(At::new(0)), module.function_at(at("greeting"))), (None, None));
-        assert!(module.functions().contains(&(at("sum"), "sum")) && !module.functions().iter().any(|f| f.1 == "greeting"));
+        assert!(
+            module.functions().contains(&(at("sum"), "sum")) && !module.functions().iter().any(|f| f.1 == "greeting")
+        );
         let file = std::fs::read(std::env::var("NC_SANDBOX_GUEST")?)?;
         assert_eq!(
             (Module::function_in(&file, at("add")), Module::function_in(&[], at("add"))),
