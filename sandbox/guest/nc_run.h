@@ -14,7 +14,7 @@
  * Files      0, 1 and 2 are nc-run's own. 0 is only read, and 1 and 2 are only written; anything else is EBADF. They have no place. A
  *            program gets other files by nc_open, and has at most 64 numbers in all. A call on one that isn't open is EBADF.
  * Paths      The folders of nc-run --dir and --dir-rw have the names that it says, by default `/`. A path that doesn't begin with a slash
- *            begins where nc_enter has gone, at first `/`. `..` takes away the name before it, whatever that is, and at `/` nothing. A
+ *            begins where nc_enter has gone. At first that is nc-run's own folder, if the program has it, and otherwise `/`. `..` takes away the name before it, whatever that is, and at `/` nothing. A
  *            link that is absolute, or that leads out of its folder, is EACCES, and so are all files of the kernel's own, as in /proc. So
  *            is each path if there is no folder. A path of 4095 bytes or more is ENAMETOOLONG. A change below a folder of --dir is EROFS.
  * Limit      nc-run --write says how many bytes the program may write to files of the folders. Each file or folder that is made counts

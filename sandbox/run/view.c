@@ -5,6 +5,7 @@
 
 #include <errno.h>
 #include <fcntl.h>
+#include <stdlib.h>
 #include <string.h>
 #include <unistd.h>
 
@@ -51,16 +52,24 @@ static int open_numbers(void) {
     return file;
 }
 
+/* The path of a folder on the command line. Whether there was room. */
+static int copy_path(const Folder *folder, char path[PATH_MAX]) {
+    if (folder->host_len >= PATH_MAX) {
+        return 0;
+    }
+    memcpy(path, folder->host, folder->host_len);
+    path[folder->host_len] = 0;
+    return 1;
+}
+
 /* A system that can't confine a path is refused at once. */
 static const char *begin_folder(Folder *folder) {
     static char path[PATH_MAX]; /* named where it can't be opened */
     int again;
-    if (folder->host_len >= sizeof path) {
+    if (!copy_path(folder, path)) {
         errno = ENAMETOOLONG;
         return "a folder";
     }
-    memcpy(path, folder->host, folder->host_len);
-    path[folder->host_len] = 0;
     folder->file = open(path, O_PATH | O_DIRECTORY | O_CLOEXEC);
     if (folder->file < 0) {
         return path;
@@ -72,20 +81,6 @@ static const char *begin_folder(Folder *folder) {
     }
     (void)close(again);
     return NULL;
-}
-
-const char *view_begin(View *view, Folder *folders, unsigned count) {
-    const char *what = NULL;
-    view->folders = folders;
-    view->numbers = -1;
-    view->where[0] = 0;
-    for (view->count = 0; view->count < count && what == NULL; view->count++) {
-        what = begin_folder(&folders[view->count]);
-    }
-    if (what == NULL && count != 0) {
-        view->numbers = open_numbers();
-    }
-    return what;
 }
 
 /* Whether the plain path is the folder with this name, or below it. */
@@ -105,6 +100,49 @@ static const Folder *folder_of(const View *view, const char *plain) {
         }
     }
     return found;
+}
+
+/* The name in the view of nc-run's own folder, whose path is here, if this folder has it and no other one has taken its name. */
+static int name_here(const View *view, const Folder *folder, const char *here, char name[PATH_MAX]) {
+    char path[PATH_MAX], real[PATH_MAX];
+    size_t len, name_len = strlen(folder->name);
+    if (!copy_path(folder, path) || realpath(path, real) == NULL) {
+        return 0;
+    }
+    len = real[1] == 0 ? 0 : strlen(real);
+    real[len] = 0;
+    if (!is_below(here, real) || name_len + strlen(here + len) >= PATH_MAX) {
+        return 0;
+    }
+    memcpy(path, folder->name, name_len);
+    memcpy(path + name_len, here + len, strlen(here + len) + 1);
+    return view_plain("", path, name) && folder_of(view, name) == folder;
+}
+
+/* The program begins where nc-run does, if it has that folder, and otherwise at the root. The longest name says most. */
+static void begin_where(View *view) {
+    char here[PATH_MAX], name[PATH_MAX];
+    unsigned k, found = getcwd(here, sizeof here) != NULL && here[0] == '/' ? view->count : 0;
+    for (k = 0; k < found; k++) {
+        if (name_here(view, &view->folders[k], here, name) && strlen(name) > strlen(view->where)) {
+            memcpy(view->where, name, sizeof name);
+        }
+    }
+}
+
+const char *view_begin(View *view, Folder *folders, unsigned count) {
+    const char *what = NULL;
+    view->folders = folders;
+    view->numbers = -1;
+    view->where[0] = 0;
+    for (view->count = 0; view->count < count && what == NULL; view->count++) {
+        what = begin_folder(&folders[view->count]);
+    }
+    if (what == NULL && count != 0) {
+        view->numbers = open_numbers();
+        begin_where(view);
+    }
+    return what;
 }
 
 static int leads_to_folders(const View *view, const char *plain) {
