@@ -7,8 +7,10 @@ from __future__ import annotations
 
 import re
 import struct
-import subprocess
 from collections.abc import Iterator
+
+from driving.faults import Fault
+from driving.tools import run
 
 from .notes import ONLY_PADDING, SECTION, kinds
 
@@ -42,7 +44,9 @@ def section_names(path: str) -> set[str]:
 
 def nops_in(path: str) -> list[tuple[str, list[int]]]:
     """The name of each section of code, and the places of its nops of one byte."""
-    said = subprocess.run(["objdump", "-dwz", "--no-show-raw-insn", path], capture_output=True, encoding="latin-1", check=True).stdout
+    status, said = run(["objdump", "-dwz", "--no-show-raw-insn", path], caught=(1,))
+    if status:
+        raise ValueError(f"objdump ended with status {status}")
     found: list[tuple[str, list[int]]] = []
     for line in said.split("\n"):
         nop = NOP.match(line)
@@ -78,7 +82,7 @@ def lengthen(path: str) -> str:
     """Replaces the padding of an object. Why it stays as it is, or nothing."""
     try:
         replace(path)
-    except (OSError, ValueError, IndexError, struct.error, subprocess.CalledProcessError) as fault:
+    except (OSError, ValueError, IndexError, struct.error, Fault) as fault:
         return str(fault)
     return ""
 

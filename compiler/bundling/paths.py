@@ -2,13 +2,15 @@
 
 from __future__ import annotations
 
-from collections.abc import Callable, Iterable, Iterator
-from typing import AbstractSet
-
 from .frames import saved_at_calls
 from .listing import Listing, is_direct
 from .registers import ALL, ENDS, FOR_CALLS, OWN_ADDRESS, read, written
 from .statements import Statement
+
+TYPE_CHECKING = False
+if TYPE_CHECKING:
+    from collections.abc import Callable, Iterable, Iterator
+    from typing import AbstractSet
 
 
 class Paths:

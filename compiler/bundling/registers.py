@@ -4,10 +4,13 @@ from __future__ import annotations
 
 import re
 from functools import lru_cache
-from typing import AbstractSet
 
 from .listing import Listing
 from .statements import Statement, split_operands
+
+TYPE_CHECKING = False
+if TYPE_CHECKING:
+    from typing import AbstractSet
 
 ALL = frozenset({"low", "high", "rest"})
 

@@ -3,7 +3,7 @@
 from __future__ import annotations
 
 import re
-from typing import NamedTuple
+from collections import namedtuple
 
 from .statements import Statement
 
@@ -18,9 +18,10 @@ REFUSED_NAMES = [
 ]
 
 
-class Section(NamedTuple):
+class Section(namedtuple("Section", "directive name is_code is_data")):
     """A section by a directive that enters it. `is_code`: the rewriter reads it. `is_data`: the program can read addresses there."""
 
+    __slots__ = ()
     directive: str
     name: str
     is_code: bool

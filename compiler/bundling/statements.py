@@ -3,9 +3,13 @@
 from __future__ import annotations
 
 import re
-from collections.abc import Iterable, Iterator
+from collections import namedtuple
 from itertools import groupby
-from typing import NamedTuple, NoReturn
+
+TYPE_CHECKING = False  # typing takes longer to load than a small text to rewrite
+if TYPE_CHECKING:
+    from collections.abc import Iterable, Iterator
+    from typing import NoReturn
 
 PREFIXES = {"lock", "rep", "repe", "repz", "repne", "repnz", "data16", "addr16", "notrack", "bnd", "xacquire", "xrelease",
             "cs", "ds", "es", "fs", "gs", "ss"}
@@ -30,14 +34,15 @@ class JumpRefusal(Refusal):
     """The same for a jump through memory. A compiler that makes no tables for jumps writes it only for a computed goto."""
 
 
-class Statement(NamedTuple):
+class Statement(namedtuple("Statement", "line kind word operands prefixes", defaults=((),))):
     """A label, a directive, an assignment or an instruction with its prefixes, and the line on which it begins."""
 
+    __slots__ = ()
     line: int
     kind: str  # "label", "directive", "assignment" or "instruction"
     word: str
     operands: str
-    prefixes: tuple[str, ...] = ()
+    prefixes: tuple[str, ...]
 
     @property
     def text(self) -> str:

@@ -2,9 +2,11 @@
 
 from __future__ import annotations
 
-from collections.abc import Iterable
-
 from .tools import is_clang
+
+TYPE_CHECKING = False
+if TYPE_CHECKING:
+    from collections.abc import Iterable
 
 FREESTANDING = "-ffreestanding"
 DEFAULTS = ["-fno-pic", "-fno-pie", "-fno-asynchronous-unwind-tables"]

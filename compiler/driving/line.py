@@ -4,15 +4,18 @@ from __future__ import annotations
 
 import os
 import re
-from collections.abc import Iterable, Iterator
-from typing import Optional, Tuple, TypeVar
 
 from .faults import Fault
 from .responses import expanded
 
-T = TypeVar("T")
-# A file with its language, or a word for the linker with None.
-Input = Tuple[str, Optional[str]]
+TYPE_CHECKING = False
+if TYPE_CHECKING:
+    from collections.abc import Iterable, Iterator
+    from typing import Optional, Tuple, TypeVar
+
+    T = TypeVar("T")
+    # A file with its language, or a word for the linker with None.
+    Input = Tuple[str, Optional[str]]
 
 LANGUAGES = {
     ".c": "c", ".i": "cpp-output", ".cc": "c++", ".cp": "c++", ".cpp": "c++", ".cxx": "c++", ".c++": "c++", ".C": "c++",
@@ -50,7 +53,12 @@ DROPPED = {"-nostdlib", "-nostdlib++", "-nolibc", "-nostartfiles", "-nodefaultli
            "-march=i686", "-static-libgcc", "-shared-libgcc", "-static-libstdc++", "-fno-lto"}
 ALONE = {"-nostdlib", "-nolibc", "-nodefaultlibs"}  # of these, those without the C library
 REGION, REGION_END = 0x00010000, 0x04010000
-QUESTION = re.compile(r"--version|--help=.*|--target-help|-dump(?:machine|version|fullversion|specs)|--?print-.*")
+QUESTION = r"--version|--help=.*|--target-help|-dump(?:machine|version|fullversion|specs)|--?print-.*"
+# How those begin for which the patterns are tried: most words are none of them, and a pattern takes its time.
+MAYBE_REFUSED = ("-shared", "-pie", "-static-pie", "-qmk", "-dynamiclib", "-m64", "-mx32", "-m16", "-miamcu", "-flto", "-pg", "-p",
+                 "-finstr", "-fprofile", "-coverage", "--coverage", "-fcoverage", "-fsanitize=", "-fopen", "-fgnu-tm", "-fsplit", "-fcilk",
+                 "-masm=", "-fuse-ld=", "-fembed", "-emit")
+MAYBE_ASKED = ("--", "-dump", "-print")
 
 
 class Line:
@@ -97,9 +105,9 @@ class Line:
             self.for_ld += ["--defsym", f"nc_{word[2:]}=0x{self.address(word, rest):08x}"]
         elif word.startswith("-save-temps"):
             self.keeps_files = True
-        elif re.fullmatch(r"-j\d*", word):
+        elif word == "-j" or word.startswith("-j") and word[2:].isdecimal():
             self.jobs = int(word[2:] or os.cpu_count() or 1)
-        elif re.match(r"-[ox].", word):
+        elif word.startswith(("-o", "-x")):
             setattr(self, own[word[:2]], word[2:])
         elif word.startswith("-") and word != "-":
             self.take_flag(word, rest)
@@ -108,10 +116,11 @@ class Line:
 
     def take_flag(self, word: str, rest: Iterator[str]) -> None:
         """A flag that a tool behind this one gets."""
-        reason = next((reason for pattern, reason in REFUSED if re.fullmatch(pattern, word)), None)
+        patterns = REFUSED if word.startswith(MAYBE_REFUSED) else []
+        reason = next((reason for pattern, reason in patterns if re.fullmatch(pattern, word)), None)
         if reason:
             raise Fault(f"{word}: {reason}")
-        if QUESTION.fullmatch(word):
+        if word.startswith(MAYBE_ASKED) and re.fullmatch(QUESTION, word):
             self.questions.append(word)
         elif word.startswith("-Wa,"):
             self.for_as += word[4:].split(",")

@@ -4,12 +4,16 @@ from __future__ import annotations
 
 import os
 import re
-from collections.abc import Iterable, Iterator
 
 from .faults import Fault
 
-WORD = re.compile(r"""(?:\\.|'(?:\\.|[^'\\])*'|"(?:\\.|[^"\\])*"|[^\s'"\\])+""", re.S)
-PART = re.compile(r"""\\(.)|'((?:\\.|[^'\\])*)'|"((?:\\.|[^"\\])*)"|([^'"\\])""", re.S)
+TYPE_CHECKING = False
+if TYPE_CHECKING:
+    from collections.abc import Iterable, Iterator
+
+# These are compiled where they are used: few command lines have such files.
+WORD = r"""(?:\\.|'(?:\\.|[^'\\])*'|"(?:\\.|[^"\\])*"|[^\s'"\\])+"""
+PART = r"""\\(.)|'((?:\\.|[^'\\])*)'|"((?:\\.|[^"\\])*)"|([^'"\\])"""
 MOST_LEVELS = 20  # a file that names itself would have no end
 LONGEST = 100000  # bytes of a command line, from where on a tool gets its words by a file
 
@@ -17,7 +21,7 @@ LONGEST = 100000  # bytes of a command line, from where on a tool gets its words
 def unquoted(word: str) -> str:
     """A word without its quotes. As in the response files of GNU programs, a backslash stands before a character that is meant as it is."""
     parts = (found.group(1) or found.group(4) or re.sub(r"\\(.)", r"\1", found.group(2) or found.group(3) or "", flags=re.S)
-             for found in PART.finditer(word))
+             for found in re.finditer(PART, word, re.S))
     return "".join(parts)
 
 
@@ -34,7 +38,7 @@ def expanded(words: Iterable[str], level: int = 0) -> Iterator[str]:
                 text = file.read()
         except OSError as fault:
             raise Fault(f"{word[1:]}: {fault.strerror}") from None
-        yield from expanded(map(unquoted, WORD.findall(text)), level + 1)
+        yield from expanded(map(unquoted, re.findall(WORD, text, re.S)), level + 1)
 
 
 def shortened(words: list[str], path: str) -> list[str]:

@@ -4,12 +4,13 @@ from __future__ import annotations
 
 import functools
 import os
-import shlex
-import subprocess
-from collections.abc import Sequence
-from typing import Any
 
+from .caching import kept
 from .faults import Fault
+
+TYPE_CHECKING = False
+if TYPE_CHECKING:
+    from collections.abc import Sequence
 
 # The tools by the variables that name them; NC_CC and the like come first.
 TOOLS = {"CC": "gcc", "AS": "as", "LD": "ld"}
@@ -17,22 +18,50 @@ TOOLS = {"CC": "gcc", "AS": "as", "LD": "ld"}
 ABOVE = "NC_CC_ABOVE"
 LED_BACK = "called by nc-cc as one of its tools: name those beneath by NC_CC, NC_AS and NC_LD, such as gcc, as and ld"
 OWN = ("nc-cc", "nc-c++")
+IGNORED = (13, 25)  # SIGPIPE and SIGXFSZ, which Python ignores, and tools don't
 
 
-def ended(words: Sequence[str], **more: Any) -> subprocess.CompletedProcess:
-    """A command that has ended."""
+def missing(name: str, fault: OSError) -> Fault:
+    """A tool that can't be run."""
+    return Fault(f"{name}: {fault.strerror}; Debian has gcc, clang and binutils")
+
+
+def run(words: Sequence[str], caught: Sequence[int] = ()) -> tuple[int, str]:
+    """The status of a command, and what it writes to the files of these numbers, 1 and 2. With these it reads nothing. To load the module
+    subprocess would take half as long as to compile a small source."""
+    reader, writer = os.pipe()
+    actions = [(os.POSIX_SPAWN_DUP2, writer, number) for number in caught]
+    nothing = [(os.POSIX_SPAWN_OPEN, 0, os.devnull, os.O_RDONLY, 0)] if caught else []
     try:
-        return subprocess.run(words, **more)
-    except subprocess.TimeoutExpired as fault:
-        raise Fault(f"{shlex.join(words)} hasn't ended after {fault.timeout} seconds") from None
+        started = os.posix_spawnp(words[0], list(words), os.environ, file_actions=[*actions, *nothing], setsigdef=IGNORED)
     except OSError as fault:
-        raise Fault(f"{words[0]}: {fault.strerror}; Debian has gcc, clang and binutils") from None
+        os.close(reader)
+        raise missing(words[0], fault) from None
+    finally:
+        os.close(writer)
+    with open(reader, encoding="utf-8", errors="replace") as file:
+        said = file.read() if caught else ""
+    status = os.waitpid(started, 0)[1]
+    return os.WEXITSTATUS(status) if os.WIFEXITED(status) else -os.WTERMSIG(status), said
+
+
+def asked(words: Sequence[str]) -> str:
+    """What a command says that is to end soon."""
+    import subprocess  # and shlex below: few runs need them
+
+    try:
+        return subprocess.run(words, stdin=subprocess.DEVNULL, stdout=subprocess.PIPE, stderr=subprocess.STDOUT, encoding="utf-8",
+                              errors="replace", timeout=10).stdout
+    except subprocess.TimeoutExpired as fault:
+        raise Fault(f"{' '.join(words)} hasn't ended after {fault.timeout} seconds") from None
+    except OSError as fault:
+        raise missing(words[0], fault) from None
 
 
 @functools.lru_cache(maxsize=None)
-def version(words: tuple[str, ...]) -> subprocess.CompletedProcess:
+def version(words: tuple[str, ...]) -> str:
     """What a tool says of its version; an nc-cc that it starts says LED_BACK."""
-    return ended([*words, "--version"], stdin=subprocess.DEVNULL, capture_output=True, encoding="utf-8", errors="replace", timeout=10)
+    return kept(words, "--version", lambda: asked([*words, "--version"]))
 
 
 def is_own(word: str) -> bool:
@@ -42,10 +71,12 @@ def is_own(word: str) -> bool:
 
 def leads_back(words: tuple[str, ...]) -> bool:
     """Whether a command runs nc-cc: one of its words names it, or what the command starts is nc-cc and says so."""
-    return any(map(is_own, words)) or LED_BACK in version(words).stdout + version(words).stderr
+    return any(map(is_own, words)) or LED_BACK in version(words)
 
 
 def words_of(variable: str) -> tuple[str, ...]:
+    import shlex
+
     try:
         words = tuple(shlex.split(os.environ[variable]))
     except ValueError as fault:
@@ -69,4 +100,4 @@ def tool(name: str) -> tuple[str, ...]:
 
 
 def is_clang() -> bool:
-    return "clang" in version(tool("CC")).stdout
+    return "clang" in version(tool("CC"))

@@ -43,6 +43,7 @@ def lacking(archive: str = ARCHIVE) -> str | None:
 def installed(folder: str, archive: str = ARCHIVE) -> str:
     """The path below which everything is installed with the C library."""
     prefix = os.path.join(folder, "prefix")
+    os.environ["XDG_CACHE_HOME"] = os.path.join(folder, "cache")  # for the nc-cc there
     done = subprocess.run([os.path.join(TOP, "tools", "install"), prefix, "--musl", archive], capture_output=True, text=True)
     if done.returncode:
         sys.exit("tools/install: status %d: %s" % (done.returncode, done.stderr[-2000:]))

@@ -117,6 +117,14 @@ ANSWERS = [
      r"nc-cc: warning: it has no verdict: (?s:.*)\nit\n"),
     ("a verdict: another program that isn't there", "NC_CHECK=./nowhere nc-cc good.s -o it 2>&1", 2,
      r"nc-cc: \./nowhere: No such file .*\n"),
+    ("kept answers", "XDG_CACHE_HOME=$PWD/kept nc-cc -c it.c && find kept/reedbodkin/answers -type f | sed 's:.*/::'", 0, "--version\n"),
+    ("kept answers are taken", "export XDG_CACHE_HOME=$PWD/kept; nc-cc -c it.c; "
+     "find kept -name --version -exec sh -c 'echo clang > \"$0\"' {} ';' && nc-cc '-###' -c it.c 2>&1 | grep -c -e -Qunused", 0, "1\n"),
+    ("kept answers, but none of a script", "printf '#!/bin/sh\nexec gcc \"$@\"\n' > gcc-own && chmod +x gcc-own && "
+     "XDG_CACHE_HOME=$PWD/kept NC_CC=./gcc-own nc-cc -c it.c && ls kept/reedbodkin", 0, "modules\n"),
+    ("kept answers, but not where others may write", "mkdir -p kept/reedbodkin && chmod 777 kept/reedbodkin && "
+     "XDG_CACHE_HOME=$PWD/kept nc-cc -c it.c && ls kept/reedbodkin", 0, ""),
+    ("kept answers, but no folder", "env -u XDG_CACHE_HOME HOME=\"$PWD/nowhere\" nc-cc -c it.c && ls nowhere 2>&1", 2, "ls: .*\n"),
     ("C as C++", "nc-c++ -S it.c -o - | grep -c _Z1fi:", 0, "1\n"),
 ]
 
