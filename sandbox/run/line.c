@@ -187,6 +187,7 @@ static const char *find_name(const char *value) {
     return name;
 }
 
+/* A later one takes the place of one with the same name. */
 static int add_folder(const char *value, Line *line, int writable) {
     const char *name = find_name(value);
     Folder *folder = &line->folders[line->folder_count];
@@ -201,8 +202,12 @@ static int add_folder(const char *value, Line *line, int writable) {
     while (strcmp(line->folders[k].name, folder->name) != 0) {
         k++;
     }
-    line->folder_count++;
-    return k + 1 == line->folder_count ? -1 : wrong("two folders have one name, where =/NAME after this one gives it another: ", value);
+    if (k < line->folder_count) {
+        line->folders[k] = *folder;
+    } else {
+        line->folder_count++;
+    }
+    return -1;
 }
 
 static int take_folder(const char *value, Line *line) {
