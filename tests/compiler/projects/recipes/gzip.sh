@@ -1,0 +1,21 @@
+#!/bin/sh -eu
+# gzip: files by their names and by standard input, and the system's gzip reads them.
+build() {
+    configured
+    make -j"$JOBS" -C lib
+    make -j"$JOBS" gzip
+}
+
+check() {
+    run ./gzip -n -9 < gzip.c > it.gz
+    sum it.gz
+    run ./gzip -dc it.gz | cmp - gzip.c
+    cp NEWS it
+    run ./gzip -n -k -f it
+    gzip -dc it.gz | cmp - NEWS
+    run ./gzip -l it.gz
+    rm it
+    run ./gzip -d it.gz
+    ls it*
+    noise 100000 | run ./gzip -n -1 | sum
+}

@@ -1,0 +1,13 @@
+#!/bin/sh -eu
+# TIFF: its own tests of the library and of the tools.
+build() {
+    autoreconf -fi
+    configured --disable-zlib --disable-jpeg --disable-lzma --disable-zstd --disable-webp --disable-jbig --disable-lerc --disable-libdeflate
+    make -j"$JOBS"
+    make -j"$JOBS" -C test check TESTS=
+}
+
+check() {
+    cd test
+    make -k check MEMCHECK="$RUN" LOG_COMPILER="$RUN" | grep -E '^(PASS|FAIL|SKIP|XFAIL|ERROR):' | sort
+}
