@@ -69,7 +69,7 @@ PROJECTS = {
         "test/default/sign test/default/box test/default/pwhash_argon2id", is_own=True),
     "libtomcrypt": Project(
         "libtomcrypt_1.18.2.orig.tar.xz", "96ad4c3b8336050993c5bc2cf6c057484f2b0f9f763448151567fbab5e767b84",
-        "test", is_own=True, known="LibTomMath reads /dev/urandom where there is no glibc"),
+        "test", is_own=True),
     "libtommath": Project(
         "libtommath_1.2.0.orig.tar.xz", "b7c75eecf680219484055fcedd686064409254ae44bc31a96c5032843c0e18b1",
         "test", is_own=True),
