@@ -35,6 +35,7 @@ HINTS = [
     Hint("__(mul|div)[sd]c3|__powi[sd]f2", "complex numbers: link {library}/complex.c and {library}/floating.c"),
     Hint("__(add|sub|mul|div|neg|eq|ne|lt|le|gt|ge|unord)[sd]f[23]|__fix(uns)?[sd]f[sd]i|__float(un)?[sd]i[sd]f|__extendsfdf2|__truncdfsf2",
          "software floating point: link {library}/floating.c"),
+    Hint(r"__atomic_\w+", "atomic objects that aren't words: link {library}/atomics.c"),
     Hint(r"__\w+[sdtx][ifc]\d?", "from the compiler's own library, which isn't in bundles: define it, or do without"),
     Hint(r"operator (new|delete).*|_Zn[aw]j.*|_Zd[al]Pv.*",
          "there is no C++ library: define operator new and operator delete, for a heap of your own"),

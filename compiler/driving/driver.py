@@ -66,18 +66,18 @@ class Driver:
         """The compiler's flags for a language, with those for headers."""
         is_hosted = self.has_library()
         headers = [] if language in OTHERS else self.headers(language) if is_hosted else self.places.guest
-        return flags_for(language, [*self.line.flags, *headers], is_hosted)
+        return flags_for(language, [*self.line.flags, *headers], is_hosted, is_hosted and self.places.has_libstdcxx)
 
     def headers(self, language):
         """The flags for headers: those of the C library, with the compiler's own, but none of the system's."""
-        from .headers import own_headers, template_flags
+        from .headers import cxx_flags, own_headers
 
         flags, libc = self.line.flags, self.places.libc
         if "-nostdinc" in flags:
             return self.places.guest
         is_cxx = language.startswith("c++") and "-nostdinc++" not in flags
-        templates = ["-isystem", os.path.join(libc, "templates"), *template_flags()] if is_cxx else []
-        return ["-nostdinc", *templates, "-isystem", os.path.join(libc, "include"), "-idirafter", own_headers(), *self.places.guest]
+        own = cxx_flags(libc, self.places.has_libstdcxx) if is_cxx else []
+        return ["-nostdinc", *own, "-isystem", os.path.join(libc, "include"), "-idirafter", own_headers(), *self.places.guest]
 
     def compiled(self, name, language, number, last=()):
         """The file with the assembly text of a source, before it is rewritten. `last` are further flags, which count more than others."""
@@ -257,9 +257,11 @@ class Driver:
         return self.places.has_libc and not self.line.is_alone
 
     def library(self):
-        """The C library. It has `start` too, for programs that define only main."""
-        libc = self.places.libc
-        return ["-L" + libc, os.path.join(libc, "libc.a")] if self.has_library() and "-r" not in self.line.for_ld else []
+        """The libraries for C++ and C. That for C has `start` too, for programs that define only main."""
+        if not self.has_library() or "-r" in self.line.for_ld:
+            return []
+        libc, names = self.places.libc, [*["libstdc++.a"] * self.places.has_libstdcxx, "libc.a"]
+        return ["-L" + libc, *(os.path.join(libc, name) for name in names)]
 
     def run_linker(self, words, files):
         """Links; what ld says is followed by what can be done about the names that it lacks."""

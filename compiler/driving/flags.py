@@ -13,7 +13,8 @@ DEFAULTS = ["-fno-pic", "-fno-pie", "-fno-asynchronous-unwind-tables"]
 DEFAULTS_GCC = ["-mtune=generic"]  # clang's code is larger with it, by up to a sixth, and no faster
 # With the first gcc compares anew at the cases of a switch what it compared once before the jump, whose mask changes the flags.
 NO_TABLES, RETRIES_GCC = "-fno-jump-tables", ["-fno-gcse"]
-DEFAULTS_CXX = ["-fno-exceptions", "-fno-rtti", "-fno-threadsafe-statics", "-fno-use-cxa-atexit"]
+DEFAULTS_CXX = ["-fno-exceptions", "-fno-threadsafe-statics"]
+ALONE_CXX = ["-fno-rtti", "-fno-use-cxa-atexit"]  # without libstdc++, which has what these would call
 # The languages of gcc besides those of C, which have no headers: D without its runtime, as C needs it, and Fortran.
 OTHERS: dict[str, list[str]] = {"d": ["-fno-druntime"], "f77": [], "f95": []}
 # Conventions by which a return keeps %ecx, or has a part of the result there. A rewritten return goes by %ecx, so functions have the usual
@@ -35,11 +36,11 @@ def retries() -> list[str]:
     return [*([] if is_clang() else RETRIES_GCC), NO_TABLES]
 
 
-def flags_for(language: str, given: Iterable[str] = (), is_hosted: bool = False) -> list[str]:
+def flags_for(language: str, given: Iterable[str] = (), is_hosted: bool = False, has_libstdcxx: bool = False) -> list[str]:
     """The flags for a language: the defaults, those given, which may replace them, and those that can't be otherwise. With a C library the
     code is hosted."""
     own, needed = ([], NEEDED_CLANG) if is_clang() else (DEFAULTS_GCC, NEEDED_GCC)
     if language in OTHERS:
         return [*DEFAULTS, *own, *OTHERS[language], *given, *NEEDED, *needed]
-    cxx = DEFAULTS_CXX if language.startswith("c++") else []
+    cxx = [*DEFAULTS_CXX, *([] if has_libstdcxx else ALONE_CXX)] if language.startswith("c++") else []
     return [*[FREESTANDING] * (not is_hosted), *DEFAULTS, *own, *cxx, *given, *NEEDED, *NO_CONVENTIONS, *needed]

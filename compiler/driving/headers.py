@@ -5,7 +5,11 @@ from __future__ import annotations
 import os
 
 from .caching import kept
+from .places import CXX
 from .tools import asked, tool
+
+# The folders of libstdc++'s headers, in order: the first has Reedbodkin's own.
+CXX_PARTS = ("own", "include", "include/i686-linux-musl", "include/backward")
 
 
 def said(*words: str) -> str:
@@ -18,7 +22,16 @@ def own_headers() -> str:
     return place if os.path.isdir(place) else asked([*tool("CC"), "-print-file-name=include"]).strip()
 
 
-def template_flags() -> list[str]:
-    """The flags that find the headers of the system's C++ library: the folders where the compiler looks for them, in its order."""
+def of_system() -> list[str]:
+    """The folders with headers of the system's C++ library, in the compiler's order."""
     places = [line[1:] for line in said("-E", "-v", "-x", "c++", "-").splitlines() if line.startswith(" /") and "c++" in line]
-    return [word for place in places if " " not in place for word in ("-isystem", place)]
+    return [place for place in places if " " not in place]
+
+
+def cxx_flags(library: str, has_libstdcxx: bool) -> list[str]:
+    """The flags that find the headers of C++: those of libstdc++ beside the C library, or else the system's."""
+    if has_libstdcxx:
+        places = [os.path.join(library, CXX, part) for part in CXX_PARTS]
+    else:
+        places = [os.path.join(library, "templates"), *of_system()]
+    return [word for place in places for word in ("-isystem", place)]

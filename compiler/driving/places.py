@@ -7,6 +7,7 @@ import os
 from .faults import Fault
 
 HOST = ".host"  # the section, beside the chunk, of a host with which a program runs on Linux itself: see chunk.ld
+CXX = "c++"  # where libstdc++'s headers are, beside the C library
 
 
 class Places:
@@ -18,6 +19,7 @@ class Places:
         self.guest = ["-idirafter", self.there("../sandbox/guest", "../share/reedbodkin/guest")]
         self.libc = os.path.normpath(os.path.join(here, "../share/reedbodkin/libc"))
         self.has_libc = os.path.isdir(self.libc)
+        self.has_libstdcxx = os.path.isdir(os.path.join(self.libc, CXX))
 
     def there(self, *paths: str) -> str:
         """The first of these that is there."""

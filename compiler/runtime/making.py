@@ -9,6 +9,7 @@ import shutil
 import subprocess
 import sys
 import tarfile
+from collections.abc import Iterable
 from concurrent.futures import Executor
 from typing import Any, NamedTuple
 
@@ -24,7 +25,7 @@ MUSL_FOLDERS = """string stdlib ctype stdio math multibyte locale errno malloc m
 # Sources in assembly, in the place of empty ones in C.
 ASSEMBLY = {"setjmp": "i386/*.s", "ldso": "i386/dlsym_time64.S"}
 MUSL_FAST = {"internal", "malloc", "malloc/mallocng", "string"}  # which musl's own Makefile optimises more
-OWN = ("complex", "division", "floating", "math", "strings")
+OWN = ("atomics", "complex", "division", "floating", "math", "strings")
 # What math.c and strings.c have in place of musl's, by musl's folders.
 REPLACED = {
     "math": "ceil floor fmod llrint llround lrint lround nearbyint nearbyintf rint rintf round roundf trunc".split(),
@@ -69,7 +70,7 @@ def found(sources: str, patterns: str) -> str:
     return places[-1]
 
 
-def extract(archive: tarfile.TarFile, place: str, files: list[tarfile.TarInfo] | None = None) -> None:
+def extract(archive: tarfile.TarFile, place: str, files: Iterable[tarfile.TarInfo] | None = None) -> None:
     """The files of an archive, or some of them, under the filter for data where Python has it."""
     more: Any = {"filter": "data"} if hasattr(tarfile, "data_filter") else {}
     archive.extractall(place, files, **more)

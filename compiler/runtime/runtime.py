@@ -11,8 +11,8 @@ import tempfile
 
 from making import HERE, Fault, build_objects, compile_code, compile_inner, extract, found, join, write_headers
 
-PARTS = ("run/start.c", "run/calls.c", "run/names.c", "run/signals.c", "run/times.c", "run/heap.c", "run/sigsetjmp.s",
-         "run/threads.c", "run/templates.cc")
+PARTS = ("run/start.c", "run/calls.c", "run/names.c", "run/signals.c", "run/times.c", "run/heap.c", "run/sigsetjmp.s", "run/threads.c")
+PARTS_CXX = ("run/throws.cc", "run/templates.cc")  # without libstdc++
 # Of musl's own heap, what a heap of another kind needs too.
 KEPT = {"memalign.o", "posix_memalign.o", "reallocarray.o"}
 # What stands in libc.a and is named apart, as in musl.
@@ -43,7 +43,7 @@ def headers(musl: str, made: str) -> dict[str, bytes]:
     return texts
 
 
-def runtime(sources: str, cc: str = "gcc") -> dict[str, bytes]:
+def runtime(sources: str, cc: str = "gcc", has_libstdcxx: bool = False) -> dict[str, bytes]:
     """The files of the C library by their names, made of musl's sources: a folder or an archive."""
     with tempfile.TemporaryDirectory() as made, concurrent.futures.ThreadPoolExecutor(os.cpu_count()) as pool:
         try:
@@ -54,7 +54,7 @@ def runtime(sources: str, cc: str = "gcc") -> dict[str, bytes]:
         objects = build_objects(musl, made, cc, pool)
         del objects["malloc/mallocng"]
         objects["malloc"] = [path for path in objects["malloc"] if os.path.basename(path) in KEPT]
-        objects["run"] = [compile_inner(musl, made, cc, name) for name in PARTS]
+        objects["run"] = [compile_inner(musl, made, cc, name) for name in (PARTS if has_libstdcxx else PARTS + PARTS_CXX)]
         objects["code"] = [compile_code(musl, made, cc, path) for path in sorted(glob.glob(os.path.join(CODE, "*.c")))]
         files = headers(musl, made)
         archives: dict[str, list[str]] = {"libc.a": [path for paths in objects.values() for path in paths],

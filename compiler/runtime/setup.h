@@ -16,7 +16,9 @@ static void set_up(char **environment) {
     static size_t no_aux[2];
     __environ = environment ? environment : nothing;
     libc.auxv = no_aux;
-    thread_block.self = &thread_block;
+    thread_block.self = thread_block.next = thread_block.prev = &thread_block;
+    thread_block.robust_list.head = &thread_block.robust_list.head;
+    thread_block.detach_state = DT_JOINABLE;
     thread_block.tid = 1;
     thread_block.locale = &libc.global_locale;
     for (const Constructor *each = __init_array_start; each != __init_array_end; each++) (*each)();

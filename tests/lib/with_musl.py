@@ -13,6 +13,7 @@ from sandbox_building import SYSTEM_LACKS
 
 SOURCES = os.path.join(TOP, "out", "sources")
 ARCHIVE = os.path.join(SOURCES, "musl_1.2.3.orig.tar.gz")
+GCC_ARCHIVE = os.path.join(SOURCES, "gcc-12_12.2.0.orig.tar.gz")
 HELLO = os.path.join(TOP, "tests", "compiler", "musl", "hello.c")
 SECONDS = 120
 
@@ -40,11 +41,12 @@ def lacking(archive: str = ARCHIVE) -> str | None:
     return missing() or (None if os.path.exists(archive) else archive)
 
 
-def installed(folder: str, archive: str = ARCHIVE) -> str:
-    """The path below which everything is installed with the C library."""
+def installed(folder: str, archive: str = ARCHIVE, has_libstdcxx: bool = False) -> str:
+    """The path below which everything is installed with the C library, and perhaps with libstdc++."""
     prefix = os.path.join(folder, "prefix")
     os.environ["XDG_CACHE_HOME"] = os.path.join(folder, "cache")  # for the nc-cc there
-    done = subprocess.run([os.path.join(TOP, "tools", "install"), prefix, "--musl", archive], capture_output=True, text=True)
+    words = [os.path.join(TOP, "tools", "install"), prefix, "--musl", archive, *(["--libstdcxx", GCC_ARCHIVE] if has_libstdcxx else [])]
+    done = subprocess.run(words, capture_output=True, text=True)
     if done.returncode:
         sys.exit("tools/install: status %d: %s" % (done.returncode, done.stderr[-2000:]))
     return prefix

@@ -8,6 +8,7 @@ import stat
 import sys
 from string import Template
 
+from cxx_library import cxx_library
 from explaining import all_definitions
 from installer import Entry, File, Link
 from manual import pages
@@ -27,7 +28,8 @@ COMMANDS = ["nc-bundle", "nc-cc", "nc_check", "nc_replay", "nc-run"]
 CRATES = ["nc_sandbox", "nc_host"]
 
 # What a C library for the sandbox is made of, and what nc-cc's hints name.
-RUNTIME_FILES = "complex.c division.c floating.c heap.h making.py math.c runtime.py setup.h start.c strings.c".split()
+RUNTIME_FILES = """atomics.c complex.c division.c floating.c heap.h libstdcxx.py making.py math.c runtime.py setup.h start.c
+    strings.c""".split()
 
 # What stands where it is installed as it does in the repository.
 PAGES_AND_EXAMPLES = [
@@ -41,19 +43,24 @@ PAGES_AND_EXAMPLES = [
     "examples/first.script", "examples/first.replies", "examples/vet.lines", "examples/vet.replies",
 ]
 
+# What nc-cc reads.
+DRIVER_FILES = [
+    ("sandbox/guest/nc_run.h", SHARE + "guest/nc_run.h"),
+    ("compiler/runtime/chunk.ld", SHARE + "chunk.ld"),
+    ("compiler/bundling", SHARE + "bundling"),
+    ("compiler/driving", SHARE + "driving"),
+]
+
 # Files of the repository, and where they go. A folder's files go below the second path. Of two for one place the later one goes there.
 FILES = [
+    *DRIVER_FILES,
     ("include/nc_host.h", "include/nc_host.h"),
     ("bindings/cpp/nc_host.hpp", "include/nc_host.hpp"),
     ("sandbox/nc_sandbox.h", "include/nc_sandbox.h"),
-    ("sandbox/guest/nc_run.h", SHARE + "guest/nc_run.h"),
     ("bindings/cpp/nc_sandbox.hpp", "include/nc_sandbox.hpp"),
     ("bindings/cpp/nc_sandbox_words.hpp", "include/nc_sandbox_words.hpp"),
     *[("bindings/rust/" + name + part, SHARE + "rust/" + name + part) for name in CRATES for part in ("", "/src", "/examples")],
     *[("bindings/rust/linking.rs", SHARE + "rust/" + name + "/build.rs") for name in CRATES],
-    ("compiler/runtime/chunk.ld", SHARE + "chunk.ld"),
-    ("compiler/bundling", SHARE + "bundling"),
-    ("compiler/driving", SHARE + "driving"),
     ("compiler/rust", SHARE + "rust"),
     ("debugger/debugging", SHARE + "debugging"),
     ("packaging/nc_toolchain.cmake", "lib/cmake/nc_host/nc_toolchain.cmake"),
@@ -65,7 +72,7 @@ FILES = [
     ("packaging/NOTICE", DOC + "NOTICE"),
     *[(path, DOC + path) for path in PAGES_AND_EXAMPLES],
     *[("compiler/runtime/" + name, RUNTIME + name) for name in RUNTIME_FILES],
-    *[("compiler/runtime/" + name, RUNTIME + name) for name in ("code", "musl", "musl/bits", "run", "templates/bits")],
+    *[("compiler/runtime/" + name, RUNTIME + name) for name in ("code", "libstdcxx/bits", "musl", "musl/bits", "run", "templates/bits")],
 ]
 
 # Folders and files of the repository that pages name and that aren't installed, and what stands before their names on an installed page.
@@ -151,9 +158,27 @@ def as_installed(text, place, made):
     return with_note(text)
 
 
-def c_library(sources: str) -> dict[str, Entry]:
-    """The C library that nc-cc takes, made of musl's sources."""
-    return {SHARE + "libc/" + name: File(content, 0o644) for name, content in runtime(sources).items()}
+def driver() -> dict[str, Entry]:
+    """nc-cc and all that it needs."""
+    made: dict[str, Entry] = {}
+    for path, to in DRIVER_FILES:
+        made.update(copied(path, to))
+    made["bin/nc-bundle"] = File(read(REWRITER), 0o755)
+    made["bin/nc-cc"] = File(read(DRIVER), 0o755)
+    made["bin/nc-c++"] = Link("nc-cc")
+    made[SHARE + "VERSION"] = File(read("VERSION"), 0o644)
+    return made
+
+
+def c_library(sources: str | None, cxx_sources: str | None = None) -> dict[str, Entry]:
+    """The libraries that nc-cc takes: that for C, made of musl's sources, and libstdc++ of gcc's."""
+    if sources is None:
+        return {}
+    files = runtime(sources, has_libstdcxx=cxx_sources is not None)
+    made: dict[str, Entry] = {SHARE + "libc/" + name: File(content, 0o644) for name, content in files.items()}
+    if cxx_sources is not None:
+        made.update({SHARE + "libc/" + name: entry for name, entry in cxx_library(cxx_sources, {**driver(), **made}).items()})
+    return made
 
 
 def manual_pages():
@@ -175,12 +200,9 @@ def tree(cpu: str = DEFAULT, anew: bool = False) -> dict[str, Entry]:
     for template, to in TEMPLATES:
         made[to] = File(filled(template).encode(), 0o644)
     made.update(manual_pages())
-    made["bin/nc-bundle"] = File(read(REWRITER), 0o755)
-    made["bin/nc-cc"] = File(read(DRIVER), 0o755)
-    made["bin/nc-c++"] = Link("nc-cc")
+    made.update(driver())
     made["bin/nc-rustc"] = File(read("compiler/nc-rustc"), 0o755)
     made["bin/nc-gdb"] = File(read(DEBUGGER), 0o755)
-    made[SHARE + "VERSION"] = File(read("VERSION"), 0o644)
     for name in PROGRAMS:
         made["bin/" + name] = File(program(name, cpu, anew), 0o755)
     static, shared = libraries(cpu, soname, anew)
