@@ -32,14 +32,13 @@ bool compare_8(volatile uint64_t *at, uint64_t *expected, uint64_t next, int ord
 }
 
 /* What changes the object to `next`, which may name `is`, its value before, and `with`. */
-#define CHANGES(function, name, next)                                                                                                      \
-    uint64_t function(volatile uint64_t *at, uint64_t with, int order) NAMED(name);                                                        \
-    uint64_t function(volatile uint64_t *at, uint64_t with, int order) {                                                                   \
-        uint64_t is = *at;                                                                                                                 \
-        (void)order;                                                                                                                       \
-        while (!swapped(at, &is, next)) {                                                                                                  \
-        }                                                                                                                                  \
-        return is;                                                                                                                         \
+#define CHANGES(function, name, next) \
+    uint64_t function(volatile uint64_t *at, uint64_t with, int order) NAMED(name); \
+    uint64_t function(volatile uint64_t *at, uint64_t with, int order) { \
+        uint64_t is = *at; \
+        (void)order; \
+        while (!swapped(at, &is, next)) {} \
+        return is; \
     }
 #define FETCHES(name, next) CHANGES(fetch_##name, __atomic_fetch_##name##_8, next)
 
@@ -49,7 +48,7 @@ FETCHES(sub, is - with)
 FETCHES(and, is &with)
 FETCHES(or, is | with)
 FETCHES(xor, is ^ with)
-FETCHES(nand, ~(is & with))
+FETCHES(nand, ~(is &with))
 
 void store_8(volatile uint64_t *at, uint64_t with, int order) NAMED(__atomic_store_8);
 void store_8(volatile uint64_t *at, uint64_t with, int order) { exchange_8(at, with, order); }
@@ -58,8 +57,7 @@ void store_8(volatile uint64_t *at, uint64_t with, int order) { exchange_8(at, w
 static volatile bool taken;
 
 static void enter(void) {
-    while (__atomic_test_and_set(&taken, __ATOMIC_ACQUIRE)) {
-    }
+    while (__atomic_test_and_set(&taken, __ATOMIC_ACQUIRE)) {}
 }
 
 static void leave(void) { __atomic_clear(&taken, __ATOMIC_RELEASE); }

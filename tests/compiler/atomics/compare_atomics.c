@@ -72,8 +72,7 @@ static void *together(void *nothing) {
     for (unsigned long k = 0; k < TIMES * rounds; k++) {
         u64 seen = atomic_load(&summed);
         atomic_fetch_add(&shared, 0x100000001ull);
-        while (!atomic_compare_exchange_weak(&summed, &seen, seen + 0xffffffffull)) {
-        }
+        while (!atomic_compare_exchange_weak(&summed, &seen, seen + 0xffffffffull)) {}
     }
     pthread_barrier_wait(&middle);
     for (unsigned long k = 0; k < rounds; k++) {

@@ -21,7 +21,8 @@
 #include <valarray>
 #include <vector>
 
-template <class Values> static void show(const char *name, const Values &values) {
+template <class Values>
+static void show(const char *name, const Values &values) {
     std::cout << name << ':';
     for (const auto &value : values) {
         std::cout << ' ' << value;
@@ -29,7 +30,8 @@ template <class Values> static void show(const char *name, const Values &values)
     std::cout << '\n';
 }
 
-template <class Pairs> static void show_pairs(const char *name, const Pairs &pairs) {
+template <class Pairs>
+static void show_pairs(const char *name, const Pairs &pairs) {
     std::cout << name << ':';
     for (const auto &[key, value] : pairs) {
         std::cout << ' ' << key << '=' << value;

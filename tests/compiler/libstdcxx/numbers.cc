@@ -77,9 +77,10 @@ static void atoms() {
 
 static void functions() {
     std::cout << std::setprecision(10) << std::tgamma(4.5) << ' ' << std::beta(2, 3) << ' ' << std::riemann_zeta(2) << ' '
-              << std::cyl_bessel_j(0, 1.5) << ' ' << std::legendre(3, 0.25) << ' ' << std::hypot(1, 2, 3) << ' ' << std::gcd(84, 36) << '\n';
-    std::cout << std::numeric_limits<int>::max() << ' ' << std::numeric_limits<double>::epsilon() << ' ' << std::numeric_limits<float>::digits10
+              << std::cyl_bessel_j(0, 1.5) << ' ' << std::legendre(3, 0.25) << ' ' << std::hypot(1, 2, 3) << ' ' << std::gcd(84, 36)
               << '\n';
+    std::cout << std::numeric_limits<int>::max() << ' ' << std::numeric_limits<double>::epsilon() << ' '
+              << std::numeric_limits<float>::digits10 << '\n';
     char buffer[512];
     std::pmr::monotonic_buffer_resource room(buffer, sizeof buffer, std::pmr::null_memory_resource());
     std::pmr::vector<int> values({1, 2, 3}, &room);

@@ -51,7 +51,7 @@ struct Other {
 };
 struct Joined : Other, Both {};
 class Hidden : private Other {
-public:
+  public:
     Other *inner() { return this; }
 };
 

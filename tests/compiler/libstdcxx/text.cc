@@ -17,7 +17,8 @@ static void strings() {
     std::string text = "The quick brown fox";
     text.replace(4, 5, "slow").append(20, '.').insert(0, "> ");
     std::cout << text << ' ' << text.find("fox") << ' ' << text.rfind('o') << ' ' << text.find_first_not_of("> The") << '\n';
-    std::cout << std::stoi("-12") << ' ' << std::stoul("ff", nullptr, 16) << ' ' << std::stod("2.5e3") << ' ' << std::to_string(0.1) << '\n';
+    std::cout << std::stoi("-12") << ' ' << std::stoul("ff", nullptr, 16) << ' ' << std::stod("2.5e3") << ' ' << std::to_string(0.1)
+              << '\n';
     std::string_view view = text;
     view.remove_prefix(2);
     std::cout << view.substr(0, 8) << ' ' << view.compare("The") << ' ' << sizeof(std::string) / sizeof(void *) << '\n';
@@ -35,8 +36,8 @@ static void strings() {
 }
 
 static void numbers() {
-    std::cout << std::hex << std::showbase << 255 << ' ' << std::oct << 8 << std::dec << ' ' << std::setw(8) << std::setfill('*') << 42 << ' '
-              << std::left << std::setw(6) << -7 << std::right << std::showpos << 3 << std::noshowpos << '\n';
+    std::cout << std::hex << std::showbase << 255 << ' ' << std::oct << 8 << std::dec << ' ' << std::setw(8) << std::setfill('*') << 42
+              << ' ' << std::left << std::setw(6) << -7 << std::right << std::showpos << 3 << std::noshowpos << '\n';
     for (double value : {0.0, 1.0, 1.5e10, -1e-5, 3.14159265358979, 1e100}) {
         std::cout << value << ' ' << std::fixed << std::setprecision(3) << value << ' ' << std::scientific << value << ' ' << std::hexfloat
                   << value << std::defaultfloat << std::setprecision(6) << '\n';
