@@ -41,7 +41,7 @@ HINTS = [
          "there is no C++ library: define operator new and operator delete, for a heap of your own"),
     Hint("__cxa_pure_virtual", 'in the tables of abstract classes: extern "C" void __cxa_pure_virtual() { __builtin_trap(); }'),
     Hint(r"__cxa_\w+|__gxx_\w+|_Unwind_\w+|__dso_handle|(vtable|typeinfo) for .*__cxxabiv1.*|_ZTVN10__cxxabiv1.*|std::.*|_ZN?K?S[a-z].*",
-         "there is no C++ library: define it, or do without"),
+         "there is no C++ library: tools/install --libstdcxx installs one, or define it"),
     Hint("atexit", "called for the destructors of static objects: define it, to keep what is to be called at the end or to drop it"),
     Hint(LIBC, "there is no C library but one that you link, compiled by nc-cc: tools/install --musl installs one"),
     Hint("-l.*", "the system's libraries aren't in bundles: name an archive of objects that nc-cc has compiled, its folder by -L"),

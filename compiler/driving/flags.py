@@ -13,8 +13,8 @@ DEFAULTS = ["-fno-pic", "-fno-pie", "-fno-asynchronous-unwind-tables"]
 DEFAULTS_GCC = ["-mtune=generic"]  # clang's code is larger with it, by up to a sixth, and no faster
 # With the first gcc compares anew at the cases of a switch what it compared once before the jump, whose mask changes the flags.
 NO_TABLES, RETRIES_GCC = "-fno-jump-tables", ["-fno-gcse"]
-DEFAULTS_CXX = ["-fno-exceptions", "-fno-threadsafe-statics"]
-ALONE_CXX = ["-fno-rtti", "-fno-use-cxa-atexit"]  # without libstdc++, which has what these would call
+DEFAULTS_CXX = ["-fno-threadsafe-statics"]
+ALONE_CXX = ["-fno-exceptions", "-fno-rtti", "-fno-use-cxa-atexit"]  # without libstdc++, which has what these would call
 # The languages of gcc besides those of C, which have no headers: D without its runtime, as C needs it, and Fortran.
 OTHERS: dict[str, list[str]] = {"d": ["-fno-druntime"], "f77": [], "f95": []}
 # Conventions by which a return keeps %ecx, or has a part of the result there. A rewritten return goes by %ecx, so functions have the usual

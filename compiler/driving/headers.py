@@ -8,8 +8,8 @@ from .caching import kept
 from .places import CXX
 from .tools import asked, tool
 
-# The folders of libstdc++'s headers, in order: the first has Reedbodkin's own.
-CXX_PARTS = ("own", "include", "include/i686-linux-musl", "include/backward")
+# The folders of libstdc++'s headers, in order.
+CXX_PARTS = ("include", "include/i686-linux-musl", "include/backward")
 
 
 def said(*words: str) -> str:

@@ -1,4 +1,5 @@
-"""Builds libstdc++ for the sandbox by its own configure and make, with the nc-cc of an installation that has a C library already."""
+"""Builds libstdc++ for the sandbox by its own configure and make, with the nc-cc of an installation that has a C library already, and the
+unwinder of libgcc."""
 
 from __future__ import annotations
 
@@ -10,23 +11,26 @@ import tarfile
 
 from making import HERE, Fault, extract, found, run
 
-OWN = os.path.join(HERE, "libstdcxx")
+UNWINDER = os.path.join(HERE, "unwinder")
 TARGET = "i686-linux-musl"
 # Of gcc's sources, what the library's build reads.
 FOLDERS = ("config", "include", "libgcc", "libiberty", "libstdc++-v3")
 FILES = ("gcc/BASE-VER", "gcc/DATESTAMP", "libstdc++-v3/doc/xsl/customization.xsl.in")
 LEFT_OUT = ("libstdc++-v3/doc/", "libstdc++-v3/testsuite/")  # but for what is in these themselves
-# The compiler of the library. Reedbodkin's header comes before the library's, and none of the system's is seen.
-CXX = ["-nostdinc++", "-I" + OWN, "-frtti", "-fuse-cxa-atexit"]
+# The compiler of the library, which sees no header of the system's library.
+CXX = ["-nostdinc++", "-fexceptions", "-frtti", "-fuse-cxa-atexit"]
 CONFIGURE = ["--host=" + TARGET, "--disable-shared", "--disable-multilib", "--disable-nls", "--disable-tls", "--disable-libstdcxx-pch",
              "--disable-libstdcxx-filesystem-ts", "--enable-clocale=generic", "ac_cv_x86_rdrand=no", "ac_cv_x86_rdseed=no", "CC=nc-cc",
              "CFLAGS=-O2", "CXXFLAGS=-O2"]
-# What stands for functexcept.o, which makes exceptions only to end, and for an unwinder.
-REPLACED, PARTS = "functexcept.o", ("throws.cc", "unwinding.c")
+# Of libgcc, what unwinds; headers of gcc's own build that it names, and of which tsystem.h has all that it wants; and its flags.
+UNWINDING = ("unwind-dw2.c", "unwind-c.c")
+HEADERS = {**dict.fromkeys(("auto-target.h", "coretypes.h", "libgcc_tm.h", "md-unwind-support.h", "tconfig.h", "tm.h"), ""),
+           "gthr-default.h": '#include "gthr-single.h"\n', "unwind.h": '#include "unwind-generic.h"\n'}
+UNWINDER_FLAGS = ["-c", "-O2", "-w", "-std=gnu11", "-fexceptions"]
 # The library's licence, with its exception for programs.
 LICENCES = ("COPYING3", "COPYING.RUNTIME")
 # All of Reedbodkin's own that the library is made of, besides nc-cc.
-PARTS_OF_IT = [os.path.abspath(__file__), os.path.join(OWN, "bits", "c++config.h"), *(os.path.join(HERE, "run", name) for name in PARTS)]
+PARTS_OF_IT = [os.path.abspath(__file__), *sorted(glob.glob(os.path.join(UNWINDER, "*")))]
 
 
 def is_wanted(name: str) -> bool:
@@ -73,16 +77,18 @@ def build(gcc: str, made: str, bin_folder: str, jobs: int) -> None:
     step(["make", "install"], folder, bin_folder)
 
 
-def finish(made: str, bin_folder: str) -> str:
-    """The path of the archive, with Reedbodkin's own parts."""
-    archive = os.path.join(made, "there", "lib", "libstdc++.a")
-    objects = [os.path.join(made, os.path.splitext(name)[0] + ".o") for name in PARTS]
-    for name, path in zip(PARTS, objects):
-        driver = os.path.join(bin_folder, "nc-c++" if name.endswith(".cc") else "nc-cc")
-        run([driver, "-c", "-Os", os.path.join(HERE, "run", name), "-o", path])
-    run(["ar", "dD", archive, REPLACED])
-    run(["ar", "rcsD", archive, *objects])
-    return archive
+def unwinder(gcc: str, made: str, bin_folder: str) -> list[str]:
+    """The objects of the unwinder."""
+    folder = os.path.join(made, "unwinder")
+    os.makedirs(folder)
+    for name, text in HEADERS.items():
+        with open(os.path.join(folder, name), "w", encoding="ascii") as file:
+            file.write(text)
+    libgcc = os.path.join(gcc, "libgcc")
+    including = ["-I" + place for place in (folder, UNWINDER, libgcc, os.path.join(gcc, "include"))]
+    sources = [*(os.path.join(libgcc, name) for name in UNWINDING), *sorted(glob.glob(os.path.join(UNWINDER, "*.c")))]
+    run([os.path.join(bin_folder, "nc-cc"), *UNWINDER_FLAGS, *including, *sources], cwd=folder)
+    return sorted(glob.glob(os.path.join(folder, "*.o")))
 
 
 def library(sources: str, made: str, bin_folder: str) -> dict[str, bytes]:
@@ -92,8 +98,9 @@ def library(sources: str, made: str, bin_folder: str) -> dict[str, bytes]:
     except (OSError, tarfile.TarError, lzma.LZMAError) as fault:
         raise Fault("%s: %s" % (sources, fault)) from None
     build(gcc, made, bin_folder, os.cpu_count() or 1)
-    there = os.path.join(made, "there", "include")
-    paths = {"libstdc++.a": finish(made, bin_folder), "c++/own/bits/c++config.h": os.path.join(OWN, "bits", "c++config.h")}
+    archive, there = (os.path.join(made, "there", name) for name in ("lib/libstdc++.a", "include"))
+    run(["ar", "rcsD", archive, *unwinder(gcc, made, bin_folder)])
+    paths = {"libstdc++.a": archive}
     paths.update({"c++/" + name: os.path.join(gcc, name) for name in LICENCES})
     paths.update({"c++/include/" + os.path.relpath(path, there): path for path in glob.glob(os.path.join(there, "**"), recursive=True)
                   if os.path.isfile(path)})

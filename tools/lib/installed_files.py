@@ -72,7 +72,7 @@ FILES = [
     ("packaging/NOTICE", DOC + "NOTICE"),
     *[(path, DOC + path) for path in PAGES_AND_EXAMPLES],
     *[("compiler/runtime/" + name, RUNTIME + name) for name in RUNTIME_FILES],
-    *[("compiler/runtime/" + name, RUNTIME + name) for name in ("code", "libstdcxx/bits", "musl", "musl/bits", "run", "templates/bits")],
+    *[("compiler/runtime/" + name, RUNTIME + name) for name in ("code", "musl", "musl/bits", "run", "templates/bits", "unwinder")],
 ]
 
 # Folders and files of the repository that pages name and that aren't installed, and what stands before their names on an installed page.
