@@ -39,7 +39,7 @@ def unpacked(folder: str) -> str:
 def options(text: str) -> list[str] | None:
     """The flags of a program, or None where it isn't one to be run here."""
     done = DO.search(text)
-    if not done or re.search(r"target *\{? *[^c}]", done[1]) or LEFT_OUT.search(text):
+    if not done or re.search(r"target[ {]*[^c {}]", done[1]) or LEFT_OUT.search(text):
         return None
     standard = re.search(r"target c\+\+(\d+)", done[1])
     flags = [flag for found in OPTIONS.finditer(text) if not found[2] for flag in shlex.split(found[1])]
@@ -56,8 +56,10 @@ class Suite:
         self.util = os.path.join(self.tests, "util")
         self.ways = {"box": [os.path.join(prefix, "bin/nc-c++")], "native": ["g++", "-m32", "-msse2", "-mfpmath=sse", "-fno-exceptions"]}
         for way in self.ways:
-            for name in UTILITIES:
-                self.compile(way, ["-std=gnu++17", "-c", os.path.join(self.util, name + ".cc"), "-o", "%s-%s.o" % (way, name)])
+            objects = ["%s-%s.o" % (way, name) for name in UTILITIES]
+            for name, made in zip(UTILITIES, objects):
+                self.compile(way, ["-std=gnu++17", "-c", os.path.join(self.util, name + ".cc"), "-o", made])
+            run(["ar", "rcs", way + ".a", *objects], folder)
 
     def compile(self, way: str, words: list[str]) -> bool:
         try:
@@ -68,9 +70,9 @@ class Suite:
     def passes(self, way: str, name: str, flags: list[str]) -> bool:
         """Whether a program compiles and ends with status 0."""
         program = os.path.join(self.folder, "%s-%s.exe" % (way, name.replace("/", "-")))
-        objects = ["%s-%s.o" % (way, utility) for utility in UTILITIES]
+        utilities = os.path.join(self.folder, way + ".a")
         try:
-            if not self.compile(way, [*flags, os.path.join(self.tests, name), *objects, "-o", program]):
+            if not self.compile(way, [*flags, os.path.join(self.tests, name), utilities, "-o", program]):
                 return False
             runs = [os.path.join(self.prefix, "bin/nc-run"), program] if way == "box" else [program]
             return run(runs, os.path.dirname(os.path.join(self.tests, name)), stdin=subprocess.DEVNULL, timeout=SECONDS).returncode == 0
