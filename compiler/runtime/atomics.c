@@ -43,12 +43,14 @@ bool compare_8(volatile uint64_t *at, uint64_t *expected, uint64_t next, int ord
 #define FETCHES(name, next) CHANGES(fetch_##name, __atomic_fetch_##name##_8, next)
 
 CHANGES(exchange_8, __atomic_exchange_8, with)
+/* clang-format off */
 FETCHES(add, is + with)
 FETCHES(sub, is - with)
-FETCHES(and, is &with)
+FETCHES(and, is & with)
 FETCHES(or, is | with)
 FETCHES(xor, is ^ with)
-FETCHES(nand, ~(is &with))
+FETCHES(nand, ~(is & with))
+/* clang-format on */
 
 void store_8(volatile uint64_t *at, uint64_t with, int order) NAMED(__atomic_store_8);
 void store_8(volatile uint64_t *at, uint64_t with, int order) { exchange_8(at, with, order); }

@@ -443,14 +443,14 @@ static void try_copy(void) {
     puts("a copy within a box");
 }
 
-/* ---- A file with more symbols than are read, each with the same long name but one in each half */
+/* ---- A file with more symbols than are read, each with the same long name but two. One of these comes behind the last that is read */
 
 #define NAMES 512u
-#define FIRST_IN 1000u
 #define FIRST_OUT (1u << 20)
+#define LAST_LOOKED_AT (FIRST_OUT - 4096) /* for the name of a place */
 #define SYMBOLS (FIRST_OUT + 1000u)
 
-static size_t lay_symbols(uint8_t *file) {
+static size_t lay_symbols(uint8_t *file, uint32_t in) {
     Elf32_Ehdr *h = (Elf32_Ehdr *)file;
     Elf32_Shdr *s;
     Elf32_Sym *symbol;
@@ -472,7 +472,7 @@ static size_t lay_symbols(uint8_t *file) {
     s[3] = (Elf32_Shdr){.sh_type = SHT_SYMTAB, .sh_offset = at, .sh_size = SYMBOLS * (uint32_t)sizeof *symbol, .sh_link = 2};
     symbol = (Elf32_Sym *)(file + at);
     for (k = 0; k < SYMBOLS; k++) {
-        symbol[k] = (Elf32_Sym){.st_name = k == FIRST_IN  ? 1
+        symbol[k] = (Elf32_Sym){.st_name = k == in        ? 1
                                          : k == FIRST_OUT ? 4
                                                           : 8,
                                 .st_value = CODE_AT + 32 * (k == FIRST_OUT),
@@ -482,14 +482,19 @@ static size_t lay_symbols(uint8_t *file) {
     return at + SYMBOLS * sizeof *symbol;
 }
 
-static void try_symbols(void) {
-    uint8_t *file = malloc(FILE_ROOM + NAMES + SYMBOLS * sizeof(Elf32_Sym));
-    size_t len = lay_symbols(file);
+static void try_symbol(uint8_t *file, uint32_t in, int is_named) {
+    size_t len = lay_symbols(file, in);
     NcsModule *m = ncs_module_elf(file, len, NULL);
     uint32_t offset = 0;
     CHECK(m != NULL && ncs_symbol(m, "in").at == CODE_AT && ncs_symbol(m, "out").at == 0);
-    CHECK(ncs_function_in(file, len, (NcsAt){CODE_AT + 32}, &offset) != NULL && offset == 32);
+    CHECK((ncs_function_in(file, len, (NcsAt){CODE_AT + 32}, &offset) != NULL) == is_named && offset == (is_named ? 32 : 0));
     ncs_module_free(m);
+}
+
+static void try_symbols(void) {
+    uint8_t *file = malloc(FILE_ROOM + NAMES + SYMBOLS * sizeof(Elf32_Sym));
+    try_symbol(file, LAST_LOOKED_AT, 1);
+    try_symbol(file, LAST_LOOKED_AT - 1, 0);
     free(file);
     puts("a file with too many symbols");
 }
