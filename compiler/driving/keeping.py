@@ -23,7 +23,6 @@ def folder() -> str | None:
 def keep_modules() -> None:
     """Has Python keep the modules that it compiles from here on, and take those that are kept."""
     place = folder()
-    if place is None:
-        sys.dont_write_bytecode = True
-    else:
+    sys.dont_write_bytecode = place is None
+    if place is not None:
         sys.pycache_prefix = os.path.join(place, "modules")
