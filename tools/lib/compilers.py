@@ -1,4 +1,4 @@
-"""The manual pages and completions of nc-cc and nc-bundle, against the help of their scripts."""
+"""The manual pages and completions of nc-cc and the other scripts that are installed, against their help."""
 
 from __future__ import annotations
 
@@ -10,7 +10,8 @@ from repository import TOP
 
 COMPILE = os.path.join(TOP, "compiler")
 COMPLETIONS = os.path.join(TOP, "packaging", "completions")
-SCRIPTS = ["nc-cc", "nc-bundle"]
+# The scripts, by the folders that they are in.
+SCRIPTS = {"nc-cc": "compiler", "nc-bundle": "compiler", "nc-rustc": "compiler", "nc-gdb": "debugger"}
 # An option with its value, in the words before the two spaces of a line of help.
 OPTION = re.compile(r"(?<![\w.-])(-W[al],|-###|--?\w[\w-]*)")
 ASK = 'source "$1"; COMP_WORDS=("$2" -); COMP_CWORD=1; _${2//-/_}; printf "%s\\n" "${COMPREPLY[@]}"'
@@ -18,7 +19,7 @@ ASK = 'source "$1"; COMP_WORDS=("$2" -); COMP_CWORD=1; _${2//-/_}; printf "%s\\n
 
 def options_of(name):
     """The options that lines of the help are about."""
-    text = subprocess.run([os.path.join(COMPILE, name), "--help"], capture_output=True, text=True, check=True).stdout
+    text = subprocess.run([os.path.join(TOP, SCRIPTS[name], name), "--help"], capture_output=True, text=True, check=True).stdout
     return {option for line in re.findall(r"^  (-.*)$", text, re.M) for option in OPTION.findall(line.replace("-jN", "-j"))}
 
 

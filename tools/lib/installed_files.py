@@ -24,7 +24,7 @@ SHARE, DOC = "share/reedbodkin/", "share/doc/reedbodkin/"
 RUNTIME = SHARE + "runtime/"
 
 # What has a manual page and completions, and the crates for Rust.
-COMMANDS = ["nc-bundle", "nc-cc", "nc_check", "nc_replay", "nc-run"]
+COMMANDS = ["nc-bundle", "nc-cc", "nc_check", "nc-gdb", "nc_replay", "nc-run", "nc-rustc"]
 CRATES = ["nc_sandbox", "nc_host"]
 
 # What a C library for the sandbox is made of, and what nc-cc's hints name.
