@@ -15,6 +15,11 @@ from .responses import shortened
 from .tools import ABOVE, LED_BACK, run, tool
 
 
+def load_rewriter():
+    """Imports what a compiled source needs next."""
+    from bundling import padding, rewriting  # noqa: F401
+
+
 class Driver:
     """How the tools are run for a command line."""
 
@@ -38,19 +43,19 @@ class Driver:
         if not self.line.is_quiet:
             print(f"nc-cc: warning: {what}", file=sys.stderr)
 
-    def done(self, words, caught=()):
+    def done(self, words, caught=(), meanwhile=lambda: None):
         """The status of a command that has ended, or that -### only shows, and what is caught of its output."""
         self.show(words)
-        return (0, "") if self.line.is_dry else run(words, caught)
+        return (0, "") if self.line.is_dry else run(words, caught, meanwhile)
 
     def run(self, words):
         status, _ = self.done(words)
         if status:
             raise Fault(f"{words[0]} ended with status {status}", 1)
 
-    def compile(self, words):
+    def compile(self, words, meanwhile=lambda: None):
         """Compiles. What fails is done once more, to see which headers are missing; its messages have been on the terminal already."""
-        status, _ = self.done(words)
+        status, _ = self.done(words, meanwhile=meanwhile)
         if status:
             from bundling.hints import header_hints
 
@@ -85,7 +90,8 @@ class Driver:
             return name
         text = self.temporary(name, number, ".s")
         stop = "-E" if language == "assembler-with-cpp" else "-S"
-        self.compile([*self.compiling(language), *last, stop, *self.dependencies(name), "-x", language, name, "-o", text])
+        self.compile([*self.compiling(language), *last, stop, *self.dependencies(name), "-x", language, name, "-o", text],
+                     load_rewriter)
         return text
 
     def dependencies(self, name):
@@ -105,10 +111,10 @@ class Driver:
 
     def bundle(self, name, language, out, number):
         """Writes the text in bundles. One that is in bundles already stays as it is."""
+        source = self.compiled(name, language, number)
         from bundling.notes import noted
         from bundling.statements import Refusal
 
-        source = self.compiled(name, language, number)
         text = "" if self.line.is_dry else self.read(source)
         if language == "assembler" and text.lstrip().startswith(".bundle_align_mode 5"):
             self.show(["cat"], source, out)

@@ -10,7 +10,7 @@ from .faults import Fault
 
 TYPE_CHECKING = False
 if TYPE_CHECKING:
-    from collections.abc import Sequence
+    from collections.abc import Callable, Sequence
 
 # The tools by the variables that name them; NC_CC and the like come first.
 TOOLS = {"CC": "gcc", "AS": "as", "LD": "ld"}
@@ -26,9 +26,9 @@ def missing(name: str, fault: OSError) -> Fault:
     return Fault(f"{name}: {fault.strerror}; Debian has gcc, clang and binutils")
 
 
-def run(words: Sequence[str], caught: Sequence[int] = ()) -> tuple[int, str]:
-    """The status of a command, and what it writes to the files of these numbers, 1 and 2. With these it reads nothing. To load the module
-    subprocess would take half as long as to compile a small source."""
+def run(words: Sequence[str], caught: Sequence[int] = (), meanwhile: Callable[[], None] = lambda: None) -> tuple[int, str]:
+    """The status of a command, and what it writes to the files of these numbers, 1 and 2. With these it reads nothing. `meanwhile` is
+    called while it runs. To load the module subprocess would take half as long as to compile a small source."""
     reader, writer = os.pipe()
     actions = [(os.POSIX_SPAWN_DUP2, writer, number) for number in caught]
     nothing = [(os.POSIX_SPAWN_OPEN, 0, os.devnull, os.O_RDONLY, 0)] if caught else []
@@ -39,6 +39,7 @@ def run(words: Sequence[str], caught: Sequence[int] = ()) -> tuple[int, str]:
         raise missing(words[0], fault) from None
     finally:
         os.close(writer)
+    meanwhile()
     with open(reader, encoding="utf-8", errors="replace") as file:
         said = file.read() if caught else ""
     status = os.waitpid(started, 0)[1]

@@ -103,10 +103,10 @@ static long call_of_process(long number, long a, long b) {
 }
 
 long host_syscall(long number, long a, long b, long c, long d, long e, long f) {
-    (void)f;
     long result = call_of_files(number, a, b, c, d, e);
     if (result == -ENOSYS) result = call_of_process(number, a, b);
     if (result == -ENOSYS) result = call_of_signals(number, a, b, c);
     if (result == -ENOSYS) result = call_of_names(number, a, b, c, d, e);
+    if (result == -ENOSYS) result = call_of_maps(number, a, b, c, d, e, f);
     return result == -ENOSYS ? call_of_times(number, a, b, c, d, e) : result;
 }

@@ -10,6 +10,7 @@
 /* Who has each file, as a user and as a group; and the program's number. */
 enum { BILLION = 1000000000, OWN_ID = 1000, OWN_PROCESS = 1 };
 
+long call_of_maps(long number, long a, long b, long c, long d, long e, long f);
 long call_of_names(long number, long a, long b, long c, long d, long e);
 long call_of_signals(long number, long a, long b, long c);
 long call_of_times(long number, long a, long b, long c, long d, long e);

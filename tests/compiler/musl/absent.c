@@ -55,7 +55,7 @@ int main(void) {
     tell("getrlimit", getrlimit(RLIMIT_NOFILE, &limit));
     tell("link", link("a", "b"));
     tell("mkfifo", mkfifo("a", 0600));
-    tell("mmap", mmap(NULL, 4096, PROT_READ, MAP_PRIVATE | MAP_ANONYMOUS, -1, 0) == MAP_FAILED ? -1 : 0);
+    tell("mprotect", mprotect(two, 4096, PROT_READ));
     tell("pipe", pipe(two));
     tell("poll", poll(files, 1, 0));
     tell("posix_spawn", posix_spawn(&child, "program", NULL, NULL, no_words, no_words));

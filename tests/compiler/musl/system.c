@@ -11,6 +11,7 @@
 #include <stdio.h>
 #include <stdlib.h>
 #include <string.h>
+#include <sys/mman.h>
 #include <sys/resource.h>
 #include <sys/select.h>
 #include <sys/stat.h>
@@ -381,6 +382,72 @@ static int threads(void) {
     return 0;
 }
 
+enum { MANY = 3 * 4096 + 100 };
+
+/* How a mapping fails. */
+static void refuses(size_t len, int rights, int how, int file, off_t from) {
+    void *at = mmap(NULL, len, rights, how, file, from);
+    told("mmap", at == MAP_FAILED ? -1 : 0);
+}
+
+/* The bytes of a mapping, each with its place, and whether it is on pages of its own. */
+static void tell_map(const unsigned char *at, size_t len) {
+    unsigned sum = 0;
+    for (size_t k = 0; k < len; k++) sum += (unsigned)(k + 1) * at[k];
+    printf("%u %d\n", sum, ((unsigned long)at & 4095) == 0);
+}
+
+static unsigned char *map_of(int file, off_t from) {
+    return mmap(NULL, MANY, PROT_READ | PROT_WRITE, MAP_PRIVATE | (file < 0 ? MAP_ANONYMOUS : 0), file, from);
+}
+
+static int maps(void) {
+    static unsigned char bytes[5 * 4096];
+    for (int round = 0; round < 3; round++) { /* what was freed is 0 again */
+        unsigned char *at = map_of(-1, 0);
+        tell_map(at, MANY);
+        memset(at, 255, MANY);
+        TELL(munmap(at, MANY));
+    }
+    for (size_t k = 0; k < sizeof bytes; k++) bytes[k] = (unsigned char)(k * k >> 7);
+    int file = open("large", O_RDWR | O_CREAT, 0644);
+    TELL(write(file, bytes, sizeof bytes));
+    TELL(lseek(file, 11, SEEK_SET));
+    unsigned char *whole = map_of(file, 0), *rest = map_of(file, 4 * 4096);
+    TELL(lseek(file, 0, SEEK_CUR));
+    TELL(close(file));
+    tell_map(whole, MANY);
+    tell_map(rest, 4096); /* behind its last page natively nothing can be read */
+    memset(whole, 1, MANY);
+    TELL(munmap(whole, MANY));
+    TELL(munmap(rest, MANY));
+    file = open("large", O_RDONLY);
+    whole = map_of(file, 0);
+    tell_map(whole, MANY);
+    refuses(0, PROT_READ, MAP_PRIVATE, file, 0);
+    refuses(MANY, PROT_READ, MAP_PRIVATE, file, 100);
+    refuses(MANY, PROT_READ, MAP_PRIVATE, 99, 0);
+    refuses(-1ul, PROT_READ, MAP_PRIVATE | MAP_ANONYMOUS, -1, 0);
+    refuses(MANY, PROT_READ, MAP_PRIVATE, open("large", O_WRONLY), 0);
+    refuses(MANY, PROT_READ, MAP_PRIVATE, open("sub", O_RDONLY), 0);
+    TELL(munmap(whole + 1, MANY));
+    return 0;
+}
+
+/* What natively succeeds. */
+static int copies(void) {
+    int file = open("file", O_RDWR);
+    refuses(4, PROT_READ, MAP_SHARED, file, 0);
+    refuses(4, PROT_READ | PROT_EXEC, MAP_PRIVATE, file, 0);
+    char *at = mmap(NULL, 8192, PROT_READ, MAP_SHARED | MAP_ANONYMOUS, -1, 0);
+    refuses(8192, PROT_READ, MAP_PRIVATE | MAP_ANONYMOUS | MAP_FIXED, -1, 0);
+    TELL(munmap(at, 4096));
+    TELL(munmap(at + 4096, 4096));
+    TELL(munmap(at, 8191));
+    TELL(munmap(at, 8192));
+    return 0;
+}
+
 static int starts(void) {
     pthread_t thread;
     return pthread_create(&thread, NULL, nothing, NULL) == ENOSYS ? 7 : 0;
@@ -399,7 +466,7 @@ int main(int argc, char **argv) {
     } all[] = {{"status", status},   {"folders", folders}, {"renames", renames},         {"where", where},         {"rights", rights},
                {"moments", moments}, {"lengths", lengths}, {"numbers", numbers},         {"temporary", temporary}, {"at", at},
                {"clocks", clocks},   {"chance", chance},   {"environment", environment}, {"threads", threads},     {"signals", signals},
-               {"starts", starts},   {"waits", waits}};
+               {"maps", maps},       {"copies", copies},   {"starts", starts},           {"waits", waits}};
     setvbuf(stdout, NULL, _IOFBF, 1 << 14);
     getcwd(begun, sizeof begun);
     for (size_t k = 0; argc > 1 && k < sizeof all / sizeof *all; k++)
