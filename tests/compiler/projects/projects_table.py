@@ -33,7 +33,7 @@ PROJECTS = {
         "build/src/cmark", is_own=True),
     "diffutils": Project(
         "diffutils_3.8.orig.tar.xz", "a6bdd7d1b31266d11c4f4de6c1b748d4607ab0231af5188fc2533d0ae2438fec",
-        "src/diff src/diff3 src/cmp src/sdiff"),
+        "src/diff src/cmp"),
     "double-conversion": Project(
         "double-conversion_3.2.1.orig.tar.gz", "e40d236343cad807e83d192265f139481c51fc83a1c49e406ac6ce0a0ba7cd35",
         "build/test/cctest/cctest", "C++", is_own=True),
@@ -57,7 +57,7 @@ PROJECTS = {
         "jq", is_own=True),
     "libdeflate": Project(
         "libdeflate_1.14.orig.tar.gz", "89e7df898c37c3427b0f39aadcf733731321a278771d20fc553f92da8d4808ac",
-        "gzip", known="its gzip maps files into memory"),
+        "gzip"),
     "libjpeg-turbo": Project(
         "libjpeg-turbo_2.1.5.orig.tar.gz", "254f3642b04e309fee775123133c6464181addc150499561020312ec61c1bf7c",
         "build/cjpeg-static build/djpeg-static build/jpegtran-static build/tjunittest-static build/tjbench-static", is_own=True),

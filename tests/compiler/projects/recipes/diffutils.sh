@@ -1,5 +1,5 @@
 #!/bin/sh -eu
-# diffutils: its own sources, compared in several ways.
+# diffutils: its own sources, compared in several ways. diff3 and sdiff start diff, which no program in a box can.
 build() {
     configured --disable-nls
     make -j"$JOBS"
@@ -11,5 +11,4 @@ check() {
         run src/diff "$way" -r lib src | sum
     done
     run src/cmp NEWS NEWS && ! run src/cmp NEWS README
-    run src/diff3 -m src/diff.c src/diff3.c src/cmp.c | sum
 }
