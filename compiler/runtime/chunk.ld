@@ -66,3 +66,4 @@ PROVIDE(nc_copy = 0x000003c0);
 PROVIDE(nc_terminal = 0x000003e0);
 PROVIDE(nc_sleep = 0x00000400);
 PROVIDE(nc_random = 0x00000420);
+PROVIDE(nc_pipe = 0x00000440);

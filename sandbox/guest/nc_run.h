@@ -12,7 +12,7 @@
  * Errors     A call that fails returns a negative number, such as -9 for EBADF. Errors have the numbers of Linux. A pointer outside the
  *            memory is EFAULT, unless it is to 0 bytes. A call with EFAULT does nothing.
  * Files      0, 1 and 2 are nc-run's own. 0 is only read, and 1 and 2 are only written; anything else is EBADF. They have no place. A
- *            program gets other files by nc_open, and has at most 64 numbers in all. A call on one that isn't open is EBADF.
+ *            program gets other files by nc_open and nc_pipe, and has at most 64 numbers in all. A call on one that isn't open is EBADF.
  * Paths      The folders of nc-run --dir and --dir-rw have the names that it says, by default `/`. A path that doesn't begin with a slash
  *            begins where nc_enter has gone. At first that is nc-run's own folder, if the program has it, and otherwise `/`. `..` takes away the name before it, whatever that is, and at `/` nothing. A
  *            link that is absolute, or that leads out of its folder, is EACCES, and so are all files of the kernel's own, as in /proc. So
@@ -25,8 +25,8 @@
  *
  *     k  address   call                    result                   errors, besides those of the file system, such as EIO
  *     -  00000040  exit(status)            none
- *     0  00000100  read(file, to, len)     bytes; 0 at the end      EBADF, EFAULT, EAGAIN if the file doesn't wait
- *     1  00000120  write(file, from, len)  bytes                    EBADF, EFAULT, EAGAIN, EPIPE, ENOSPC, EFBIG
+ *     0  00000100  read(file, to, len)     bytes; 0 at the end      EBADF, EFAULT, EDEADLK, EAGAIN if the file doesn't wait
+ *     1  00000120  write(file, from, len)  bytes                    EBADF, EFAULT, EDEADLK, EAGAIN, EPIPE, ENOSPC, EFBIG
  *     2  00000140  clock(clock)            nanoseconds, 64 bits     EINVAL
  *     3  00000160  memory()                address
  *     4  00000180  open(path, how, mode)   file                     EFAULT, ENAMETOOLONG, EINVAL, EACCES, EROFS, EMFILE, EISDIR, ENOENT,
@@ -57,6 +57,7 @@
  *                                          bits
  *    24  00000400  sleep(low, high)        0                        EINVAL
  *    25  00000420  random(to, len)         bytes                    EFAULT
+ *    26  00000440  pipe(to)                0                        EFAULT, EMFILE
  *
  * Those of paths are EACCES, ENOENT, ENOTDIR, ELOOP, ENAMETOOLONG and EROFS.
  */
@@ -86,13 +87,14 @@
     CALL(22, copy, 3) \
     CALL(23, terminal, 1) \
     CALL(24, sleep, 2) \
-    CALL(25, random, 2)
+    CALL(25, random, 2) \
+    CALL(26, pipe, 1)
 
 /* The numbers of the first of the four calls for code, which any host can give to a box (ncs_code_calls), of the one behind them, and of the
    one behind all calls. */
 #define NC_RUN_CODE 8
 #define NC_RUN_CODE_END 12
-#define NC_RUN_END 26
+#define NC_RUN_END 27
 
 /* The clocks of nc_clock, which counts nanoseconds. */
 #define NC_CLOCK_REAL 0      /* since 1970 */
@@ -108,6 +110,7 @@
 #define NC_OPEN_NEW 0x80 /* with NC_OPEN_CREATE: EEXIST if the file is there */
 #define NC_OPEN_EMPTY 0x200
 #define NC_OPEN_APPEND 0x400
+#define NC_OPEN_NO_WAIT 0x800   /* only an end of a pipe is so, as nc_status says */
 #define NC_OPEN_FOLDER 0x10000  /* ENOTDIR if it isn't a folder */
 #define NC_OPEN_NO_LINK 0x20000 /* ELOOP if it is a link */
 
@@ -120,7 +123,8 @@ __attribute__((noreturn)) void nc_exit(int status);
 
 /* Read or write at most `len` bytes, and return their number, which is 0 at the end of a file. Fewer than `len` are no error, and no call
    moves more than 1048576. A read waits until there are some, unless the file doesn't wait, which is EAGAIN. A write that nobody reads any
-   more is EPIPE. */
+   more is EPIPE. A wait that only the program itself could end is EDEADLK: it reads an empty pipe of nc_pipe that it may still write, or
+   writes to a full one. */
 int nc_read(int file, void *to, unsigned len);
 int nc_write(int file, const void *from, unsigned len);
 
@@ -153,7 +157,7 @@ struct nc_status {
     long long accessed, modified, changed;
     unsigned mode; /* kind and rights */
     unsigned links;
-    unsigned how; /* it was opened, where it is an open file below a folder */
+    unsigned how; /* it was opened, where it is an open file below a folder or an end of a pipe */
     unsigned none;
 };
 
@@ -205,6 +209,10 @@ int nc_sleep(long long nanoseconds);
 
 /* Fills at most `len` bytes with random ones, by the system's generator for keys, and returns their number, at most 1048576. */
 int nc_random(void *to, unsigned len);
+
+/* Makes a pipe within the program, of at least 4096 bytes, and sets `to` to the numbers of its ends, which are the least that are free. The
+   first is only read, the second only written. They have no place. What is written to a pipe doesn't count for nc-run --write. */
+int nc_pipe(int to[2]);
 
 /* A part of the area in which the program may make code. */
 struct nc_hole {

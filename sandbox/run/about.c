@@ -13,6 +13,7 @@
 
 #define BILLION 1000000000
 #define WRITABLE 0222u
+#define PASSAGE 1 /* the number of what is nowhere in the system */
 
 _Static_assert(sizeof(struct nc_status) == 72, "it has the same form in the box");
 
@@ -37,9 +38,15 @@ static void fill(struct nc_status *to, const struct stat *about, int writable) {
 /* A name that only leads to folders is that of a folder, which is only read. */
 static void fill_passage(struct nc_status *to) {
     memset(to, 0, sizeof *to);
-    to->inode = 1;
+    to->inode = PASSAGE;
     to->mode = S_IFDIR | 0555;
     to->links = 2;
+}
+
+/* The system's number of a pipe would tell the program how many others make. */
+static void fill_pipe(struct nc_status *to, uint64_t pipe) {
+    to->device = 0;
+    to->inode = PASSAGE + pipe;
 }
 
 /* Opens what is at a path by O_PATH, unless it is the kernel's own. */
@@ -87,8 +94,11 @@ int about_tell(Files *files, const char *path, uint32_t file, uint32_t how, stru
     if (open == NULL || files_stat(open->host, &about) != 0) {
         return open == NULL ? -EBADF : -errno;
     }
-    fill(to, &about, files_is_standard(open->host) || open->writable);
+    fill(to, &about, !files_is_beneath(open) || open->writable);
     to->how = open->how;
+    if (open->pipe != 0) {
+        fill_pipe(to, open->pipe);
+    }
     return 0;
 }
 

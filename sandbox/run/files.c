@@ -1,4 +1,4 @@
-/* The files that a program has: nc-run's own three, and those below its folders. TRUSTED, NOT PROVED. */
+/* The files that a program has: nc-run's own three, those below its folders, and pipes within it. TRUSTED, NOT PROVED. */
 #define _GNU_SOURCE
 #include "run.h"
 
@@ -57,6 +57,10 @@ int files_is_standard(int host) {
     return host >= 0 && host < STANDARD;
 }
 
+int files_is_beneath(const Open *file) {
+    return !files_is_standard(file->host) && file->pipe == 0;
+}
+
 Open *files_of(Files *files, uint32_t file) {
     return file < FILES_MAX ? files->of[file] : NULL;
 }
@@ -78,11 +82,11 @@ static uint64_t besides(const Open *file) {
 
 size_t files_room(const Files *files, const Open *file, size_t len) {
     uint64_t more = besides(file), room = files->left > more ? files->left - more : 0;
-    return files_is_standard(file->host) || len <= room ? len : (size_t)room;
+    return !files_is_beneath(file) || len <= room ? len : (size_t)room;
 }
 
 void files_wrote(Files *files, Open *file, size_t len) {
-    if (!files_is_standard(file->host) && len != 0) {
+    if (files_is_beneath(file) && len != 0) {
         files->left -= besides(file) + len;
         file->moved = 0;
     }
@@ -113,6 +117,23 @@ void files_take(Files *files, int number, const Open *file) {
     *open = *file;
     open->users = 1;
     files->of[number] = open;
+}
+
+/* Nobody else reads or writes the pipe, so it never waits. */
+int files_pipe(Files *files, int32_t numbers[2]) {
+    int first = files_free(files, 0), second = first >= 0 ? files_free(files, (uint32_t)first + 1) : -1, ends[2];
+    if (second < 0) {
+        return -EMFILE;
+    }
+    if (pipe2(ends, O_CLOEXEC | O_NONBLOCK) != 0) {
+        return -errno;
+    }
+    files->pipes++;
+    files_take(files, first, &(Open){.host = ends[0], .how = NC_OPEN_READ | NC_OPEN_NO_WAIT, .pipe = files->pipes});
+    files_take(files, second, &(Open){.host = ends[1], .how = NC_OPEN_WRITE | NC_OPEN_NO_WAIT, .pipe = files->pipes});
+    numbers[0] = first;
+    numbers[1] = second;
+    return 0;
 }
 
 /* The standard files stay nc-run's own, which still reports. */

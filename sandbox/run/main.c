@@ -177,19 +177,21 @@ static const char *prepare(Run *run) {
     return what != NULL ? what : view_begin(&run->files.view, run->line.folders, run->line.folder_count);
 }
 
-/* What the calls of nc_run.h need of the system besides. The first ones are for folders that are only read, too. */
+/* What the calls of nc_run.h need of the system besides: always, for folders that are only read, and for others. */
 /* clang-format off */
 static const int CALLS[] = {
+    SYS_pipe2,
     SYS_getdents64, SYS_readlinkat,
     SYS_mkdirat, SYS_unlinkat, SYS_renameat, SYS_ftruncate, SYS_fchmod,
 };
 /* clang-format on */
-#define CALLS_TO_READ 2u
+#define CALLS_ALWAYS 1u
+#define CALLS_TO_READ 3u
 #define CALLS_TO_CHANGE (sizeof CALLS / sizeof *CALLS)
 
 static int build_wall(const Run *run, NcsRefusal *why) {
     NcsFolder folders[FOLDERS_MAX];
-    NcsWall wall = {.folders = folders, .folder_count = run->files.view.count, .calls = CALLS};
+    NcsWall wall = {.folders = folders, .folder_count = run->files.view.count, .calls = CALLS, .call_count = CALLS_ALWAYS};
     unsigned k;
     for (k = 0; k < wall.folder_count; k++) {
         folders[k] = (NcsFolder){.file = run->line.folders[k].file, .writable = run->line.folders[k].writable};

@@ -93,13 +93,15 @@ typedef struct Open {
     int moved;      /* whether its place has moved since the last write */
     uint32_t how;   /* it was opened */
     int writable;   /* whether it is below a writable folder */
+    uint64_t pipe;  /* of which it is an end, from 1 on; or 0 */
     char *name;     /* of a folder, in the view; or NULL */
 } Open;
 
 /* The files of the program by its numbers for them. It never has the number of another file of nc-run. */
 typedef struct Files {
     View view;
-    uint64_t left; /* bytes that may still be written below the folders */
+    uint64_t left;  /* bytes that may still be written below the folders */
+    uint64_t pipes; /* that were made */
     Open open[FILES_MAX];
     Open *of[FILES_MAX];
 } Files;
@@ -118,6 +120,9 @@ int files_host(Files *files, uint32_t file, int use);
 
 /* Whether it is 0, 1 or 2 of nc-run's, whose place others share. */
 int files_is_standard(int host);
+
+/* Whether it lies below a folder of the program. */
+int files_is_beneath(const Open *file);
 
 /* As fstat, by a system call that takes no path. */
 int files_stat(int host, struct stat *about);
@@ -138,6 +143,9 @@ int files_close(Files *files, uint32_t file); /* 0, or the negative error */
 
 /* Gives an open file another number: this one, whose own file is closed, or else the least from this one on. The number, or the error. */
 int files_copy(Files *files, uint32_t file, uint32_t number, int exactly);
+
+/* Makes a pipe, and tells the numbers of its ends. 0, or the negative error. */
+int files_pipe(Files *files, int32_t numbers[2]);
 
 /* ---- beneath.c: each returns a file, or the negative error */
 

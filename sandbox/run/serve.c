@@ -16,6 +16,11 @@ void *serve_bytes(NcsBox *box, uint32_t at, uint32_t len, size_t *piece) {
     return bytes == NULL && len == 0 ? &none : bytes;
 }
 
+/* What a pipe of the program would wait for is the program's to do. */
+static int error_of(const Open *file, int error) {
+    return file->pipe != 0 && error == EAGAIN ? EDEADLK : error;
+}
+
 /* Writes to a file from the box's memory, or reads from it. It waits as long as the file makes it: the time that is limited is the
    processor's. */
 static uint64_t transfer(NcsBox *box, Files *files, const uint32_t *args, int use) {
@@ -32,7 +37,7 @@ static uint64_t transfer(NcsBox *box, Files *files, const uint32_t *args, int us
         moved = use == TO_WRITE ? write(host, bytes, len) : read(host, bytes, len);
     } while (moved < 0 && errno == EINTR);
     if (moved < 0 || (len == 0 && args[2] != 0)) {
-        return failed(moved < 0 ? errno : ENOSPC);
+        return failed(moved < 0 ? error_of(file, errno) : ENOSPC);
     }
     if (use == TO_WRITE) {
         files_wrote(files, file, (size_t)moved);
@@ -58,6 +63,16 @@ uint64_t call_close(NcsBox *box, void *user, const uint32_t *args) {
 uint64_t call_copy(NcsBox *box, void *user, const uint32_t *args) {
     (void)box;
     return result_of(files_copy(&((Run *)user)->files, args[0], args[1], args[2] != 0));
+}
+
+/* A pipe is made only once its numbers have a place. */
+uint64_t call_pipe(NcsBox *box, void *user, const uint32_t *args) {
+    int32_t numbers[2];
+    int error = ncs_at(box, (NcsAt){args[0]}, sizeof numbers) != NULL ? files_pipe(&((Run *)user)->files, numbers) : -EFAULT;
+    if (error == 0) {
+        (void)ncs_set(box, (NcsAt){args[0]}, numbers, sizeof numbers);
+    }
+    return result_of(error);
 }
 
 /* The standard files have places too, but others share these with nc-run. */

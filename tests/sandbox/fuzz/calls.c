@@ -1,6 +1,6 @@
 /* A target: the calls that nc-run serves. A program in a box makes a list of calls with numbers, paths and memory from the input, in a
    temporary folder, or in one of the kernel's own, where no file may be opened. Each call does what nc_run.h says of it. Nothing outside of
-   the folder changes, and every file that is open lies in it. In the end each file is closed, but for nc-run's own. */
+   the folder changes, and every file that is open lies in it or is a pipe. In the end each file is closed, but for nc-run's own. */
 #define _GNU_SOURCE
 #include "first.h"
 #include "folder.h"
@@ -70,8 +70,8 @@ static void see_numbers(uint8_t taken[NUMBERS_MOST]) {
     MUST(closedir(dir) == 0);
 }
 
-/* Whether a file is a regular one or a folder, and in the program's folder or that itself. */
-static int is_in_folder(int file) {
+/* Whether a file is a regular one or a folder, and in the program's folder or that itself; or a pipe without a name. */
+static int is_of_program(int file) {
     char name[64], to[PATH_MAX];
     size_t len = strlen(folder_path());
     struct stat about;
@@ -80,6 +80,9 @@ static int is_in_folder(int file) {
     got = readlink(name, to, sizeof to - 1);
     MUST(got >= 0 && fstat(file, &about) == 0);
     to[got] = 0;
+    if (S_ISFIFO(about.st_mode)) {
+        return strncmp(to, "pipe:", 5) == 0;
+    }
     return (S_ISREG(about.st_mode) || S_ISDIR(about.st_mode)) && strncmp(to, folder_path(), len) == 0 &&
            (to[len] == '/' || (to[len] == 0 && S_ISDIR(about.st_mode)));
 }
@@ -92,7 +95,7 @@ static void judge_numbers(const uint8_t before[NUMBERS_MOST]) {
     see_numbers(now);
     for (k = 0; k < (int)NUMBERS_MOST; k++) {
         MUST(!before[k] || now[k]);
-        opened += now[k] && !before[k] && is_in_folder(k);
+        opened += now[k] && !before[k] && is_of_program(k);
     }
     MUST(opened == rules_opened());
 }

@@ -97,7 +97,8 @@ def files(folder):
 # ---- For `calls`: bytes as read_call of calls.c reads them. An argument is a byte that says which number it is.
 
 READ, WRITE, CLOCK, MEMORY, OPEN, CLOSE, SEEK, SIZE, EXIT, LAY = range(10)
-STATUS, LIST, LINK, ENTER, WHERE, MAKE, REMOVE, RENAME, CUT, CHANGE, COPY, TERMINAL, SLEEP, RANDOM, ANYWHERE = range(LAY + 4, LAY + 19)
+STATUS, LIST, LINK, ENTER, WHERE, MAKE, REMOVE, RENAME, CUT, CHANGE, COPY, TERMINAL, SLEEP, RANDOM = range(LAY + 4, LAY + 18)
+PIPE, ANYWHERE = range(LAY + 18, LAY + 20)
 NAMES = ["file", "sub", "inner", "made", "..", ".", "", "up", "out", "above", "beyond", "loop", "self", "root", "pipe", "secret", "dir",
          "d", "fd", "mem", "cwd"]
 PARTS = {name: number for number, name in enumerate(NAMES)}
@@ -201,6 +202,15 @@ CALLS = {
     "copies": [WRITABLE, a_path(0, "made"), an_open(0, "both create"), a_call(COPY, 3, 9), a_call(COPY, 9, 1, 1), a_call(SEEK, 1),
                a_call(WRITE, 9, buffer(0), MANY), a_call(COPY, 9, 9, 1), a_call(COPY, 0, 3, 1), a_call(CLOSE, 9), a_call(CLOSE, 1),
                a_call(COPY, 0, edge(4)), a_call(COPY, 0, edge(5)), a_call(COPY, 0, ALL, 1), a_call(CLOSE, 0)],
+    "pipes": [READ_ONLY, a_call(PIPE, buffer(0)), a_call(WRITE, 4, buffer(0), 16), a_call(READ, 3, buffer(1), 8),
+              a_call(READ, 3, buffer(1), 9) * 2, a_call(READ, 4, buffer(1), 9), a_call(WRITE, 3, buffer(1), 9),
+              a_call(WRITE, 4, buffer(0), 16), a_call(COPY, 4, 9), a_call(CLOSE, 4), a_call(STATUS, 0, 9, 0, buffer(8)), a_call(CLOSE, 9),
+              a_call(READ, 3, buffer(1), MANY), a_call(READ, 3, buffer(1), 9), a_call(PIPE, buffer(0)), a_call(CLOSE, 4),
+              a_call(WRITE, 5, buffer(0), 1)],
+    "full pipes": [WRITABLE, a_call(PIPE, buffer(0)), a_call(WRITE, 4, FIRST, ALL), a_call(WRITE, 4, FIRST, FIRST) * 3,
+                   a_call(READ, 3, buffer(0), MANY), a_call(WRITE, 4, buffer(0), 5), a_call(WRITE, 4, buffer(0), MANY)],
+    "many pipes": [WRITABLE, a_call(PIPE, buffer(0)) * 32, a_call(CLOSE, 9), a_call(PIPE, buffer(0)),
+                   *[a_call(PIPE, at) for at in (0, LOW, FIRST, LAST_BYTE, END, ALL)]],
     "things": [WRITABLE, *[a_call(TERMINAL, number) for number in (0, 1, 2, 3, ALL)], a_call(SLEEP, 9), a_call(SLEEP, 0, ALL),
                *[a_call(RANDOM, at, length) for at in (0, LOW, FIRST, LAST_BYTE, END, buffer(0)) for length in (0, 1, 2, ALL)]],
     "anywhere": [WRITABLE, a_call(ANYWHERE, extra=0x10000)],

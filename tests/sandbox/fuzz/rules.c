@@ -21,6 +21,9 @@ REAL(NcsAt, ncs_callback, NcsBox *box, NcsCallback function, void *user, unsigne
 typedef struct Opened {
     unsigned users;
     int moved; /* whether it was sought, read or cut since its last write */
+    int is_pipe;
+    uint8_t other; /* the other end of a pipe, or NONE once that is closed */
+    uint64_t held; /* bytes in a pipe, of which the reading end keeps account */
     uint32_t how;
 } Opened;
 #define NONE 0xFF
@@ -52,6 +55,15 @@ static Opened *file_of(uint32_t number) {
     return &opened[files[number]];
 }
 
+static int has_pipe(uint32_t number) {
+    return has_opened(number) && file_of(number)->is_pipe;
+}
+
+/* Whether it lies in the folder. */
+static int has_beneath(uint32_t number) {
+    return has_opened(number) && !file_of(number)->is_pipe;
+}
+
 static uint32_t least_free(uint32_t from) {
     uint32_t k = from;
     while (k < RULES_FILES && files[k] != NONE) {
@@ -62,8 +74,8 @@ static uint32_t least_free(uint32_t from) {
 
 /* Gives an open file a number, or takes it away. */
 static void give_number(uint32_t number, uint8_t file) {
-    if (files[number] != NONE) {
-        file_of(number)->users--;
+    if (files[number] != NONE && --file_of(number)->users == 0 && has_pipe(number) && file_of(number)->other != NONE) {
+        opened[file_of(number)->other].other = NONE;
     }
     files[number] = file;
     if (file != NONE) {
@@ -87,15 +99,40 @@ static int may_transfer(const uint32_t *args, int64_t result, int reads) {
     return result >= 0;
 }
 
+/* A pipe gives all that it holds. What is empty can be read once nothing can be written any more. */
+static void judge_from_pipe(Opened *file, uint32_t len, int64_t result) {
+    uint64_t most = file->held < len ? file->held : len;
+    MUST(result == (file->how != NC_OPEN_READ ? -EBADF : most != 0 || len == 0 || file->other == NONE ? (int64_t)most : -EDEADLK));
+    file->held -= result > 0 ? (uint64_t)result : 0;
+}
+
+/* How much it takes is the system's to say. */
+static void judge_to_pipe(const Opened *file, uint32_t len, int64_t result) {
+    if (file->how != NC_OPEN_WRITE || len == 0) {
+        MUST(result == (file->how != NC_OPEN_WRITE ? -EBADF : 0));
+    } else if (file->other == NONE) {
+        MUST(result == -EPIPE);
+    } else {
+        MUST(result > 0 || (result == -EDEADLK && opened[file->other].held != 0));
+        opened[file->other].held += result > 0 ? (uint64_t)result : 0;
+    }
+}
+
 static void rule_of_read(const uint32_t *args, int64_t result) {
-    if (may_transfer(args, result, 1)) {
+    int may = may_transfer(args, result, 1);
+    if (has_pipe(args[0]) && has_range(args[1], args[2])) {
+        judge_from_pipe(file_of(args[0]), args[2], result);
+    } else if (may) {
         file_of(args[0])->moved = 1;
     }
 }
 
 /* Where it isn't all of the room that is left, the system has taken less. */
 static void rule_of_write(const uint32_t *args, int64_t result) {
-    if (may_transfer(args, result, 0) && has_opened(args[0]) && args[2] != 0) {
+    int may = may_transfer(args, result, 0);
+    if (has_pipe(args[0]) && has_range(args[1], args[2])) {
+        judge_to_pipe(file_of(args[0]), args[2], result);
+    } else if (may && has_opened(args[0]) && args[2] != 0) {
         uint64_t besides = file_of(args[0])->moved ? BLOCK : 0;
         MUST(besides + (uint64_t)result <= left && result != 0);
         left -= besides + (uint64_t)result;
@@ -134,8 +171,7 @@ static uint8_t new_opened(uint32_t how) {
         k++;
         MUST(k < RULES_FILES);
     }
-    opened[k].moved = 0;
-    opened[k].how = how;
+    opened[k] = (Opened){.how = how, .other = NONE};
     return k;
 }
 
@@ -160,7 +196,7 @@ static void rule_of_close(const uint32_t *args, int64_t result) {
 }
 
 static void rule_of_lseek(const uint32_t *args, int64_t result) {
-    MUST(result < 0 || (has_opened(args[0]) && args[3] <= 2));
+    MUST(result < 0 || (has_beneath(args[0]) && args[3] <= 2));
     if (result >= 0) {
         file_of(args[0])->moved = 1;
     }
@@ -176,7 +212,7 @@ static void rule_of_status(const uint32_t *args, int64_t result) {
 }
 
 static void rule_of_list(const uint32_t *args, int64_t result) {
-    MUST(result <= (int64_t)args[2] && (result < 0 || (has_opened(args[0]) && has_range(args[1], args[2]))));
+    MUST(result <= (int64_t)args[2] && (result < 0 || (has_beneath(args[0]) && has_range(args[1], args[2]))));
 }
 
 static void rule_of_link(const uint32_t *args, int64_t result) {
@@ -189,7 +225,7 @@ static void rule_of_enter(const uint32_t *args, int64_t result) {
 
 static void rule_of_where(const uint32_t *args, int64_t result) {
     MUST(result != 0 && result <= (int64_t)args[2]);
-    MUST(result < 0 || args[0] == (uint32_t)NC_WHERE || has_opened(args[0]));
+    MUST(result < 0 || args[0] == (uint32_t)NC_WHERE || has_beneath(args[0]));
 }
 
 static void rule_of_make(const uint32_t *args, int64_t result) {
@@ -210,7 +246,7 @@ static void rule_of_rename(const uint32_t *args, int64_t result) {
 
 static void rule_of_cut(const uint32_t *args, int64_t result) {
     int64_t len = (int64_t)((uint64_t)args[2] << 32 | args[1]);
-    MUST(result <= 0 && (result < 0 || (has_opened(args[0]) && len >= 0 && files_given == RULES_WRITE)));
+    MUST(result <= 0 && (result < 0 || (has_beneath(args[0]) && len >= 0 && files_given == RULES_WRITE)));
     if (result == 0) {
         uint64_t more = len > size_before ? (uint64_t)(len - size_before) : 0;
         MUST((file_of(args[0])->how & (NC_OPEN_WRITE | NC_OPEN_BOTH)) != 0 && more <= left);
@@ -220,7 +256,7 @@ static void rule_of_cut(const uint32_t *args, int64_t result) {
 }
 
 static void rule_of_change(const uint32_t *args, int64_t result) {
-    MUST(result < 0 || (args[0] != 0 ? has_range(args[0], 1) : has_opened(args[1])));
+    MUST(result < 0 || (args[0] != 0 ? has_range(args[0], 1) : has_beneath(args[1])));
     see_change(result);
 }
 
@@ -244,6 +280,23 @@ static void rule_of_random(const uint32_t *args, int64_t result) {
     MUST(has_range(args[0], args[1]) ? result <= (int64_t)args[1] && (result > 0 || args[1] == 0) : result == -EFAULT);
 }
 
+static void make_pipe(uint32_t first, uint32_t second) {
+    give_number(first, new_opened(NC_OPEN_READ));
+    give_number(second, new_opened(NC_OPEN_WRITE));
+    file_of(first)->is_pipe = file_of(second)->is_pipe = 1;
+    file_of(first)->other = files[second];
+    file_of(second)->other = files[first];
+}
+
+static void rule_of_pipe(const uint32_t *args, int64_t result) {
+    uint32_t first = least_free(0), second = least_free(first + 1), told[2];
+    MUST(result == (!has_range(args[0], sizeof told) ? -EFAULT : second >= RULES_FILES ? -EMFILE : 0));
+    if (result == 0) {
+        MUST(ncs_get(judged_box, told, (NcsAt){args[0]}, sizeof told) && told[0] == first && told[1] == second);
+        make_pipe(first, second);
+    }
+}
+
 /* By the numbers of the calls. Those for code have none. */
 #define RULE(number, name, words) [number] = rule_of_##name,
 static void (*const RULES[])(const uint32_t *, int64_t) = {NC_RUN_CALLS(RULE)};
@@ -253,13 +306,21 @@ static void (*const RULES[])(const uint32_t *, int64_t) = {NC_RUN_CALLS(RULE)};
 #define NUMBER_OF(number, name, words) NUMBER_##name = number,
 enum { NC_RUN_CALLS(NUMBER_OF) };
 
+/* Which arguments have the address and the length, or which length is fixed. The other calls have them as `read` does. */
+static const struct {
+    uint8_t at, len, fixed;
+} FILLS[] = {
+    [NUMBER_status] = {3, 0, sizeof(struct nc_status)},
+    [NUMBER_random] = {0, 1, 0},
+    [NUMBER_pipe] = {0, 0, 8},
+    [NC_RUN_CODE] = {1, 0, sizeof(NcsHole)},
+    [NC_RUN_END] = {0, 0, 0},
+};
+
 static uint32_t range_of(size_t call, const uint32_t *args, uint64_t *end) {
-    uint32_t at = call == NUMBER_status ? args[3] : call == NUMBER_random ? args[0] : args[1];
-    uint64_t len = call == NUMBER_status ? sizeof(struct nc_status)
-                 : call == NUMBER_random ? args[1]
-                 : call == NC_RUN_CODE   ? sizeof(NcsHole)
-                                         : args[2];
-    *end = at + len;
+    int is_other = FILLS[call].len == 0 && FILLS[call].fixed == 0;
+    uint32_t at = args[is_other ? 1 : FILLS[call].at];
+    *end = (uint64_t)at + (is_other ? args[2] : FILLS[call].fixed != 0 ? FILLS[call].fixed : args[FILLS[call].len]);
     return at;
 }
 

@@ -153,6 +153,10 @@ int clock_nanosleep(clockid_t clock, int flags, const struct timespec *wanted, s
     return FAILS("clock_nanosleep") ? EPERM : raw(SYS_clock_nanosleep, clock, flags, (long)wanted, (long)left) != 0 ? errno : 0;
 }
 
+int pipe2(int files[2], int flags) {
+    return FAILS("pipe2") ? -1 : (int)raw(SYS_pipe2, (long)files, flags, 0, 0);
+}
+
 off_t lseek(int file, off_t place, int from) {
     return FAILS("lseek") ? -1 : raw(SYS_lseek, file, place, from, 0);
 }

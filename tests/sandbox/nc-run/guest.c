@@ -88,6 +88,8 @@ static int hostile(void) {
     line(1, "read of file 64", nc_read(64, bytes, 1));
     line(1, "write of file 3", nc_write(3, bytes, 1));
     line(1, "write of file 2^31 - 1", nc_write(2147483647, bytes, 1));
+    line(1, "pipe to 0", nc_pipe((int *)0));
+    line(1, "pipe across the end", nc_pipe((int *)(end - 7)));
     line(1, "close of file 3", nc_close(3));
     line(1, "close of file -1", nc_close(-1));
     line(1, "lseek of file -1", nc_lseek(-1, 0, 0));
@@ -230,6 +232,20 @@ static int all(const char *path) {
     return 0;
 }
 
+/* Makes as many pipes as it can, with bytes in each, and gives the number that is left. */
+static int all_pipes(void) {
+    int ends[2], pipes = 0, put, error;
+    for (; (error = nc_pipe(ends)) == 0; pipes++)
+        while ((put = nc_write(ends[1], many, sizeof many)) > 0) {}
+    line(1, "pipes", pipes);
+    line(1, "pipe", error);
+    line(1, "write", put);
+    line(1, "last", ends[1]);
+    line(1, "left", nc_copy(0, 3, 0));
+    line(1, "more than a page", nc_read(ends[0], many, sizeof many) >= 4096);
+    return 0;
+}
+
 /* ---- A list of calls: words of the command line, with a comma between two calls. Each prints its name and its result */
 
 static u32 octal_of(const char *text) {
@@ -253,6 +269,18 @@ static int do_status(const char *path, int how) {
     put(1, "\n");
     if ((about.mode & 0170000) == 0100000) line(1, "size", (long long)about.size);
     return 0;
+}
+static int do_status_open(int file) {
+    struct nc_status about;
+    int error = nc_status(0, file, 0, &about);
+    if (error == 0) put_octal(about.mode), line(1, ", how", about.how);
+    if (error == 0 && about.device == 0) line(1, "number", (long long)about.inode);
+    return error;
+}
+static int do_pipe(void) {
+    int ends[2], error = nc_pipe(ends);
+    if (error == 0) line(1, "to read", ends[0]), line(1, "to write", ends[1]);
+    return error;
 }
 static int do_same(const char *path, int file) {
     struct nc_status one, other;
@@ -291,6 +319,9 @@ static int do_read(int file) {
 static long long do_call(const char *name, const char *a, const char *b, const char *c) {
     int n = number_of(a);
     if (same(name, "status")) return do_status(a, number_of(b));
+    if (same(name, "status-open")) return do_status_open(n);
+    if (same(name, "size")) return nc_size(n);
+    if (same(name, "pipe")) return do_pipe();
     if (same(name, "same")) return do_same(a, number_of(b));
     if (same(name, "list")) return do_list(a);
     if (same(name, "names")) return nc_list(n, bytes, 100);
@@ -447,6 +478,7 @@ int start(int argc, char **argv) {
     if (same(what, "fill")) return fill(path);
     if (same(what, "comb")) return comb(path, how);
     if (same(what, "all")) return all(path);
+    if (same(what, "pipes")) return all_pipes();
     if (same(what, "clock")) return line(1, "clock", nc_clock(NC_CLOCK_REAL)), 0;
     if (same(what, "size")) return line(1, "size", nc_size(number_of(path))), 0;
     if (same(what, "put")) return line(2, "write", nc_write(number_of(path), "x", 1)), 0;
