@@ -67,3 +67,4 @@ PROVIDE(nc_terminal = 0x000003e0);
 PROVIDE(nc_sleep = 0x00000400);
 PROVIDE(nc_random = 0x00000420);
 PROVIDE(nc_pipe = 0x00000440);
+PROVIDE(nc_flush = 0x00000460);

@@ -58,6 +58,7 @@
  *    24  00000400  sleep(low, high)        0                        EINVAL
  *    25  00000420  random(to, len)         bytes                    EFAULT
  *    26  00000440  pipe(to)                0                        EFAULT, EMFILE
+ *    27  00000460  flush(file)             0                        EBADF, EINVAL
  *
  * Those of paths are EACCES, ENOENT, ENOTDIR, ELOOP, ENAMETOOLONG and EROFS.
  */
@@ -88,13 +89,14 @@
     CALL(23, terminal, 1) \
     CALL(24, sleep, 2) \
     CALL(25, random, 2) \
-    CALL(26, pipe, 1)
+    CALL(26, pipe, 1) \
+    CALL(27, flush, 1)
 
 /* The numbers of the first of the four calls for code, which any host can give to a box (ncs_code_calls), of the one behind them, and of the
    one behind all calls. */
 #define NC_RUN_CODE 8
 #define NC_RUN_CODE_END 12
-#define NC_RUN_END 27
+#define NC_RUN_END 28
 
 /* The clocks of nc_clock, which counts nanoseconds. */
 #define NC_CLOCK_REAL 0      /* since 1970 */
@@ -213,6 +215,10 @@ int nc_random(void *to, unsigned len);
 /* Makes a pipe within the program, of at least 4096 bytes, and sets `to` to the numbers of its ends, which are the least that are free. The
    first is only read, the second only written. They have no place. What is written to a pipe doesn't count for nc-run --write. */
 int nc_pipe(int to[2]);
+
+/* Waits until what was written to a file or a folder is stored, as far as the system knows. EINVAL for a standard file or a pipe. Where the
+   program only reads, there is nothing of its own to store. */
+int nc_flush(int file);
 
 /* A part of the area in which the program may make code. */
 struct nc_hole {

@@ -1,4 +1,4 @@
-/* What a program gets to know of files, and changes of them: status, links, length, rights and times. TRUSTED, NOT PROVED. */
+/* What a program gets to know of files, and changes of them: status, links, length, storing, rights and times. TRUSTED, NOT PROVED. */
 #define _GNU_SOURCE
 #include "run.h"
 
@@ -140,6 +140,19 @@ int about_cut(Files *files, uint32_t file, uint64_t len) {
     files->left -= more;
     open->moved = 1;
     return 0;
+}
+
+/* Where the program only reads, it can't make the system store what others have written. */
+int about_flush(Files *files, uint32_t file) {
+    const Open *open = files_of(files, file);
+    int error;
+    if (open == NULL || !files_is_beneath(open)) {
+        return open == NULL ? -EBADF : -EINVAL;
+    }
+    do {
+        error = open->writable && fsync(open->host) != 0 ? errno : 0;
+    } while (error == EINTR);
+    return -error;
 }
 
 /* Opens a regular file or a folder that may be changed. */

@@ -182,7 +182,7 @@ static const char *prepare(Run *run) {
 static const int CALLS[] = {
     SYS_pipe2,
     SYS_getdents64, SYS_readlinkat,
-    SYS_mkdirat, SYS_unlinkat, SYS_renameat, SYS_ftruncate, SYS_fchmod,
+    SYS_mkdirat, SYS_unlinkat, SYS_renameat, SYS_ftruncate, SYS_fchmod, SYS_fsync,
 };
 /* clang-format on */
 #define CALLS_ALWAYS 1u

@@ -183,6 +183,9 @@ int about_link(const Files *files, const char *path, char to[PATH_MAX]);
 /* As ftruncate. */
 int about_cut(Files *files, uint32_t file, uint64_t len);
 
+/* As fsync. */
+int about_flush(Files *files, uint32_t file);
+
 /* Changes rights and times; `times` has two, or is NULL. */
 int about_change(Files *files, const char *path, uint32_t file, uint32_t mode, const int64_t *times);
 

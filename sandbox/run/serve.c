@@ -113,6 +113,11 @@ uint64_t call_cut(NcsBox *box, void *user, const uint32_t *args) {
     return result_of(about_cut(&((Run *)user)->files, args[0], (uint64_t)args[2] << 32 | args[1]));
 }
 
+uint64_t call_flush(NcsBox *box, void *user, const uint32_t *args) {
+    (void)box;
+    return result_of(about_flush(&((Run *)user)->files, args[0]));
+}
+
 /* The kernel writes what nc_list is to give, in the same form. */
 uint64_t call_list(NcsBox *box, void *user, const uint32_t *args) {
     const Open *file = files_of(&((Run *)user)->files, args[0]);

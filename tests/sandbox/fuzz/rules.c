@@ -280,6 +280,10 @@ static void rule_of_random(const uint32_t *args, int64_t result) {
     MUST(has_range(args[0], args[1]) ? result <= (int64_t)args[1] && (result > 0 || args[1] == 0) : result == -EFAULT);
 }
 
+static void rule_of_flush(const uint32_t *args, int64_t result) {
+    MUST(result == (!has_file(args[0]) ? -EBADF : has_beneath(args[0]) ? 0 : -EINVAL));
+}
+
 static void make_pipe(uint32_t first, uint32_t second) {
     give_number(first, new_opened(NC_OPEN_READ));
     give_number(second, new_opened(NC_OPEN_WRITE));

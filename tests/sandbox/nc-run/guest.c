@@ -321,6 +321,7 @@ static long long do_call(const char *name, const char *a, const char *b, const c
     if (same(name, "status")) return do_status(a, number_of(b));
     if (same(name, "status-open")) return do_status_open(n);
     if (same(name, "size")) return nc_size(n);
+    if (same(name, "flush")) return nc_flush(n);
     if (same(name, "pipe")) return do_pipe();
     if (same(name, "same")) return do_same(a, number_of(b));
     if (same(name, "list")) return do_list(a);
