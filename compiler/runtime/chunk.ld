@@ -68,3 +68,4 @@ PROVIDE(nc_sleep = 0x00000400);
 PROVIDE(nc_random = 0x00000420);
 PROVIDE(nc_pipe = 0x00000440);
 PROVIDE(nc_flush = 0x00000460);
+PROVIDE(nc_poll = 0x00000480);

@@ -59,6 +59,8 @@
  *    25  00000420  random(to, len)         bytes                    EFAULT
  *    26  00000440  pipe(to)                0                        EFAULT, EMFILE
  *    27  00000460  flush(file)             0                        EBADF, EINVAL
+ *    28  00000480  poll(files, count, low, number                   EFAULT, EINVAL, EDEADLK
+ *                  high)
  *
  * Those of paths are EACCES, ENOENT, ENOTDIR, ELOOP, ENAMETOOLONG and EROFS.
  */
@@ -90,13 +92,14 @@
     CALL(24, sleep, 2) \
     CALL(25, random, 2) \
     CALL(26, pipe, 1) \
-    CALL(27, flush, 1)
+    CALL(27, flush, 1) \
+    CALL(28, poll, 4)
 
 /* The numbers of the first of the four calls for code, which any host can give to a box (ncs_code_calls), of the one behind them, and of the
    one behind all calls. */
 #define NC_RUN_CODE 8
 #define NC_RUN_CODE_END 12
-#define NC_RUN_END 28
+#define NC_RUN_END 29
 
 /* The clocks of nc_clock, which counts nanoseconds. */
 #define NC_CLOCK_REAL 0      /* since 1970 */
@@ -219,6 +222,22 @@ int nc_pipe(int to[2]);
 /* Waits until what was written to a file or a folder is stored, as far as the system knows. EINVAL for a standard file or a pipe. Where the
    program only reads, there is nothing of its own to store. */
 int nc_flush(int file);
+
+/* A file that is waited for. Negative numbers stand for none. */
+struct nc_ready {
+    int file;
+    short wanted, ready; /* any of the numbers below, which are those of Linux's poll, or others of these */
+};
+#define NC_READY_READ 1
+#define NC_READY_WRITE 4
+#define NC_READY_ERROR 8   /* also if it isn't wanted, as the next two: nobody reads what is written, or something else is wrong */
+#define NC_READY_ENDED 16  /* nobody writes any more */
+#define NC_READY_CLOSED 32 /* the program has no such file */
+
+/* Waits until one of at most 64 files is ready, but no longer than so many nanoseconds, or without end if that is negative. Sets `ready` of
+   each, and returns how many are ready in some way. What lies below a folder always is. EINVAL for more files. EDEADLK for a wait without
+   end that only the program itself could end, since it is for no standard file. */
+int nc_poll(struct nc_ready *files, unsigned count, long long nanoseconds);
 
 /* A part of the area in which the program may make code. */
 struct nc_hole {

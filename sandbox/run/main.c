@@ -180,13 +180,13 @@ static const char *prepare(Run *run) {
 /* What the calls of nc_run.h need of the system besides: always, for folders that are only read, and for others. */
 /* clang-format off */
 static const int CALLS[] = {
-    SYS_pipe2,
+    SYS_pipe2, SYS_ppoll,
     SYS_getdents64, SYS_readlinkat,
     SYS_mkdirat, SYS_unlinkat, SYS_renameat, SYS_ftruncate, SYS_fchmod, SYS_fsync,
 };
 /* clang-format on */
-#define CALLS_ALWAYS 1u
-#define CALLS_TO_READ 3u
+#define CALLS_ALWAYS 2u
+#define CALLS_TO_READ 4u
 #define CALLS_TO_CHANGE (sizeof CALLS / sizeof *CALLS)
 
 static int build_wall(const Run *run, NcsRefusal *why) {

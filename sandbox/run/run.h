@@ -225,7 +225,7 @@ typedef struct Run {
     int lacks_folder, lacks_right;    /* whether a call failed that --dir, or --dir-rw, would have let succeed */
 } Run;
 
-/* ---- things.c and serve.c: what a program calls */
+/* ---- things.c, ready.c and serve.c: what a program calls */
 
 /* Sees which of the standard files are terminals. */
 void things_begin(Run *run);

@@ -10,6 +10,7 @@
 typedef uint64_t Serve(NcsBox *box, void *user, const uint32_t *args);
 Serve call_read, call_write, call_close, call_lseek, call_size, call_list, call_cut, call_flush, call_copy, call_pipe; /* serve.c */
 Serve call_open, call_status, call_link, call_enter, call_where, call_make, call_remove, call_rename, call_change;     /* serve_names.c */
+Serve call_poll;                                                                                                       /* ready.c */
 Serve call_clock, call_memory, call_sleep, call_random, call_terminal;                                                 /* things.c */
 
 /* What a call returns, of a number or an error. */

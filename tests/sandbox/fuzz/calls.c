@@ -27,6 +27,7 @@
 #define STANDARD 3
 #define CLOSE 5           /* the number of the call nc_close */
 #define SLEEP 24          /* and of nc_sleep */
+#define POLL 28           /* and of nc_poll */
 #define WAIT_MOST 0xFFFFu /* nanoseconds */
 /* What an input's byte says: the calls before those for code, those behind them, a path, or something else. */
 enum {
@@ -185,6 +186,10 @@ static void read_call(Trial *t, Input *input) {
     if (call->at == NCS_CALLBACK(SLEEP)) {
         call->args[0] &= WAIT_MOST;
         call->args[1] &= 1u << 31;
+    }
+    if (call->at == NCS_CALLBACK(POLL)) {
+        call->args[2] &= WAIT_MOST;
+        call->args[3] = 0;
     }
     t->count++;
 }

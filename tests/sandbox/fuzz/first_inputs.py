@@ -98,7 +98,7 @@ def files(folder):
 
 READ, WRITE, CLOCK, MEMORY, OPEN, CLOSE, SEEK, SIZE, EXIT, LAY = range(10)
 STATUS, LIST, LINK, ENTER, WHERE, MAKE, REMOVE, RENAME, CUT, CHANGE, COPY, TERMINAL, SLEEP, RANDOM = range(LAY + 4, LAY + 18)
-PIPE, FLUSH, ANYWHERE = range(LAY + 18, LAY + 21)
+PIPE, FLUSH, POLL, ANYWHERE = range(LAY + 18, LAY + 22)
 NAMES = ["file", "sub", "inner", "made", "..", ".", "", "up", "out", "above", "beyond", "loop", "self", "root", "pipe", "secret", "dir",
          "d", "fd", "mem", "cwd"]
 PARTS = {name: number for number, name in enumerate(NAMES)}
@@ -211,6 +211,11 @@ CALLS = {
                    a_call(READ, 3, buffer(0), MANY), a_call(WRITE, 4, buffer(0), 5), a_call(WRITE, 4, buffer(0), MANY)],
     "many pipes": [WRITABLE, a_call(PIPE, buffer(0)) * 32, a_call(CLOSE, 9), a_call(PIPE, buffer(0)),
                    *[a_call(PIPE, at) for at in (0, LOW, FIRST, LAST_BYTE, END, ALL)]],
+    "waits": [WRITABLE, a_path(0, "file"), an_open(0, "read"), a_call(PIPE, buffer(0)), a_call(POLL, buffer(0), 1),
+              a_call(WRITE, 5, buffer(0), 4), a_call(POLL, buffer(0), 3), a_call(READ, 4, buffer(0), 8), a_call(POLL, buffer(0), 9),
+              a_call(CLOSE, 4), a_call(POLL, buffer(0), 9), a_call(READ, 3, buffer(1), 4), a_call(POLL, buffer(0), edge(5)),
+              a_call(RANDOM, buffer(0), 24), a_call(POLL, buffer(0), 3),
+              *[a_call(POLL, at, count) for at in (0, LOW, FIRST, LAST_BYTE, END, ALL) for count in (0, 1, edge(5), 10, ALL)]],
     "flushes": [WRITABLE, a_path(0, "made"), an_open(0, "both create"), a_call(PIPE, buffer(0)),
                 *[a_call(FLUSH, number) for number in (0, 2, 3, 4, 5, 6, edge(5), ALL)]],
     "things": [WRITABLE, *[a_call(TERMINAL, number) for number in (0, 1, 2, 3, ALL)], a_call(SLEEP, 9), a_call(SLEEP, 0, ALL),

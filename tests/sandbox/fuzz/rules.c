@@ -301,6 +301,47 @@ static void rule_of_pipe(const uint32_t *args, int64_t result) {
     }
 }
 
+static int has_bits(const struct nc_ready *one, int bits) {
+    return (one->ready & bits) == bits;
+}
+
+static int is_wanted(const struct nc_ready *one, int bits) {
+    return (one->wanted & bits) == bits;
+}
+
+/* Whether a file is ready as it has to be. Of the standard ones the system decides. */
+static int is_ready_so(const struct nc_ready *one) {
+    uint32_t number = (uint32_t)one->file;
+    const Opened *file = has_opened(number) ? file_of(number) : NULL;
+    if (one->file < 0 || !has_file(number)) {
+        return one->ready == (one->file < 0 ? 0 : NC_READY_CLOSED);
+    }
+    if (file == NULL) {
+        return (one->ready & (files[number] == 0 ? NC_READY_WRITE : NC_READY_READ)) == 0;
+    }
+    if (!file->is_pipe) {
+        return (one->ready & ~one->wanted) == 0 && has_bits(one, one->wanted & (NC_READY_READ | NC_READY_WRITE));
+    }
+    return file->how == NC_OPEN_READ ? has_bits(one, NC_READY_ENDED) == (file->other == NONE) &&
+                                           has_bits(one, NC_READY_READ) == (file->held != 0 && is_wanted(one, NC_READY_READ))
+                                     : has_bits(one, NC_READY_ERROR) == (file->other == NONE);
+}
+
+static void rule_of_poll(const uint32_t *args, int64_t result) {
+    struct nc_ready all[RULES_FILES];
+    uint32_t size = args[1] * (uint32_t)sizeof *all, k, ready = 0;
+    if (args[1] > RULES_FILES || !has_range(args[0], size)) {
+        MUST(result == (args[1] > RULES_FILES ? -EINVAL : -EFAULT));
+        return;
+    }
+    MUST(size == 0 || ncs_get(judged_box, all, (NcsAt){args[0]}, size));
+    for (k = 0; k < args[1]; k++) {
+        MUST(is_ready_so(&all[k]));
+        ready += all[k].ready != 0;
+    }
+    MUST(result == (int64_t)ready);
+}
+
 /* By the numbers of the calls. Those for code have none. */
 #define RULE(number, name, words) [number] = rule_of_##name,
 static void (*const RULES[])(const uint32_t *, int64_t) = {NC_RUN_CALLS(RULE)};
@@ -310,22 +351,25 @@ static void (*const RULES[])(const uint32_t *, int64_t) = {NC_RUN_CALLS(RULE)};
 #define NUMBER_OF(number, name, words) NUMBER_##name = number,
 enum { NC_RUN_CALLS(NUMBER_OF) };
 
-/* Which arguments have the address and the length, or which length is fixed. The other calls have them as `read` does. */
+/* Which arguments have the address and the number of units, or ONE, and the bytes of a unit. The other calls are as `read`. */
+#define ONE 0xFF
 static const struct {
-    uint8_t at, len, fixed;
+    uint8_t at, count, unit;
 } FILLS[] = {
-    [NUMBER_status] = {3, 0, sizeof(struct nc_status)},
-    [NUMBER_random] = {0, 1, 0},
-    [NUMBER_pipe] = {0, 0, 8},
-    [NC_RUN_CODE] = {1, 0, sizeof(NcsHole)},
+    [NUMBER_read] = {1, 2, 1},
+    [NC_RUN_CODE] = {1, ONE, sizeof(NcsHole)},
+    [NUMBER_status] = {3, ONE, sizeof(struct nc_status)},
+    [NUMBER_random] = {0, 1, 1},
+    [NUMBER_pipe] = {0, ONE, 8},
+    [NUMBER_poll] = {0, 1, sizeof(struct nc_ready)},
     [NC_RUN_END] = {0, 0, 0},
 };
 
 static uint32_t range_of(size_t call, const uint32_t *args, uint64_t *end) {
-    int is_other = FILLS[call].len == 0 && FILLS[call].fixed == 0;
-    uint32_t at = args[is_other ? 1 : FILLS[call].at];
-    *end = (uint64_t)at + (is_other ? args[2] : FILLS[call].fixed != 0 ? FILLS[call].fixed : args[FILLS[call].len]);
-    return at;
+    size_t k = FILLS[call].unit != 0 ? call : NUMBER_read;
+    uint64_t count = FILLS[k].count != ONE ? args[FILLS[k].count] : 1;
+    *end = args[FILLS[k].at] + count * FILLS[k].unit;
+    return args[FILLS[k].at];
 }
 
 /* The bytes on one side of a range, as far as they are the box's. */

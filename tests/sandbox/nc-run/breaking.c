@@ -5,7 +5,7 @@
               result as a time of so many nanoseconds, unless that is the number of a file
    LACKING    the number of a system call that `syscall` finds missing
    REFUSED    the name of a function that fails with EPERM: one of those at the end of this file
-   SIGNAL     the name of one of them that fails with EINTR the first time
+   SIGNAL     `fsync` or `ppoll`, which fails with EINTR the first time
    NO_PROC    set: /proc isn't there
    SWAPPED    a name in the folder `dir`, to which `dir/pipe` is renamed once the program has asked for the first time what is there */
 #define _GNU_SOURCE
@@ -87,6 +87,12 @@ static int asks(long number, const long *words) {
     return number == SYS_openat2 && (how->flags & O_PATH) != 0 && is_set("SWAPPED", (const char *)words[1]);
 }
 
+/* Whether a function is interrupted this time. */
+static int interrupted(const char *name) {
+    static int times;
+    return is_set("SIGNAL", name) && times++ == 0 ? (errno = EINTR, 1) : 0;
+}
+
 long syscall(long number, ...) {
     static int swapped;
     const char *lacking = getenv("LACKING");
@@ -101,6 +107,9 @@ long syscall(long number, ...) {
     va_end(more);
     if (lacking != NULL && number == atol(lacking)) {
         errno = ENOSYS;
+        return -1;
+    }
+    if (number == SYS_ppoll && interrupted("ppoll")) {
         return -1;
     }
     result = raw(number, words[0], words[1], words[2], words[3]);
@@ -152,12 +161,6 @@ ssize_t getrandom(void *to, size_t len, unsigned flags) {
 
 int clock_nanosleep(clockid_t clock, int flags, const struct timespec *wanted, struct timespec *left) {
     return FAILS("clock_nanosleep") ? EPERM : raw(SYS_clock_nanosleep, clock, flags, (long)wanted, (long)left) != 0 ? errno : 0;
-}
-
-/* Whether a function is interrupted this time. */
-static int interrupted(const char *name) {
-    static int times;
-    return is_set("SIGNAL", name) && times++ == 0 ? (errno = EINTR, 1) : 0;
 }
 
 int fsync(int file) {

@@ -19,7 +19,7 @@
 	xorl	%esp, %esp
 	pushl	%eax
 	AT(no_call) /* 000100e0 */
-	jmp	0x480
+	jmp	0x4a0
 	AT(zone) /* 00010100 */
 	jmp	0x1000
 	AT(leap) /* 00010120 */

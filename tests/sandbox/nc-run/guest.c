@@ -1,43 +1,9 @@
 /* A program for nc-run, without a C library: its first word says what it does. */
-#include <nc_run.h>
+#include "guest.h"
 
-typedef unsigned u32;
 extern char _end[];
 static char bytes[1 << 16];
 static char many[1 << 20]; /* more than a pipe holds */
-
-static u32 length(const char *text) {
-    u32 len = 0;
-    while (text[len] != 0) len++;
-    return len;
-}
-static int same(const char *a, const char *b) {
-    while (*a != 0 && *a == *b) a++, b++;
-    return *a == *b;
-}
-static void put(int file, const char *text) {
-    nc_write(file, text, length(text));
-}
-static void put_number(int file, long long number) {
-    char digits[24], *at = digits + sizeof digits;
-    unsigned left = (unsigned)(number < 0 ? -number : number); /* numbers here are small */
-    *--at = 0;
-    do *--at = (char)('0' + left % 10);
-    while ((left /= 10) != 0);
-    if (number < 0) *--at = '-';
-    put(file, at);
-}
-static void line(int file, const char *name, long long number) {
-    put(file, name);
-    put(file, ": ");
-    put_number(file, number);
-    put(file, "\n");
-}
-static int number_of(const char *text) {
-    int number = 0, negative = *text == '-';
-    for (text += negative; *text != 0; text++) number = 10 * number + *text - '0';
-    return negative ? -number : number;
-}
 
 static int words(int argc, char **argv) {
     line(1, "words", argc);
@@ -90,6 +56,11 @@ static int hostile(void) {
     line(1, "write of file 2^31 - 1", nc_write(2147483647, bytes, 1));
     line(1, "pipe to 0", nc_pipe((int *)0));
     line(1, "pipe across the end", nc_pipe((int *)(end - 7)));
+    line(1, "poll to 0", nc_poll((struct nc_ready *)0, 1, 0));
+    line(1, "poll across the end", nc_poll((struct nc_ready *)(end - 7), 1, 0));
+    line(1, "poll of 65 files", nc_poll((struct nc_ready *)bytes, 65, 0));
+    line(1, "poll of 2^29 + 1 files", nc_poll((struct nc_ready *)bytes, 0x20000001, 0));
+    line(1, "poll of nothing", nc_poll((struct nc_ready *)0, 0, 0));
     line(1, "close of file 3", nc_close(3));
     line(1, "close of file -1", nc_close(-1));
     line(1, "lseek of file -1", nc_lseek(-1, 0, 0));
@@ -234,7 +205,7 @@ static int all(const char *path) {
 
 /* Makes as many pipes as it can, with bytes in each, and gives the number that is left. */
 static int all_pipes(void) {
-    int ends[2], pipes = 0, put, error;
+    int ends[2], pipes = 0, put = 0, error;
     for (; (error = nc_pipe(ends)) == 0; pipes++)
         while ((put = nc_write(ends[1], many, sizeof many)) > 0) {}
     line(1, "pipes", pipes);
@@ -243,118 +214,6 @@ static int all_pipes(void) {
     line(1, "last", ends[1]);
     line(1, "left", nc_copy(0, 3, 0));
     line(1, "more than a page", nc_read(ends[0], many, sizeof many) >= 4096);
-    return 0;
-}
-
-/* ---- A list of calls: words of the command line, with a comma between two calls. Each prints its name and its result */
-
-static u32 octal_of(const char *text) {
-    u32 number = 0;
-    for (; *text != 0; text++) number = 8 * number + (u32)(*text - '0');
-    return number;
-}
-static void put_octal(u32 number) {
-    char digits[12], *at = digits + sizeof digits;
-    *--at = 0;
-    do *--at = (char)('0' + number % 8);
-    while ((number /= 8) != 0);
-    put(1, at);
-}
-static int do_status(const char *path, int how) {
-    struct nc_status about;
-    int error = nc_status(path, 0, how, &about);
-    if (error != 0) return error;
-    put(1, "mode: ");
-    put_octal(about.mode);
-    put(1, "\n");
-    if ((about.mode & 0170000) == 0100000) line(1, "size", (long long)about.size);
-    return 0;
-}
-static int do_status_open(int file) {
-    struct nc_status about;
-    int error = nc_status(0, file, 0, &about);
-    if (error == 0) put_octal(about.mode), line(1, ", how", about.how);
-    if (error == 0 && about.device == 0) line(1, "number", (long long)about.inode);
-    return error;
-}
-static int do_pipe(void) {
-    int ends[2], error = nc_pipe(ends);
-    if (error == 0) line(1, "to read", ends[0]), line(1, "to write", ends[1]);
-    return error;
-}
-static int do_same(const char *path, int file) {
-    struct nc_status one, other;
-    int error = nc_status(path, 0, 0, &one), again = nc_status(0, file, 0, &other);
-    return error != 0 ? error : again != 0 ? again : one.device == other.device && one.inode == other.inode;
-}
-static int do_list(const char *path) {
-    int file = nc_open(path, NC_OPEN_FOLDER, 0), got;
-    if (file < 0) return file;
-    while ((got = nc_list(file, bytes, 96)) > 0)
-        for (char *at = bytes; at < bytes + got; at += *(unsigned short *)(at + 16)) put(1, at + 19), put(1, "\n");
-    nc_close(file);
-    return got;
-}
-static int do_link(const char *path, int len) {
-    char to[100];
-    int got = nc_link(path, to, (u32)len);
-    if (got > 0) nc_write(1, to, (u32)got), put(1, "\n");
-    return got;
-}
-static int do_where(int file) {
-    char to[100];
-    int got = nc_where(file, to, sizeof to);
-    if (got > 0) put(1, to), put(1, "\n");
-    return got;
-}
-static int do_change(const char *path, const char *mode, int seconds) {
-    const long long times[] = {seconds * 1000000000ll + 7, NC_TIME_KEEP};
-    return nc_change(path, -1, *mode == '-' ? NC_MODE_KEEP : octal_of(mode), seconds != 0 ? times : 0);
-}
-static int do_read(int file) {
-    int got = nc_read(file, bytes, 100);
-    if (got > 0) nc_write(1, bytes, (u32)got), put(1, "\n");
-    return got;
-}
-static long long do_call(const char *name, const char *a, const char *b, const char *c) {
-    int n = number_of(a);
-    if (same(name, "status")) return do_status(a, number_of(b));
-    if (same(name, "status-open")) return do_status_open(n);
-    if (same(name, "size")) return nc_size(n);
-    if (same(name, "flush")) return nc_flush(n);
-    if (same(name, "pipe")) return do_pipe();
-    if (same(name, "same")) return do_same(a, number_of(b));
-    if (same(name, "list")) return do_list(a);
-    if (same(name, "names")) return nc_list(n, bytes, 100);
-    if (same(name, "link")) return do_link(a, number_of(b));
-    if (same(name, "enter")) return nc_enter(a);
-    if (same(name, "where")) return do_where(n);
-    if (same(name, "make")) return nc_make(a, octal_of(b));
-    if (same(name, "remove")) return nc_remove(a, number_of(b));
-    if (same(name, "rename")) return nc_rename(a, b);
-    if (same(name, "open")) return nc_open(a, number_of(b), octal_of(c));
-    if (same(name, "close")) return nc_close(n);
-    if (same(name, "read")) return do_read(n);
-    if (same(name, "write")) return nc_write(n, b, length(b));
-    if (same(name, "lseek")) return nc_lseek(n, number_of(b), 0);
-    if (same(name, "cut")) return nc_cut(n, number_of(b));
-    if (same(name, "change")) return do_change(a, b, number_of(c));
-    if (same(name, "change-open")) return nc_change(0, n, octal_of(b), 0);
-    if (same(name, "copy")) return nc_copy(n, number_of(b), number_of(c));
-    if (same(name, "terminal")) return nc_terminal(n);
-    if (same(name, "exit")) nc_exit(n);
-    if (same(name, "random")) return nc_random(bytes, 1);
-    if (same(name, "rows")) return nc_terminal(n) >> 32;
-    return -999;
-}
-static int do_calls(char **words) {
-    while (*words != 0) {
-        const char *name = *words, *given[3] = {"", "", ""};
-        for (int k = -1; *words != 0 && !same(*words, ","); words++, k++)
-            if (k >= 0 && k < 3) given[k] = *words;
-        words += *words != 0;
-        line(1, name, do_call(name, given[0], given[1], given[2]));
-    }
     return 0;
 }
 
@@ -367,7 +226,8 @@ static int environment(char **words) {
 static int waits(void) {
     long long steady = nc_clock(NC_CLOCK_STEADY), used = nc_clock(NC_CLOCK_PROCESSOR);
     line(1, "sleep", nc_sleep(50000000));
-    line(1, "waited", nc_clock(NC_CLOCK_STEADY) - steady >= 50000000);
+    line(1, "poll", nc_poll(0, 0, 50000000));
+    line(1, "waited", nc_clock(NC_CLOCK_STEADY) - steady >= 100000000);
     line(1, "used little", nc_clock(NC_CLOCK_PROCESSOR) - used < 25000000);
     return 0;
 }
@@ -399,11 +259,13 @@ static u32 any(u32 *state) {
     if (way == 4) return (u32)paths[k % (sizeof paths / sizeof *paths)];
     return way == 5 ? (u32)bytes + k % sizeof bytes : way == 6 ? k % 70 : k;
 }
-/* Any calls with any arguments, but for one that would wait. */
+/* Any calls with any arguments, but for two that would wait, and one only for some time. */
 static int random_calls(u32 state) {
     for (u32 k = 0; k < 200000; k++) {
         u32 call = next_random(&state) % NC_RUN_END, a = any(&state), b = any(&state), c = any(&state), d = any(&state);
-        if (call != 24) ((u32(*)(u32, u32, u32, u32))(0x100 + 32 * call))(a, b, c, d);
+        if (call == 24 || call == 27) continue;
+        if (call == 28) c &= 0xFFFF, d = 0;
+        ((u32(*)(u32, u32, u32, u32))(0x100 + 32 * call))(a, b, c, d);
     }
     return 9;
 }
