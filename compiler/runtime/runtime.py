@@ -11,8 +11,8 @@ import tempfile
 
 from making import HERE, Fault, build_objects, compile_code, compile_inner, extract, found, join, write_headers
 
-PARTS = ("run/start.c", "run/calls.c", "run/names.c", "run/signals.c", "run/times.c", "run/heap.c", "run/maps.c", "run/sigsetjmp.s",
-         "run/threads.c")
+PARTS = ("run/start.c", "run/calls.c", "run/names.c", "run/signals.c", "run/times.c", "run/pipes.c", "run/polls.c", "run/heap.c",
+         "run/maps.c", "run/sigsetjmp.s", "run/threads.c")
 PARTS_CXX = ("run/templates.cc",)  # without libstdc++
 # Of musl's own heap, what a heap of another kind needs too.
 KEPT = {"memalign.o", "posix_memalign.o", "reallocarray.o"}

@@ -20,7 +20,15 @@ static long transfer(int call(int, const struct iovec *), int file, const struct
 
 static int read_part(int file, const struct iovec *part) { return nc_read(file, part->iov_base, part->iov_len); }
 
-static int write_part(int file, const struct iovec *part) { return nc_write(file, part->iov_base, part->iov_len); }
+static int write_part(int file, const struct iovec *part) {
+    int done = nc_write(file, part->iov_base, part->iov_len);
+    return done == -EDEADLK || (done >= 0 && (unsigned)done < part->iov_len) ? (int)part_done(file, done) : done;
+}
+
+static long read_all(int file, const struct iovec *parts, long count) {
+    long done = transfer(read_part, file, parts, count);
+    return done == -EDEADLK ? part_done(file, done) : done;
+}
 
 static long long wide(long low, long high) { return (long long)high << 32 | (unsigned long)low; }
 
@@ -40,18 +48,24 @@ static long transfer_at(int call(int, const struct iovec *), int file, const str
     return done;
 }
 
-/* Flags that are set when a file is opened stay as they are. No file stays open in another program. */
+/* Flags that are set when a file is opened stay as they are, but for that of a pipe. */
+static long set_flags(int file, unsigned how, long flags) {
+    if (how & NC_OPEN_NO_WAIT) return set_pipe_wait(file, !(flags & O_NONBLOCK));
+    return (flags & (O_APPEND | O_NONBLOCK)) == (how & O_APPEND) ? 0 : -EINVAL;
+}
+
+/* No file stays open in another program. */
 static long control(int file, int what, long value) {
     struct nc_status about;
     long error = nc_status(0, file, 0, &about);
     if (error < 0) return error;
     switch (what) {
     case F_DUPFD:
-    case F_DUPFD_CLOEXEC: return nc_copy(file, (int)value, 0);
+    case F_DUPFD_CLOEXEC: return copy_number(file, (int)value, 0);
     case F_GETFD:
     case F_SETFD: return 0;
-    case F_GETFL: return about.how & (O_ACCMODE | O_APPEND);
-    case F_SETFL: return (value & (O_APPEND | O_NONBLOCK)) == (about.how & O_APPEND) ? 0 : -EINVAL;
+    case F_GETFL: return about.how & (O_ACCMODE | O_APPEND | (waits_as_pipe(file) ? 0 : O_NONBLOCK));
+    case F_SETFL: return set_flags(file, about.how, value);
     default: return -ENOSYS;
     }
 }
@@ -66,19 +80,23 @@ static long tell_terminal(int file, unsigned long what, struct winsize *to) {
 static long call_of_files(long number, long a, long b, long c, long d, long e) {
     struct iovec part = {(void *)b, (size_t)c};
     switch (number) {
-    case SYS_read: return read_part((int)a, &part);
+    case SYS_read: return read_all((int)a, &part, 1);
     case SYS_write: return write_part((int)a, &part);
     case SYS_pread64: return transfer_at(read_part, (int)a, &part, wide(d, e));
     case SYS_pwrite64: return transfer_at(write_part, (int)a, &part, wide(d, e));
-    case SYS_readv: return transfer(read_part, (int)a, (const struct iovec *)b, c);
+    case SYS_readv: return read_all((int)a, (const struct iovec *)b, c);
     case SYS_writev: return transfer(write_part, (int)a, (const struct iovec *)b, c);
     case SYS_close: return nc_close((int)a);
     case SYS__llseek: return seek((int)a, b, c, (long long *)d, (int)e);
     case SYS_ftruncate64: return nc_cut((int)a, wide(b, c));
     case SYS_getdents64: return nc_list((int)a, (void *)b, (unsigned)c);
-    case SYS_dup: return nc_copy((int)a, 0, 0);
+    case SYS_dup: return copy_number((int)a, 0, 0);
     case SYS_dup2:
-    case SYS_dup3: return nc_copy((int)a, (int)b, 1);
+    case SYS_dup3: return copy_number((int)a, (int)b, 1);
+    case SYS_pipe: return make_pipe((int *)a, 0);
+    case SYS_pipe2: return make_pipe((int *)a, (int)b);
+    case SYS_fsync:
+    case SYS_fdatasync: return nc_flush((int)a);
     case SYS_fcntl64: return control((int)a, (int)b, c);
     case SYS_ioctl: return tell_terminal((int)a, (unsigned long)b, (struct winsize *)c);
     default: return -ENOSYS;
@@ -108,5 +126,6 @@ long host_syscall(long number, long a, long b, long c, long d, long e, long f) {
     if (result == -ENOSYS) result = call_of_signals(number, a, b, c);
     if (result == -ENOSYS) result = call_of_names(number, a, b, c, d, e);
     if (result == -ENOSYS) result = call_of_maps(number, a, b, c, d, e, f);
-    return result == -ENOSYS ? call_of_times(number, a, b, c, d, e) : result;
+    if (result == -ENOSYS) result = call_of_polls(number, a, b, c, d, e, f);
+    return result == -ENOSYS ? call_of_times(number, a, b, c, d) : result;
 }

@@ -11,6 +11,7 @@ typedef unsigned long long Set;
 
 static struct k_sigaction actions[SIGNALS];
 static Set blocked, waiting;
+static unsigned handled; /* how many times a handler has begun */
 
 static Set bit(int signal) { return 1ull << (signal - 1); }
 
@@ -32,6 +33,7 @@ static void handle(int signal) {
     if (action.flags & SA_RESETHAND) actions[signal].handler = SIG_DFL;
     Set before = blocked;
     siginfo_t about = {.si_signo = signal, .si_code = SI_TKILL};
+    handled++;
     blocked |= set_of(action.mask) | (action.flags & SA_NODEFER ? 0 : bit(signal));
     ((void (*)(int, siginfo_t *, void *))action.handler)(signal, &about, 0);
     blocked = before;
@@ -70,6 +72,15 @@ static long set_blocked(int how, const void *words, void *before) {
     if (before) memcpy(before, &was, sizeof was);
     handle_waiting();
     return 0;
+}
+
+int let_signals(const void *mask) {
+    Set was = blocked;
+    unsigned before = handled;
+    blocked = set_of(mask);
+    handle_waiting();
+    blocked = was;
+    return handled != before;
 }
 
 static long tell_waiting(void *to) {

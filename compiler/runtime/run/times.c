@@ -6,7 +6,7 @@
 #include <time.h>
 #include "calls.h"
 
-enum { THOUSAND = 1000, MILLION = 1000000, TICKS = 100, RUSAGE_WORDS = 18, ABORTED = 134 };
+enum { THOUSAND = 1000, TICKS = 100, RUSAGE_WORDS = 18 };
 enum { FUTEX_WAIT = 0, FUTEX_WAKE = 1, FUTEX_KIND = 127 };
 
 /* nc-run has three. */
@@ -53,18 +53,18 @@ static long tell_ticks(struct tms *to) {
     return (long)(nc_clock(NC_CLOCK_STEADY) / (BILLION / TICKS));
 }
 
-/* Waits for a time, or until a clock says so. */
-static long wait_for(long clock, int until, long long seconds, long long part, long long parts) {
+long long wait_of(long long seconds, long long part, long long parts) {
     const long long most = 1ll << 33; /* seconds, some 270 years */
-    if (clock_of(clock) < 0 || part < 0 || part >= parts || seconds < 0) return -EINVAL;
-    long long wanted = (seconds < most ? seconds : most) * BILLION + part * (BILLION / parts);
-    if (until) wanted -= nc_clock(clock_of(clock));
-    return wanted > 0 ? nc_sleep(wanted) : 0;
+    if (seconds < 0 || part < 0 || part >= parts) return -EINVAL;
+    return (seconds < most ? seconds : most) * BILLION + part * (BILLION / parts);
 }
 
-/* select and poll without files. */
-static long wait_alone(long count, const long *time, long parts) {
-    return count || !time ? -ENOSYS : wait_for(CLOCK_MONOTONIC, 0, time[0], time[1], parts);
+/* Waits for a time, or until a clock says so. */
+static long wait_for(long clock, int until, long long seconds, long long part) {
+    long long wanted = clock_of(clock) < 0 ? -EINVAL : wait_of(seconds, part, BILLION);
+    if (wanted < 0) return (long)wanted;
+    if (until) wanted -= nc_clock(clock_of(clock));
+    return wanted > 0 ? nc_sleep(wanted) : 0;
 }
 
 /* The only thread waits for what another one would do. Without a time that is for ever. */
@@ -73,26 +73,21 @@ static long wait_for_thread(const volatile int *at, long kind, int value, const 
     if (kind == FUTEX_WAKE) return 0;
     if (kind != FUTEX_WAIT) return -ENOSYS;
     if (*at != value) return -EAGAIN;
-    if (!time && !long_time) {
-        nc_write(2, why, sizeof why - 1);
-        nc_exit(ABORTED);
-    }
-    long error = wait_for(CLOCK_MONOTONIC, 0, time ? time[0] : long_time[0], time ? time[1] : long_time[1], BILLION);
+    if (!time && !long_time) end_in_deadlock(why, sizeof why - 1);
+    long error = wait_for(CLOCK_MONOTONIC, 0, time ? time[0] : long_time[0], time ? time[1] : long_time[1]);
     return error ? error : -ETIMEDOUT;
 }
 
-long call_of_times(long number, long a, long b, long c, long d, long e) {
+long call_of_times(long number, long a, long b, long c, long d) {
     const long *time = (const long *)c;
     switch (number) {
     case SYS_clock_gettime64: return tell_time(a, (long long *)b);
     case SYS_clock_getres: return tell_resolution(a, (long *)b);
     case SYS_getrusage: return tell_usage((long *)b);
     case SYS_times: return tell_ticks((struct tms *)a);
-    case SYS_nanosleep: return wait_for(CLOCK_MONOTONIC, 0, ((const long *)a)[0], ((const long *)a)[1], BILLION);
-    case SYS_clock_nanosleep: return wait_for(a, b & TIMER_ABSTIME, time[0], time[1], BILLION);
-    case SYS_clock_nanosleep_time64: return wait_for(a, b & TIMER_ABSTIME, ((const long long *)c)[0], ((const long long *)c)[1], BILLION);
-    case SYS__newselect: return wait_alone(a, (const long *)e, MILLION);
-    case SYS_poll: return b || c < 0 ? -ENOSYS : wait_for(CLOCK_MONOTONIC, 0, c / THOUSAND, c % THOUSAND, THOUSAND);
+    case SYS_nanosleep: return wait_for(CLOCK_MONOTONIC, 0, ((const long *)a)[0], ((const long *)a)[1]);
+    case SYS_clock_nanosleep: return wait_for(a, b & TIMER_ABSTIME, time[0], time[1]);
+    case SYS_clock_nanosleep_time64: return wait_for(a, b & TIMER_ABSTIME, ((const long long *)c)[0], ((const long long *)c)[1]);
     case SYS_futex: return wait_for_thread((const int *)a, b & FUTEX_KIND, (int)c, (const long *)d, 0);
     case SYS_futex_time64: return wait_for_thread((const int *)a, b & FUTEX_KIND, (int)c, 0, (const long long *)d);
     default: return -ENOSYS;

@@ -2,7 +2,6 @@
 #define _GNU_SOURCE
 #include <errno.h>
 #include <fcntl.h>
-#include <poll.h>
 #include <pthread.h>
 #include <signal.h>
 #include <spawn.h>
@@ -10,7 +9,6 @@
 #include <sys/file.h>
 #include <sys/mman.h>
 #include <sys/resource.h>
-#include <sys/select.h>
 #include <sys/socket.h>
 #include <sys/stat.h>
 #include <sys/statvfs.h>
@@ -21,14 +19,12 @@
 #include <unistd.h>
 
 static char *const no_words[] = {NULL};
-static struct pollfd files[1];
 static struct flock lock = {.l_type = F_RDLCK};
 static struct itimerval interval;
 static struct rlimit limit;
 static struct statvfs system_of_files;
 static struct utsname name;
-static fd_set set;
-static int two[2], status;
+static int status;
 static pthread_t thread;
 static pid_t child;
 static timer_t timer;
@@ -44,23 +40,18 @@ static void tell(const char *function, long result) {
 }
 
 int main(void) {
-    FD_SET(0, &set);
     tell("alarm", setitimer(ITIMER_REAL, &interval, NULL));
     tell("chown", chown(".", 1, 1));
     tell("execve", execve("program", no_words, no_words));
     tell("fcntl(F_SETLK)", fcntl(0, F_SETLK, &lock));
     tell("flock", flock(0, LOCK_SH));
     tell("fork", fork());
-    tell("fsync", fsync(0));
     tell("getrlimit", getrlimit(RLIMIT_NOFILE, &limit));
     tell("link", link("a", "b"));
     tell("mkfifo", mkfifo("a", 0600));
-    tell("mprotect", mprotect(two, 4096, PROT_READ));
-    tell("pipe", pipe(two));
-    tell("poll", poll(files, 1, 0));
+    tell("mprotect", mprotect(&status, 4096, PROT_READ));
     tell("posix_spawn", posix_spawn(&child, "program", NULL, NULL, no_words, no_words));
     tell("pthread_create", pthread_create(&thread, NULL, nothing, NULL));
-    tell("select", select(1, &set, NULL, NULL, NULL));
     tell("socket", socket(AF_UNIX, SOCK_STREAM, 0));
     tell("statvfs", statvfs(".", &system_of_files));
     tell("symlink", symlink("a", "b"));
