@@ -136,6 +136,13 @@ static long change_mode_at(int at, const char *path, unsigned mode) {
     return error ? error : nc_change(path, -1, mode, 0);
 }
 
+/* All files have one owner and one group, and keep them. */
+static long change_owner(int at, const char *path, long user, long group, int flags) {
+    struct about about;
+    long error = tell(at, path, flags, &about);
+    return error ? error : (user == -1 || user == OWN_ID) && (group == -1 || group == OWN_ID) ? 0 : -EPERM;
+}
+
 static long cut(const char *path, long low, long high) {
     int file = nc_open(path, NC_OPEN_WRITE, 0);
     if (file < 0) return file;
@@ -175,7 +182,7 @@ static long set_mask(unsigned next) {
 }
 
 /* Those with a folder's number. */
-static long call_at(long number, int at, long b, long c, long d) {
+static long call_at(long number, int at, long b, long c, long d, long e) {
     const char *path = (const char *)b;
     switch (number) {
     case SYS_openat: return open_at(at, path, (int)c, (unsigned)d);
@@ -186,6 +193,8 @@ static long call_at(long number, int at, long b, long c, long d) {
     case SYS_unlinkat: return remove_at(at, path, (int)c);
     case SYS_renameat: return rename_at(at, path, (int)c, (const char *)d);
     case SYS_readlinkat: return link_at(at, path, (char *)c, (unsigned)d);
+    case SYS_fchownat: return change_owner(at, path, c, d, (int)e);
+    case SYS_fchown32: return change_owner(at, "", b, c, AT_EMPTY_PATH);
     case SYS_fchmodat: return change_mode_at(at, path, (unsigned)c);
     case SYS_utimensat: return change_times_short(at, path, (const long *)c, (int)d);
     case SYS_utimensat_time64: return change_times(at, path, (const long long *)c, (int)d);
@@ -215,11 +224,13 @@ long call_of_names(long number, long a, long b, long c, long d, long e) {
     case SYS_rename: return nc_rename(path, (const char *)b);
     case SYS_readlink: return nc_link(path, (char *)b, (unsigned)c);
     case SYS_chmod: return change_mode_at(AT_FDCWD, path, (unsigned)b);
+    case SYS_chown32: return change_owner(AT_FDCWD, path, b, c, 0);
+    case SYS_lchown32: return change_owner(AT_FDCWD, path, b, c, AT_SYMLINK_NOFOLLOW);
     case SYS_truncate64: return cut(path, b, c);
     case SYS_chdir: return nc_enter(path);
     case SYS_fchdir: return enter_file((int)a);
     case SYS_getcwd: return nc_where(NC_WHERE, (char *)a, (unsigned)b);
     case SYS_umask: return set_mask((unsigned)a);
-    default: return call_at(number, (int)a, b, c, d);
+    default: return call_at(number, (int)a, b, c, d, e);
     }
 }

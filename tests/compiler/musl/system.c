@@ -151,6 +151,11 @@ static int rights(void) {
     TELL(fchmod(file, 0604));
     TELL(chmod("file", 0711));
     TELL(chmod("none", 0711));
+    TELL(fchown(file, -1, getgid()));
+    TELL(fchown(99, -1, -1));
+    TELL(chown("file", getuid(), -1));
+    TELL(chown("none", -1, -1));
+    TELL(lchown("sub/up", getuid(), getgid()));
     stat("made", &about);
     tell_status("made", &about);
     printf("%o\n", (unsigned)umask(0));
@@ -254,6 +259,7 @@ static int at(void) {
     TELL(unlinkat(folder, "new", AT_REMOVEDIR));
     TELL(faccessat(folder, "up", R_OK, 0));
     TELL(fchmodat(folder, "../file", 0640, 0));
+    TELL(fchownat(folder, "../file", -1, -1, 0));
     TELL(openat(99, "inner", O_RDONLY));
     TELL(openat(open("file", O_RDONLY), "inner", O_RDONLY));
     TELL(openat(AT_FDCWD, "file", O_RDONLY | O_DIRECTORY));
@@ -448,6 +454,14 @@ static int copies(void) {
     return 0;
 }
 
+/* Of a user who isn't root. */
+static int owners(void) {
+    int file = open("file", O_RDONLY);
+    TELL(chown("file", 12345, -1));
+    TELL(fchown(file, -1, 12345));
+    return 0;
+}
+
 static int starts(void) {
     pthread_t thread;
     return pthread_create(&thread, NULL, nothing, NULL) == ENOSYS ? 7 : 0;
@@ -466,7 +480,7 @@ int main(int argc, char **argv) {
     } all[] = {{"status", status},   {"folders", folders}, {"renames", renames},         {"where", where},         {"rights", rights},
                {"moments", moments}, {"lengths", lengths}, {"numbers", numbers},         {"temporary", temporary}, {"at", at},
                {"clocks", clocks},   {"chance", chance},   {"environment", environment}, {"threads", threads},     {"signals", signals},
-               {"maps", maps},       {"copies", copies},   {"starts", starts},           {"waits", waits}};
+               {"maps", maps},       {"copies", copies},   {"owners", owners},           {"starts", starts},       {"waits", waits}};
     setvbuf(stdout, NULL, _IOFBF, 1 << 14);
     getcwd(begun, sizeof begun);
     for (size_t k = 0; argc > 1 && k < sizeof all / sizeof *all; k++)
