@@ -17,6 +17,7 @@ FOR_CLANG = {".addrsig", ".addrsig_sym"}
 # The name that rustc gives to a text. Its functions return three words in %eax, %edx and %ecx, which a return by %ecx would lose.
 OF_RUSTC = re.compile(r'"[^"]*-cgu\.\d+"$')
 OWN_ADDRESS = re.compile(r"\tmovl?\t\(%esp\), (%e(?:[a-d]x|[sd]i|bp))$")
+VECTORS = ("%mm", "%xmm", "%ymm", "%zmm")
 CALLS, JUMPS, RETURNS = {"call", "calll"}, {"jmp", "jmpl"}, {"ret", "retl"}
 NONE_FREE = ("each register may have an argument: load the target into one that has none, and go by that register, as compilers do by the "
              "flags of nc-cc --cflags")
@@ -207,5 +208,9 @@ def rewritten(text: str, keep_returns: bool = False, one_thread: bool = False) -
     """The text in bundles. A Refusal says what isn't kept, and on which line."""
     listing = Listing(without_threads(statements_of(text), text, one_thread))
     listing.check()
+    if any(name in text for name in VECTORS):
+        from .vectors import check_vectors
+
+        check_vectors(listing)
     check_flags(listing)
     return Bundler(listing, keep_returns).write()
