@@ -94,9 +94,6 @@ PROJECTS = {
     "pugixml": Project(
         "pugixml_1.13.orig.tar.gz", "5c5ad5d7caeb791420408042a7d88c2c6180781bf218feca259fd9d840a888e1",
         "build/pugixml-check", "C++", is_own=True),
-    "re2": Project(
-        "re2_20220601+dfsg.orig.tar.xz", "3bc61251da3b0b97be40a8a127818c517c62516e4eda11fc901d29496663df54",
-        "obj/test/re2_test obj/test/search_test obj/test/parse_test obj/test/set_test", "C++", is_own=True),
     "sed": Project(
         "sed_4.9.orig.tar.xz", "6e226b732e1cd739464ad6862bd1a1aba42d7982922da7a53519631d24975181",
         "sed/sed"),

@@ -17,6 +17,7 @@ boxed_header() {
     cd bc
     make libmath.h || run ./fbc -c ./libmath.b < /dev/null > libmath.h
     sh ./fix-libmath_h
+    rm -f global.o
     cd ..
 }
 

@@ -7,8 +7,8 @@ build() {
 
 check() {
     for way in -u -c -e -y --normal -w -i; do
-        run src/diff "$way" NEWS ChangeLog | sum
-        run src/diff "$way" -r lib src | sum
+        run src/diff "$way" src/diff.c src/cmp.c | sum
+        run src/diff "$way" -r m4 build-aux | sum
     done
     run src/cmp NEWS NEWS && ! run src/cmp NEWS README
 }

@@ -3,12 +3,22 @@
 build() {
     configured --disable-ogg --disable-asm-optimizations
     make -j"$JOBS"
+    make -j"$JOBS" -C src check
+}
+
+# Runs a program to which the rights of files count, also for root.
+as_others() {
+    rights=
+    test "$(id -u)" != 0 || rights="setpriv --bounding-set -dac_override,-dac_read_search"
+    # shellcheck disable=SC2086 # several words, or none
+    $rights $RUN "$@"
 }
 
 check() {
     cd test
-    run ../src/test_libFLAC/test_libFLAC 2>&1
-    run ../src/test_libFLAC++/test_libFLAC++ 2>&1
+    rm -f ./*.flac
+    as_others ../src/test_libFLAC/test_libFLAC 2>&1
+    as_others ../src/test_libFLAC++/test_libFLAC++ 2>&1
     cd ..
     noise 400000 > noise.raw
     set -- -s -f --force-raw-format --endian=little --sign=signed

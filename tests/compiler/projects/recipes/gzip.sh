@@ -1,9 +1,10 @@
 #!/bin/sh -eu
-# gzip: files by their names and by standard input, and the system's gzip reads them.
+# gzip: files by their names and by standard input, and the system's gzip reads them. Where configure knows the C library it takes its
+# printf, and not one of its own with x87 instructions.
 build() {
+    test "$WAY" = native || HOST=--host=i686-linux-musl
     configured
-    make -j"$JOBS" -C lib
-    make -j"$JOBS" gzip
+    make -j"$JOBS"
 }
 
 check() {

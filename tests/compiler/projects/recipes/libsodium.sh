@@ -1,6 +1,7 @@
 #!/bin/sh -eu
 # libsodium: its own tests.
 build() {
+    autoreconf -fi
     configured --disable-asm --disable-ssp --disable-pie
     make -j"$JOBS"
     make -j"$JOBS" -C test/default check TESTS=

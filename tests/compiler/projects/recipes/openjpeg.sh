@@ -6,8 +6,8 @@ build() {
 }
 
 check() {
-    (printf 'P5 64 64 255\n' && noise 4096) > it.pgm
-    (printf 'P6 50 40 255\n' && noise 6000) > it.ppm
+    (printf 'P5\n64 64\n255\n' && noise 4096) > it.pgm
+    (printf 'P6\n50 40\n255\n' && noise 6000) > it.ppm
     for kind in pgm ppm; do
         for way in '-n 5' '-n 3' '-t 32,32' '-p RLCP' -I '-r 10,5'; do
             # shellcheck disable=SC2086 # several words
