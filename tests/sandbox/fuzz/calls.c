@@ -166,6 +166,18 @@ static uint32_t place_of(unsigned what, uint32_t extra) {
                                : NCS_CALLBACK(what - TO_CALL_MORE + NC_RUN_CODE_END);
 }
 
+/* The program masks addresses, so some others lead to these calls too. */
+static void limit_wait(Call *call) {
+    uint32_t place = call->at & ~(uint32_t)31;
+    if (place == NCS_CALLBACK(SLEEP)) {
+        call->args[0] &= WAIT_MOST;
+        call->args[1] &= 1u << 31;
+    } else if (place == NCS_CALLBACK(POLL)) {
+        call->args[2] &= WAIT_MOST;
+        call->args[3] = 0;
+    }
+}
+
 static void read_call(Trial *t, Input *input) {
     uint8_t bytes[8];
     uint32_t extra, k;
@@ -183,14 +195,7 @@ static void read_call(Trial *t, Input *input) {
         call->args[k] = word(t, bytes[1 + k], extra);
     }
     call->at = place_of(what, extra);
-    if (call->at == NCS_CALLBACK(SLEEP)) {
-        call->args[0] &= WAIT_MOST;
-        call->args[1] &= 1u << 31;
-    }
-    if (call->at == NCS_CALLBACK(POLL)) {
-        call->args[2] &= WAIT_MOST;
-        call->args[3] = 0;
-    }
+    limit_wait(call);
     t->count++;
 }
 

@@ -27,7 +27,8 @@ typedef struct Opened {
     uint32_t how;
 } Opened;
 #define NONE 0xFF
-static Opened opened[RULES_FILES];
+#define OPENED_MOST (STANDARD + RULES_FILES) /* the standard ones keep their places */
+static Opened opened[OPENED_MOST];
 static uint8_t files[RULES_FILES];
 static NcsBox *judged_box;
 static int files_given;
@@ -169,7 +170,7 @@ static uint8_t new_opened(uint32_t how) {
     uint8_t k = STANDARD;
     while (opened[k].users != 0) {
         k++;
-        MUST(k < RULES_FILES);
+        MUST(k < OPENED_MOST);
     }
     opened[k] = (Opened){.how = how, .other = NONE};
     return k;
@@ -435,7 +436,7 @@ void rules_begin(NcsBox *box, int what, uint32_t end, uint64_t most) {
 
 unsigned rules_opened(void) {
     unsigned found = 0, k;
-    for (k = STANDARD; k < RULES_FILES; k++) {
+    for (k = STANDARD; k < OPENED_MOST; k++) {
         found += opened[k].users != 0;
     }
     return found;
