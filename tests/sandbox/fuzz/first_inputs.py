@@ -199,6 +199,7 @@ CALLS = {
                               + a_path(1, "..", "inner") + a_call(RENAME, path(0), path(1)) + a_call(REMOVE, path(1), 1)) * 4],
     "a place that changes": [WRITABLE, a_path(0, "made"), an_open(0, "both create"), a_call(CUT, 3, 16), a_call(CUT, 3, FIRST),
                              a_call(WRITE, 3, buffer(0), 16), a_call(CUT, 3, ALL, ALL), a_call(CUT, 3, 1), a_call(WRITE, 3, buffer(0), 16)],
+    "a limit, with cuts": [WRITABLE, a_path(0, "made"), an_open(0, "both create"), (a_call(CUT, 3, FIRST) + a_call(CUT, 3)) * 3],
     "copies": [WRITABLE, a_path(0, "made"), an_open(0, "both create"), a_call(COPY, 3, 9), a_call(COPY, 9, 1, 1), a_call(SEEK, 1),
                a_call(WRITE, 9, buffer(0), MANY), a_call(COPY, 9, 9, 1), a_call(COPY, 0, 3, 1), a_call(CLOSE, 9), a_call(CLOSE, 1),
                a_call(COPY, 0, edge(4)), a_call(COPY, 0, edge(5)), a_call(COPY, 0, ALL, 1), a_call(CLOSE, 0)],
