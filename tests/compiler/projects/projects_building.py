@@ -18,7 +18,7 @@ BOX, NATIVE = "box", "native"
 # Native code computes with SSE2, which rounds as the sandbox's software floating point does.
 NATIVELY = " -m32 -msse2 -mfpmath=sse"
 # In a box a relative name of a file begins at the current folder. An absolute one leads below the project's, or to a folder for /tmp.
-IN_BOX = "nc-run --memory 1G --dir-rw . --dir-rw {0}={0} --dir-rw {1}=/tmp"
+IN_BOX = "nc-run --memory 1G --env LC_ALL --env TZ --dir-rw . --dir-rw {0}={0} --dir-rw {1}=/tmp"
 WAYS = {BOX: {"CC": "nc-cc", "CXX": "nc-c++", "HOST": "--host=i686-unknown-elf"},
         NATIVE: {"CC": "gcc" + NATIVELY, "CXX": "g++" + NATIVELY, "HOST": "--build=i686-pc-linux-gnu"}}
 HOURS = 2

@@ -15,6 +15,7 @@ as_others() {
 }
 
 check() {
+    chown -R "$(id -u)" . # what root unpacks may have other owners
     cd test
     rm -f ./*.flac
     as_others ../src/test_libFLAC/test_libFLAC 2>&1

@@ -1,8 +1,8 @@
 #!/bin/sh -eu
-# gawk: those of its own tests that are a program with the output that it has to print, but for those that start commands or open /dev/null,
-# and those whose output is another one where the C library is musl.
+# gawk: those of its own tests that are a program with the output that it has to print, but for those that start commands, and the last two,
+# of which one opens /dev/null, and the other wants words.
 LEFT_OUT="childin clos1way close_status exitval2 getline getline3 getline5 getlnhd id longwrds nsidentifier pipeio1 pty1 rstest4 rstest5 \
-    sigpipe1 spacere status-close timeout delargv backbigs1 mbfw1 mbprintf1 mbprintf4 mbprintf5 range2 rebt8b1 redfilnm"
+    sigpipe1 spacere status-close timeout delargv redfilnm"
 
 build() {
     configured --disable-nls --disable-mpfr --disable-extensions

@@ -1,9 +1,9 @@
 #!/bin/sh -eu
-# gzip: files by their names and by standard input, and the system's gzip reads them. Where configure knows the C library it takes its
-# printf, and not one of its own with x87 instructions.
+# gzip: files by their names and by standard input, and the system's gzip reads them. Where its configure can't try printf and doesn't know the
+# C library, it takes one of its own, with x87 instructions. Its assembly for i386 has a repe cmpsw.
 build() {
-    test "$WAY" = native || HOST=--host=i686-linux-musl
-    configured
+    configured ${RUN:+--host=i686-linux-musl} gl_cv_func_printf_infinite_long_double=yes gl_cv_func_printf_enomem=yes \
+        gzip_cv_assembler=no
     make -j"$JOBS"
 }
 

@@ -10,7 +10,11 @@ build() {
 check() {
     cd test
     # What is a script runs programs by MEMCHECK itself.
-    printf '#!/bin/sh\ncase $1 in *.sh) exec "$@" ;; esac\nexec %s "$@"\n' "$RUN" > by-kind
+    cat > by-kind << END
+#!/bin/sh
+case \$1 in *.sh) exec "\$@" ;; esac
+exec $RUN "\$@"
+END
     chmod +x by-kind
     make -k check MEMCHECK="$RUN" LOG_COMPILER=./by-kind | grep -E '^(PASS|FAIL|SKIP|XFAIL|ERROR):' | sort
 }
