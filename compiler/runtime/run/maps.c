@@ -26,7 +26,7 @@ static long may_copy(int file, int how) {
     long error = nc_status(0, file, 0, &about);
     if (error) return error;
     if ((about.how & O_ACCMODE) == O_WRONLY) return -EACCES;
-    return S_ISREG(about.mode) && how & MAP_PRIVATE ? 0 : -ENODEV;
+    return S_ISREG(about.mode) && (how & MAP_TYPE) == MAP_PRIVATE ? 0 : -ENODEV;
 }
 
 /* Behind the file's end the bytes stay 0. */
@@ -41,7 +41,7 @@ static long copy(int file, char *to, size_t len, long long from) {
 
 static long map(size_t len, int rights, int how, int file, unsigned long page) {
     int is_copy = !(how & MAP_ANONYMOUS);
-    if (len == 0 || how & (MAP_FIXED | MAP_FIXED_NOREPLACE)) return -EINVAL;
+    if (len == 0 || !(how & MAP_TYPE) || how & (MAP_FIXED | MAP_FIXED_NOREPLACE)) return -EINVAL;
     if (rights & PROT_EXEC) return -EPERM;
     long error = is_copy ? may_copy(file, how) : 0;
     if (error) return error;

@@ -431,6 +431,8 @@ static int maps(void) {
     whole = map_of(file, 0);
     tell_map(whole, MANY);
     refuses(0, PROT_READ, MAP_PRIVATE, file, 0);
+    refuses(MANY, PROT_READ, 0, file, 0);
+    refuses(MANY, PROT_READ, MAP_ANONYMOUS, -1, 0);
     refuses(MANY, PROT_READ, MAP_PRIVATE, file, 100);
     refuses(MANY, PROT_READ, MAP_PRIVATE, 99, 0);
     refuses(-1ul, PROT_READ, MAP_PRIVATE | MAP_ANONYMOUS, -1, 0);
@@ -444,6 +446,7 @@ static int maps(void) {
 static int copies(void) {
     int file = open("file", O_RDWR);
     refuses(4, PROT_READ, MAP_SHARED, file, 0);
+    refuses(4, PROT_READ, MAP_SHARED_VALIDATE, file, 0);
     refuses(4, PROT_READ | PROT_EXEC, MAP_PRIVATE, file, 0);
     char *at = mmap(NULL, 8192, PROT_READ, MAP_SHARED | MAP_ANONYMOUS, -1, 0);
     refuses(8192, PROT_READ, MAP_PRIVATE | MAP_ANONYMOUS | MAP_FIXED, -1, 0);
