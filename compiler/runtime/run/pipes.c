@@ -3,7 +3,7 @@
 #include <fcntl.h>
 #include "calls.h"
 
-enum { NUMBERS = 64, ABORTED = 134 };
+enum { ABORTED = 134 };
 
 /* A bit for each number of a pipe's end that isn't to wait. Bits of other files say nothing. */
 static unsigned long long without_wait;

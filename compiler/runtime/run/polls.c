@@ -4,7 +4,7 @@
 #include <sys/select.h>
 #include "calls.h"
 
-enum { NUMBERS = 64, THOUSAND = 1000, MILLION = 1000000, FOR_EVER = -1, SETS = 3 };
+enum { THOUSAND = 1000, MILLION = 1000000, FOR_EVER = -1, SETS = 3 };
 
 /* What select asks of a file in each set, and what it takes for an answer. */
 static const struct {
