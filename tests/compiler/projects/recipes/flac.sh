@@ -6,8 +6,8 @@ build() {
     make -j"$JOBS" -C src check
 }
 
-# Runs a program to which the rights of files count, also for root.
-as_others() {
+# Runs a program as a user whom a file's rights bind, which root isn't otherwise.
+with_rights() {
     rights=
     test "$(id -u)" != 0 || rights="setpriv --bounding-set -dac_override,-dac_read_search"
     # shellcheck disable=SC2086 # several words, or none
@@ -18,8 +18,8 @@ check() {
     chown -R "$(id -u)" . # what root unpacks may have other owners
     cd test
     rm -f ./*.flac
-    as_others ../src/test_libFLAC/test_libFLAC 2>&1
-    as_others ../src/test_libFLAC++/test_libFLAC++ 2>&1
+    with_rights ../src/test_libFLAC/test_libFLAC 2>&1
+    with_rights ../src/test_libFLAC++/test_libFLAC++ 2>&1
     cd ..
     noise 400000 > noise.raw
     set -- -s -f --force-raw-format --endian=little --sign=signed
